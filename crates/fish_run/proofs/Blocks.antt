@@ -4,6 +4,7 @@ use Rattle.std.proofs.Common.{Bool, None, Option, Some, append-nil, append_assoc
 use Rattle.std.specs.Prelude.{◌||◌}
 use Rattle.std.proofs.lemmas.Option.{slice_get-get_or, slice_get_within}
 use Rattle.fish_catalog.specs.Listing.{listed_of}
+use Rattle.fish_catalog.specs.declared.row.CatRow.{CatRow}
 use Rattle.fish_lanes.proofs.Controls.{each_so}
 use Rattle.fish_lanes.proofs.Gaining.{same_lines}
 use Rattle.fish_lanes.proofs.Lists.{some_once}
@@ -12,6 +13,7 @@ use Rattle.fish_lanes.proofs.Single.{singles_whole}
 use Rattle.fish_lanes.specs.Blocks.{AreEnded, AreKept, AreLanes, HasRegistered, IsBlockSpan, IsMarkItem, NameMarks, control_items}
 use Rattle.fish_lanes.specs.Outcome.{IsFullIn}
 use Rattle.fish_lanes.specs.Blocks.{TellsBlock}
+use Rattle.fish_lanes.specs.Controlling.{IsCommitted}
 use Rattle.fish_lanes.specs.Outcome.{LanesSayPlans, TellsAlone, TellsShutBy}
 use Rattle.fish_lanes.specs.Ending.{HasEnd}
 use Rattle.fish_lanes.specs.Gains.{IsMarkAt}
@@ -36,14 +38,15 @@ use Rattle.fish_rule.specs.declared.view.Key.{Key}
 use Rattle.fish_rule.specs.declared.view.View.{View}
 use Rattle.fish_run.proofs.Lists.{pairs_map, pairs_push}
 use Rattle.fish_run.proofs.Works.{lanes_later}
-use Rattle.fish_run.specs.Blocks.{AreFullSince, AreMarked, Block, FullsAgree, HasFoundFull, IsFullOf, IsFullSince, TellsBlocks}
-use Rattle.fish_run.specs.Blocks.{TellsOne, TellsPart}
-use Rattle.fish_run.specs.Blocks.{behind_block, behind_blocks, first_items, lanes_controls, no_registry}
+use Rattle.fish_run.specs.Blocks.{AreAcknowledged, AreFullSince, AreMarked, Block, FullsAgree, HasFoundFull, IsFirstFault, IsFullOf}
+use Rattle.fish_run.specs.Blocks.{IsFullSince, TellsBlocks, TellsOne, TellsPart}
+use Rattle.fish_run.specs.Blocks.{behind_block, behind_blocks, first_items, first_registry, lanes_controls}
+use Rattle.fish_run.specs.Faults.{IsWriteFault}
 use Rattle.fish_run.specs.Ran.{IsBlockOf}
 use Rattle.fish_run.specs.Reports.{lanes_items, lanes_refused}
 use Rattle.fish_run.specs.Steps.{AreWhole, HasCutOne, HasRunBlocks, HasRunOne, Leaves, StopsOne, StopsTelling, WritesOne}
 use Rattle.fish_run.specs.Works.{IsLaneOf, IsWorkOf, Pairs}
-use Rattle.fish_run.specs.declared.running.RunFault.{RunFault}
+use Rattle.fish_run.specs.declared.fault.RunFault.{RunFault}
 use Rattle.fish_script.specs.declared.script.Block as script
 use Rattle.fish_script.specs.declared.script.Statement.{Statement}
 use Rattle.fish_whole.proofs.Wholes.{may_hold, sure_rows, will_later}
@@ -91,16 +94,26 @@ pub blocks_later : (old new : Option Files) → StillTold old new → (text : Li
 blocks_later old new still text blocks h =
     pairs_map (IsBlockOf old) (IsBlockOf new) (block_later old new still) text blocks h
 
--- blocks that ran are so for who knows more
-pub ran_later : (old new : Option Files) (text : List script.Block) (v u : View) (r : Registry) (to : ℕ) (blocks : List Block)
-    → StillTold old new → Later v u → HasRunBlocks old text v r to blocks → HasRunBlocks new text u r to blocks
-ran_later old new text v u r to blocks still later h = record {
-  are = blocks_later old new still text blocks h.are;
-  tells = λ past. will_later past v u (λ w. TellsBlocks w 0 no_registry blocks to) later (h.tells past);
-  marks = marked_later v u blocks later.learns h.marks;
-  behind = h.behind;
-  fulls = h.fulls;
-}
+-- a checkpoint has no more entries than a later one
+pub committed_later : (count more : ℕ) (items : List Item) → count ≤ more → AllOf (IsCommitted count) items → AllOf (IsCommitted more) items
+committed_later count more [] rises h = tt
+committed_later count more (x ∷ items) rises h =
+    (λ n is. (let few = h.0 n is in omega arith), committed_later count more items rises h.1)
+
+-- blocks that ran are so for who knows more, behind fewer pasts, and with a later commit
+module _ (first : ℕ) (rows : List CatRow) (Past Next : Whole → Type 0) (count more : ℕ) (narrows : (past : Whole) → Next past → Past past)
+    (rises : count ≤ more) where
+  pub ran_later : (old new : Option Files) (text : List script.Block) (v u : View) (r : Registry) (to : ℕ) (blocks : List Block)
+      → StillTold old new → Later v u → HasRunBlocks Past count first rows old text v r to blocks
+      → HasRunBlocks Next more first rows new text u r to blocks
+  ran_later old new text v u r to blocks still later h = record {
+    are = blocks_later old new still text blocks h.are;
+    tells = λ past p. will_later past v u (λ w. TellsBlocks w first (first_registry rows) blocks to) later (h.tells past (narrows past p));
+    marks = marked_later v u blocks later.learns h.marks;
+    committed = λ b among. committed_later count more (first_items b.lanes) rises (h.committed b among);
+    behind = h.behind;
+    fulls = h.fulls;
+  }
 
 -- what had found the log full before one more
 pub since_more : (earlier blocks : List Block) (b : Block) → AreFullSince earlier blocks → IsFullSince (earlier ++ blocks) b
@@ -118,9 +131,10 @@ full_left : (blocks : List Block) (b : Block) (line lines end : ℕ) → IsFullO
 full_left blocks b line lines end h = (h.0, among_left h.0 blocks (b ∷ []) h.1, h.2)
 
 -- what shuts the pass behind one more, an item tells of, and it is shut where one does
-pub full_more : (told : Option Files) (s : script.Block) (v u : View) (r t : Registry) (mid to : ℕ) (blocks : List Block) (b : Block)
-    → HasFoundFull blocks v.shut → HasRunOne told s v.shut u r t mid to b → HasFoundFull (blocks ++ b ∷ []) u.shut
-full_more told s v u r t mid to blocks b before one = record {
+pub full_more : (Past : Whole → Type 0) (count : ℕ) (told : Option Files) (s : script.Block) (v u : View) (r t : Registry) (mid to : ℕ)
+    (blocks : List Block) (b : Block) → HasFoundFull blocks v.shut → HasRunOne Past count told s v.shut u r t mid to b
+    → HasFoundFull (blocks ++ b ∷ []) u.shut
+full_more Past count told s v u r t mid to blocks b before one = record {
   told = λ c e. ⊎_elim (λ (same : v.shut ≡ Some c). full_left blocks b c.line c.lines c.end (before.told c same))
       (λ (k : IsFullIn b.lanes c.line c.lines c.end). (b, among_right b blocks (b ∷ []) (inl refl), k)) (one.shut c e);
   some = λ line lines end f. ⊎_elim
@@ -139,21 +153,32 @@ marks_more u blocks b h one a among = ⊎_elim (λ (m : Among a blocks). h a m)
     (λ (m : Among a (b ∷ [])). ⊎_elim (λ (e : b ≡ a). subst (λ (z : Block). NameMarks u z.lanes) e one)
     (λ (bad : Among a []). elim bad [ ]) m) (among_either a blocks (b ∷ []) among)
 
+-- the checkpoints of one more have no more entries
+pub committed_more : (count : ℕ) (blocks : List Block) (b : Block) → AreAcknowledged count blocks
+    → AllOf (IsCommitted count) (first_items b.lanes) → AreAcknowledged count (blocks ++ b ∷ [])
+committed_more count blocks b h one a among = ⊎_elim (λ (m : Among a blocks). h a m)
+    (λ (m : Among a (b ∷ [])). ⊎_elim (λ (e : b ≡ a). subst (λ (z : Block). AllOf (IsCommitted count) (first_items z.lanes)) e one)
+    (λ (bad : Among a []). elim bad [ ]) m) (among_either a blocks (b ∷ []) among)
+
 -- one more ran
-pub ran_more : (old new : Option Files) (text : List script.Block) (s : script.Block) (v u : View) (r t : Registry) (mid to : ℕ)
-    (blocks : List Block) (b : Block) → StillTold old new → Later v u → HasRunBlocks old text v r mid blocks
-    → HasFoundFull blocks v.shut → HasRunOne new s v.shut u r t mid to b
-    → HasRunBlocks new (text ++ s ∷ []) u t to (blocks ++ b ∷ [])
-ran_more old new text s v u r t mid to blocks b still later h full one =
-    let before = ran_later old new text v u r mid blocks still later h in
+pub ran_more : (first : ℕ) (rows : List CatRow) (Past Next One : Whole → Type 0) (count more : ℕ)
+    → ((past : Whole) → Next past → Past past) → ((past : Whole) → Next past → One past) → count ≤ more
+    → (old new : Option Files) (text : List script.Block) (s : script.Block) (v u : View) (r t : Registry) (mid to : ℕ)
+    (blocks : List Block) (b : Block) → StillTold old new → Later v u → HasRunBlocks Past count first rows old text v r mid blocks
+    → HasFoundFull blocks v.shut → HasRunOne One more new s v.shut u r t mid to b
+    → HasRunBlocks Next more first rows new (text ++ s ∷ []) u t to (blocks ++ b ∷ [])
+ran_more first rows Past Next One count more narrows near rises old new text s v u r t mid to blocks b still later h full one =
+    let start : Registry = first_registry rows in
+    let before = ran_later first rows Past Next count more narrows rises old new text v u r mid blocks still later h in
     record {
       are = pairs_push (IsBlockOf new) text blocks s b before.are one.is;
-      tells = λ past w m.
-          subst (TellsBlocks w 0 no_registry (blocks ++ b ∷ [])) one.ends
-          (tells_more w 0 mid no_registry blocks b (before.tells past w m)
-          (subst (λ (z : Registry). TellsOne w mid z b) h.behind (one.tells past w m)));
+      tells = λ past p w m.
+          subst (TellsBlocks w first start (blocks ++ b ∷ [])) one.ends
+          (tells_more w first mid start blocks b (before.tells past p w m)
+          (subst (λ (z : Registry). TellsOne w mid z b) h.behind (one.tells past (near past p) w m)));
       marks = marks_more u blocks b before.marks one.marks;
-      behind = one.behind ∙ ap (λ (z : Registry). behind_block z b) h.behind ∙ sym (behind_more no_registry blocks b);
+      committed = committed_more more blocks b before.committed one.committed;
+      behind = one.behind ∙ ap (λ (z : Registry). behind_block z b) h.behind ∙ sym (behind_more start blocks b);
       fulls = since_more [] blocks b h.fulls (subst (HasFoundFull blocks) (sym one.full_is) full);
     }
 
@@ -244,39 +269,49 @@ each_whole : (past : Whole) (u : View) (w : Whole) → MayEnd past u w → (r : 
 each_whole past u w m r items = each_so (KnowsRegistry u) (HasRegistry w)
     (λ q knows. sure_rows past u q.version (map listed_of q.rows) knows w (may_hold past u w m)) r items
 
+-- what is so of the first lane's items is so of them
+first_committed : (count : ℕ) (lanes : List Lane) → ((x : Lane) → slice_get lanes 0 ≡ Some x → AllOf (IsCommitted count) x.items)
+    → AllOf (IsCommitted count) (first_items lanes)
+first_committed count [] h = tt
+first_committed count (x ∷ lanes) h = h x refl
+
 -- what a run of these lanes says
-pub leaves_of : (told : Option Files) (text : script.Block) (v u : View) (r s : Registrar) (from : ℕ) (items lanes : List Lane)
-    (end : BlockEnd) → AreLanes items → Pairs (IsLaneOf told) text.lanes items → length lanes ≡ length items → AreKept items lanes
+pub leaves_of : (Past : Whole → Type 0) (count : ℕ) (told : Option Files) (text : script.Block) (v u : View) (r s : Registrar) (from : ℕ)
+    (items lanes : List Lane) (end : BlockEnd) → AreLanes items → Pairs (IsLaneOf told) text.lanes items
+    → length lanes ≡ length items → AreKept items lanes
     → HasEnd v from
-    → ((past : Whole) (k : Span) → IsBlockSpan v u end.to k → k.lanes ≡ length lanes
+    → ((past : Whole) → Past past → (k : Span) → IsBlockSpan v u end.to k → k.lanes ≡ length lanes
     → (k.from ≤ k.to) × Will past u (λ w. TellsBlock w k lanes))
     → ((x : Lane) → slice_get lanes 0 ≡ Some x → HasRegistered v u r s x end) → AreEnded lanes → NameMarks u lanes
-    → TellsShutBy v u lanes → LanesSayPlans (KnowsRows u) (registry_of v r) s.catalog from lanes → r.waiting ≡ None → TellsAlone v u r lanes
-    → Leaves told text v u r s from lanes end
-leaves_of told text v u r s from items lanes end are works many kept begins tells has ended marks shuts plans settled alone = record {
-  works = lanes_kept told text.lanes items lanes many (λ i x y at bt. (kept i x y at bt).1) works;
-  numbers = λ i x at.
-      let below = slice_get_within lanes i x at in
-      let before = slice_get-get_or items i x (omega (below, many, arith)) in
-      (kept i (get_or items i x) x before at).0 ∙ (are.new i (get_or items i x) before).number_is;
-  some = (let some_ = are.some in omega arith);
-  begins = begins;
-  tells = tells;
-  has = has;
-  ended = ended;
-  marks = marks;
-  alone = λ x one.
-      let a = alone x one in
-      record {
-        none = a.closed;
-        whole = λ w only. singles_whole v u r.catalog from w (answers x.items) (a.only from begins settled w only);
-      };
-  shuts = shuts;
-  plans = plans;
-}
+    → TellsShutBy v u lanes → LanesSayPlans (KnowsRows u) (registry_of v r) s.catalog from lanes → r.waiting ≡ None
+    → TellsAlone Past v u r lanes → ((x : Lane) → slice_get lanes 0 ≡ Some x → AllOf (IsCommitted count) x.items)
+    → Leaves Past count told text v u r s from lanes end
+leaves_of Past count told text v u r s from items lanes end are works many kept begins tells has ended marks shuts plans settled alone
+    committed = record {
+      works = lanes_kept told text.lanes items lanes many (λ i x y at bt. (kept i x y at bt).1) works;
+      numbers = λ i x at.
+          let below = slice_get_within lanes i x at in
+          let before = slice_get-get_or items i x (omega (below, many, arith)) in
+          (kept i (get_or items i x) x before at).0 ∙ (are.new i (get_or items i x) before).number_is;
+      some = (let some_ = are.some in omega arith);
+      begins = begins;
+      tells = tells;
+      has = has;
+      ended = ended;
+      marks = marks;
+      alone = λ x one.
+          let a = alone x one in
+          record {
+            none = a.closed;
+            whole = λ w only. singles_whole Past v u r.catalog from w (answers x.items) (a.only from begins settled w only);
+          };
+      shuts = shuts;
+      plans = plans;
+      committed = first_committed count lanes committed;
+    }
 
-module _ (told : Option Files) (text : script.Block) (v u : View) (r s : Registrar) (from : ℕ) (lanes : List Lane) (end : BlockEnd)
-    (h : Leaves told text v u r s from lanes end) where
+module _ (Past : Whole → Type 0) (count : ℕ) (told : Option Files) (text : script.Block) (v u : View) (r s : Registrar) (from : ℕ)
+    (lanes : List Lane) (end : BlockEnd) (h : Leaves Past count told text v u r s from lanes end) where
   abbrev pub left : Block
   left = block_of text.several from v u lanes end
 
@@ -286,9 +321,9 @@ module _ (told : Option Files) (text : script.Block) (v u : View) (r s : Registr
   spans : IsBlockSpan v u end.to left.span
   spans = record { begins = h.begins; ends = refl; first = omega arith; last = omega arith; full = refl }
 
-  part_of : (past w : Whole) → MayEnd past u w → TellsPart w from (registry_of v r) left
-  part_of past w m =
-      let t = h.tells past left.span spans refl in
+  part_of : (past w : Whole) → Past past → MayEnd past u w → TellsPart w from (registry_of v r) left
+  part_of past w p m =
+      let t = h.tells past p left.span spans refl in
       record {
         begins = refl;
         ends = refl;
@@ -310,23 +345,24 @@ module _ (told : Option Files) (text : script.Block) (v u : View) (r s : Registr
       (h.plans i y at)
 
   -- a lane may have stopped at a fault
-  pub left_cut : HasCutOne told text v.shut u (registry_of v r) from end.to left
+  pub left_cut : HasCutOne Past count told text v.shut u (registry_of v r) from end.to left
   left_cut = record {
     is = is_left;
     full_is = refl;
     ends = refl;
-    tells = λ past w m. record {
-      part = part_of past w m;
+    tells = λ past p w m. record {
+      part = part_of past w p m;
       behind = registry_of u s;
       last = refl;
       plans = plans_by past w m;
       behind_is = λ y at none. (h.has y at).is none ∙ ap (after_all (registry_of v r)) (sym (controls_first lanes end y at));
     };
     marks = h.marks;
+    committed = h.committed;
   }
 
   -- none did
-  pub left_whole : AreWhole lanes → HasRunOne told text v.shut u (registry_of v r) (registry_of u s) from end.to left
+  pub left_whole : AreWhole lanes → HasRunOne Past count told text v.shut u (registry_of v r) (registry_of u s) from end.to left
   left_whole whole =
       let after = controls_after v u r s lanes end text.several from h.some whole h.has in
       record {
@@ -336,8 +372,8 @@ module _ (told : Option Files) (text : script.Block) (v u : View) (r s : Registr
         keeps = h.shuts.keeps;
         shuts = h.shuts.shuts;
         ends = refl;
-        tells = λ past w m. record {
-          part = part_of past w m;
+        tells = λ past p w m. record {
+          part = part_of past w p m;
           whole = whole;
           registers = controls_so v u r s lanes end left.span spans whole h.has;
           definitions = each_whole past u w m (registry_of v r) (lanes_controls lanes end)
@@ -346,26 +382,27 @@ module _ (told : Option Files) (text : script.Block) (v u : View) (r s : Registr
           plans = subst (λ (z : Registry). LanesSayPlans (RowsAre w) (registry_of v r) z.rows from lanes) after (plans_by past w m);
         };
         marks = h.marks;
+        committed = h.committed;
         behind = after;
       }
 
   -- it was written
   pub one_written : (old new : Option (List ℕ)) (before now : Bool) → AreWhole lanes
       → Gained old new (report_text (lanes_items text.several from end lanes)) → now ≡ before || lanes_refused lanes
-      → WritesOne told text v.shut u (registry_of v r) (registry_of u s) from end.to old new before now
+      → WritesOne Past count told text v.shut u (registry_of v r) (registry_of u s) from end.to old new before now
   one_written old new before now whole written refused =
       record { block = left; ran = left_whole whole; written = written; refused = refused }
 
   -- or a fault came in it, or behind it
   pub one_stopped : (old new : Option (List ℕ)) (why : RunFault)
       → StopsTelling lanes (lanes_items text.several from end lanes) old new why
-      → StopsOne told text v.shut u (registry_of v r) (registry_of u s) from end.to old new why
+      → StopsOne Past count told text v.shut u (registry_of v r) (registry_of u s) from end.to old new why
   one_stopped old new why stop = (
     stop.0,
     inr (
       stop.1,
-      ⊎_elim (λ (none : Gained old new []). inl (left, left_cut, none))
-          (λ (part : AreWhole lanes × GainedPart old new (report_text (lanes_items text.several from end lanes))).
-          inr (left, left_whole part.0, part.1)) stop.2,
+      ⊎_elim (λ (none : IsFirstFault lanes why × Gained old new []). inl (left, left_cut, none.0, none.1))
+          (λ (part : AreWhole lanes × IsWriteFault why × GainedPart old new (report_text (lanes_items text.several from end lanes))).
+          inr (left, left_whole part.0, part.2)) stop.2,
     ),
   )

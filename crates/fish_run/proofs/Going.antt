@@ -1,10 +1,17 @@
 -- The control pass from block to block.
-use Rattle.std.proofs.Common.{◌≡◌, ◌≢◌, ℕ, ◌<◌, List, [], ◌∷◌, ◌++◌, length, map, refl, sym, ap, ◌∙◌, subst, inl, arith, All}
-use Rattle.std.proofs.Common.{None, Option, Some, Result, Ok, Err, slice_get, append-nil, drop, take}
+use Rattle.std.proofs.Common.{◌≡◌, ℕ, ◌+◌, ◌*◌, ◌<◌, ◌≤◌, List, [], ◌∷◌, ◌++◌, length, map, refl, sym, ap, ◌∙◌, subst, inl, arith}
+use Rattle.std.proofs.Common.{All, None, Option, Some, Result, Ok, Err, slice_get, append-nil, drop, take}
 use Rattle.std.proofs.lemmas.List.{drop_all, take_all}
 use Rattle.std.specs.Prelude.{IfErr, OnOk}
 use Rattle.std.specs.Result.{IsErrAnd}
+use Rattle.fish_catalog.proofs.Clamping.{all_clamped}
+use Rattle.fish_catalog.specs.Clamps.{clamped}
 use Rattle.fish_catalog.specs.Listing.{listed_of}
+use Rattle.fish_catalog.specs.declared.commit.Commit.{Commit}
+use Rattle.fish_catalog.specs.declared.entry.Entry.{Entry}
+use Rattle.fish_catalog.specs.declared.row.CatRow.{CatRow}
+use Rattle.fish_flush.specs.Carrying.{Carries, HasSettled, Reads}
+use Rattle.fish_flush.specs.Rows.{HoldsRows}
 use Rattle.fish_ingest.specs.Ingestion.{CanStart}
 use Rattle.fish_lanes.proofs.Controls.{each_last}
 use Rattle.fish_lanes.specs.Blocks.{HasRegistered, control_items}
@@ -14,79 +21,269 @@ use Rattle.fish_lanes.specs.Registering.{KnowsRegistry, registry_of, waiting_id}
 use Rattle.fish_lanes.specs.declared.block.BlockEnd.{BlockEnd}
 use Rattle.fish_lanes.specs.declared.lane.Lane.{Lane}
 use Rattle.fish_lanes.specs.declared.work.LaneFault.TheVariants as cause
-use Rattle.fish_registry.specs.Knowing.{HasBegunBy, Knows, KnowsFirst}
+use Rattle.fish_recover.specs.Stores.{IsOpened}
+use Rattle.fish_recover.specs.declared.opened.Opened.{Opened}
+use Rattle.fish_registry.specs.Knowing.{Awaits, HasBegunBy, Knows, KnowsFirst}
 use Rattle.fish_registry.specs.declared.registrar.Registrar.{Registrar}
-use Rattle.fish_outside.specs.declared.fault.FeedRefusal.{FeedRefusal}
-use Rattle.fish_outside.specs.declared.fault.FeedRefusal.TheVariants as feed
-use Rattle.fish_report.specs.declared.writing.WriteRefusal.{WriteRefusal}
-use Rattle.fish_report.specs.declared.writing.WriteRefusal.TheVariants as write
+use Rattle.fish_registry.specs.declared.registrar.Waiting.{Waiting}
+use Rattle.fish_rule.proofs.basics.Bodies.{high-pack, low-pack}
+use Rattle.fish_rule.proofs.laws.ChainFacts.{always_later}
+use Rattle.fish_rule.proofs.laws.Learning.{learns_self}
 use Rattle.fish_rule.proofs.laws.Versions.{definitions_first}
+use Rattle.fish_rule.specs.LoadSteps.{IsAlone}
+use Rattle.fish_rule.specs.Parts.{Rests}
 use Rattle.fish_rule.specs.Passes.{view}
-use Rattle.fish_rule.specs.Table.{first_view}
-use Rattle.fish_rule.specs.World.{high, low}
-use Rattle.fish_rule.specs.declared.table.Log.{Log}
-use Rattle.fish_rule.specs.declared.table.Pass.{Pass}
+use Rattle.fish_rule.specs.Table.{Stands, first_view}
+use Rattle.fish_rule.specs.Views.{Among}
+use Rattle.fish_rule.specs.World.{high, last_line, low}
 use Rattle.fish_rule.specs.declared.view.Key.{Key}
 use Rattle.fish_rule.specs.declared.view.View.{View}
-use Rattle.fish_run.specs.Blocks.{no_registry}
-use Rattle.fish_run.specs.Runs.{CanGoOn, IsNewLog, feed_fault, write_fault}
-use Rattle.fish_run.specs.declared.running.RunFault.TheVariants as fault
-use Rattle.fish_whole.specs.Whole.{FitsPast, nothing_before}
+use Rattle.fish_run.specs.Blocks.{first_registry}
+use Rattle.fish_run.specs.Runs.{CanClose, CanGoOn, IsNewStore}
+use Rattle.fish_run.specs.Steps.{AreWhole}
+use Rattle.fish_scan.specs.Colder.{IsBelow}
+use Rattle.fish_store.proofs.Running.{behind_on}
+use Rattle.fish_store.specs.Opened.{opened_point}
+use Rattle.fish_store.specs.Points.{point_at}
+use Rattle.fish_store.specs.Sound.{GoesOnHere, IsSoundBehind, MayGoOn, Point}
+use Rattle.fish_store.specs.declared.store.Store.{Store}
+use Rattle.fish_walk.proofs.Looking.{ends_later}
+use Rattle.fish_walk.specs.Looks.{IsTailCount}
+use Rattle.fish_walk.specs.Settling.{EndsAt}
+use Rattle.fish_whole.specs.Whole.{Later, Whole}
 
 -- ---- in front of the first block
 
--- a log that was just opened ends at number 0
-pub first_end : (v : View) (k : Key) → v ≡ first_view k → k.number ≡ 0 → k.line ≡ 0 → HasEnd v 0
+-- a table that was just opened ends where it begins
+first_end : (v : View) (k : Key) → v ≡ first_view k → k.line < 68719476736 → HasEnd v k.number
 unfolding high low
-first_end v k is number line = subst (λ (z : View). HasEnd z 0) (sym is) (record {
+first_end v k is few = subst (λ (z : View). HasEnd z k.number) (sym is) (record {
   alone = record { main = refl; all = refl; idle = refl };
   outside = refl;
   above = omega arith;
   settled = omega arith;
   count = k.number;
   counted = omega arith;
-  tail = (0, (λ i. Some (record { number = number i; line = line i })), sym number, refl);
-  ends = inl (sym number);
+  tail =
+      let x : ℕ = k.line + k.number * 68719476736 in
+      let up : high x ≡ k.number = high-pack k.number k.line few in
+      let down : low x ≡ k.line = low-pack k.number k.line few in
+      (x, (λ i. Some (record { number = sym up i; line = sym down i })), up, refl);
+  ends = inl refl;
   marks = λ s e. absurd cc;
 })
 
--- and nothing stood before it
-pub fits_first : (log : Log) (main : Pass) (v : View) → v.about ≡ log.key → IsNewLog log main → FitsPast nothing_before v
-fits_first log main v about new = record {
-  base = ap (λ (k : Key). k.number) about ∙ new.number;
-  joins = sym (ap (λ (k : Key). map listed_of k.rows.value) about ∙ ap (map listed_of) new.rows);
-}
+-- rows that are cut to a count have begun by then
+begun_all : (n : ℕ) (rows : List CatRow) → All (HasBegunBy n) (map (clamped n) rows)
+begun_all n rows i d less =
+    let row = all_clamped n rows i d less in
+    record { from = row.from; begins = row.begins; early = row.early }
 
--- so its control pass may run a block, with a registrar that has no row
-pub go_first : (log : Log) (main : Pass) (r : Registrar) → IsNewLog log main → r.catalog ≡ [] → r.waiting ≡ None → KnowsFirst r
-    → CanGoOn log main r 0
-go_first log main r new none settled knows =
-    let k = log.key in
-    let rows : k.rows.value ≡ r.catalog = new.rows ∙ sym none in
-    record {
+-- the control pass of a table that was just opened waits for no lane
+none_waits : (k : Key) (r : Registrar) → Knows (first_view k) r → r.waiting ≡ None
+none_waits k r knows = by r.waiting refl
+  where
+    by : (w : Option Waiting) → r.waiting ≡ w → w ≡ None
+    by None is = refl
+    by (Some w) is =
+        let waits = subst (λ (z : Option Waiting). Awaits (first_view k) z) is knows.awaits in
+        absurd (let bad : None ≡ Some waits.round = waits.waits in cc)
+
+module _ {D : Type 0} (content : D → Option (List ℕ)) (images : D → List ℕ → Type 0) (disk : D) (c : Commit) (log : List Entry) (o : Opened)
+    (h : IsOpened (content disk) (images disk) c log o) where
+  -- the line fits its word
+  few_lines : o.log.key.line < 68719476736
+  few_lines =
+      let fits = h.pass.stands.rule.key_fits in
+      let about : (view o.pass).about ≡ o.log.key = h.pass.about in
+      let some = subst (λ (k : Key). k.line ≤ k.end) about fits.some_lines in
+      let most = subst (λ (k : Key). k.end ≤ last_line) about fits.low_end in
+      omega arith
+
+  -- a registrar of the rows knows what the pass knows
+  knows_opened : (r : Registrar) → KnowsFirst r → r.catalog ≡ o.catalog → Knows (first_view o.log.key) r
+  knows_opened r first rows =
+      first o.log.key (h.rows ∙ sym rows)
+      (subst (λ (l : List CatRow). All (HasBegunBy o.log.key.number) l) (sym (rows ∙ h.catalog))
+      (subst (λ (n : ℕ). All (HasBegunBy n) (map (clamped c.count) c.rows)) (sym h.number) (begun_all c.count c.rows)))
+
+  -- the store may go on where its table begins
+  pub new_store : (s : Store) → s.log ≡ o.log → s.pass ≡ o.pass → KnowsFirst s.registrar → s.registrar.catalog ≡ o.catalog
+      → s.file.flusher ≡ o.flusher → s.file.cold ≡ o.cold → IsNewStore images disk s
+  new_store s log_is pass_is first rows flusher_is cold_is = subst (IsNewStore images disk) (λ i. same i) (record {
+    go = record {
       can = record {
-        of = new.of;
-        start = subst CanStart (sym new.first) (record { live = omega arith; outside = refl });
-        knows = subst (λ (z : View). Knows z r) (sym new.first)
-            (knows k rows (subst (All (HasBegunBy k.number)) (sym none) (λ i d less. absurd (omega arith))));
+        of = h.pass;
+        start = subst CanStart (sym h.first) (record { live = omega arith; outside = refl });
+        knows = subst (λ (z : View). Knows z r) (sym h.first) knows;
       };
-      end = first_end (view main) k new.first new.number new.line;
-      known = subst (λ (z : View). KnowsRegistry z (registry_of z r)) (sym new.first) (record {
+      commit = record {
+        live = h.live;
+        may = (
+          c,
+          log,
+          subst (λ (l : List CatRow). Carries (images disk) o.flusher (view o.pass) o.log.shape l c log)
+              (sym rows) h.carries,
+        );
+        counted =
+            let count = h.carries.rest.committed.count in
+            let number = h.number in
+            let learned = ap (λ (z : View). z.learned.count) h.first in
+            omega arith;
+      };
+      below = record { number = h.below_number; line = h.below_line };
+      end = first_end (view o.pass) o.log.key h.first few_lines;
+      known = subst (λ (z : View). KnowsRegistry z (registry_of z r)) (sym h.first) (record {
         from = omega arith;
         reached = omega arith;
-        are = λ g read. definitions_first k g k.version (omega arith) ∙ ap (map listed_of) rows;
+        are = λ g read. definitions_first o.log.key g o.log.key.version (omega arith) ∙ ap (map listed_of) (h.rows ∙ sym rows);
       });
-      settled = settled;
+      settled = none_waits o.log.key r knows;
+    };
+    version = ap (λ (z : View). z.learned.version) h.first ∙ h.version;
+    unshut = ap (λ (z : View). z.shut) h.first;
+  })
+    where
+      r : Registrar
+      r = s.registrar
+
+      knows : Knows (first_view o.log.key) r
+      knows = knows_opened r first rows
+
+      same : record { log = o.log; pass = o.pass; registrar = s.registrar; file = record { flusher = o.flusher; cold = o.cold } } ≡ s
+      same i = record {
+        log = sym log_is i;
+        pass = sym pass_is i;
+        registrar = s.registrar;
+        file = record { flusher = sym flusher_is i; cold = sym cold_is i };
+      }
+
+-- and it is at the first moment of what was opened
+pub point_opened : {D : Type 0} (disk : D) (s : Store) (o : Opened) → s.log ≡ o.log → s.pass ≡ o.pass → s.registrar.catalog ≡ o.catalog
+    → s.file.flusher ≡ o.flusher → s.file.cold ≡ o.cold → point_at disk s ≡ opened_point disk o
+point_opened disk s o log pass rows flusher cold i = record {
+  disk = disk;
+  flusher = flusher i;
+  cold = cold i;
+  shape = (log i).shape;
+  rows = rows i;
+  view = view (pass i);
+}
+
+-- its registry is that of its rows
+pub new_registry : {D : Type 0} (images : D → List ℕ → Type 0) (disk : D) (s : Store) → IsNewStore images disk s
+    → registry_of (view s.pass) s.registrar ≡ first_registry s.registrar.catalog
+new_registry images disk s new i =
+    record { rows = s.registrar.catalog; waiting = waiting_id (new.go.settled i); version = new.version i }
+
+-- ---- the last checkpoint
+
+-- what a registrar keeps is what a commit asks of the rows
+pub holds_rows : (v : View) (r : Registrar) → Knows v r → HoldsRows v r.catalog
+holds_rows v r k = record {
+  main = k.main;
+  listed = k.listed;
+  from = λ id row at. (k.bounds id row at).from;
+  to = λ id row at. (k.bounds id row at).to;
+}
+
+-- a pass that only read is later
+pub later_reads : (v u : View) → Reads v u → Later v u
+later_reads v u h = record {
+  learns = h.learns;
+  gained = λ o m. inl (subst (Among o) (ap (λ (z : View). z.own) h.frame) m);
+}
+
+pub alone_reads : (v u : View) → Reads v u → IsAlone v → IsAlone u
+alone_reads v u h a = record {
+  main = ap (λ (z : View). z.lane) h.frame ∙ a.main;
+  all = ap (λ (z : View). z.out) h.frame ∙ a.all;
+  idle = ap (λ (z : View). z.flight) h.frame ∙ a.idle;
+}
+
+-- a pass that is alone and has the tail at a count knows no higher one
+count_most : (u : View) (count x : ℕ) → Stands u → IsAlone u → u.tail ≡ Some (record { number = high x; line = low x }) → high x ≡ count
+    → u.learned.count ≤ count
+count_most u count x s a tail is =
+    let rests : Rests s.moment.count s.moment.line (Some (record { number = high x; line = low x })) =
+    subst (Rests s.moment.count s.moment.line) tail (s.rule.tails s.seat u s.at a.main a.all) in
+    let same : high x ≡ s.moment.count = rests.0 in
+    let counted : u.learned.count ≤ s.moment.count = (s.rule.facts s.seat u s.at).counted in
+    omega arith
+
+-- so the log ends where it did
+pub end_reads : (v u : View) (to : ℕ) → Reads v u → Stands u → HasEnd v to → HasEnd u to
+end_reads v u to h s e =
+    let alone = alone_reads v u h e.alone in
+    let t = h.tail e.alone e.count (e.tail.0, e.tail.1, e.tail.2) in
+    let below = count_most u e.count t.0 s alone t.1 t.2 in
+    let more = h.learns.count in
+    let counted = e.counted in
+    record {
+      alone = alone;
+      outside = ap (λ (z : View). z.epoch) h.frame ∙ e.outside;
+      above = subst (λ (k : Key). k.number ≤ to) (sym h.learns.about) e.above;
+      settled = (let a = e.settled in let b = h.learns.settled in omega arith);
+      count = e.count;
+      counted = omega arith;
+      tail = (t.0, t.1, t.2, (let same : u.learned.count ≡ e.count = omega arith in same));
+      ends = ends_later v u to e.count h.learns e.ends;
+      marks = λ c is. always_later v u _ h.learns (e.marks c (sym (ap (λ (z : View). z.shut) h.frame) ∙ is));
     }
 
--- and has no definition
-pub registry_first : (log : Log) (main : Pass) (r : Registrar) → IsNewLog log main → r.catalog ≡ [] → r.waiting ≡ None
-    → registry_of (view main) r ≡ no_registry
-registry_first log main r new none settled =
-    ap (λ (z : View). registry_of z r) new.first
-    ∙ ap (λ (z : List _). record { rows = z; waiting = waiting_id r.waiting; version = log.key.version }) none
-    ∙ ap (λ (z : Option _). record { rows = []; waiting = waiting_id z; version = log.key.version }) settled
-    ∙ ap (λ (z : ℕ). record { rows = []; waiting = None; version = z }) new.version
+-- and at the number up to which it was committed
+pub end_settled : (v u : View) (n from : ℕ) → Reads v u → Stands u → HasEnd v from → HasSettled v u n → HasEnd u n
+unfolding end_reads
+end_settled v u n from h s e settled =
+    let f = end_reads v u from h s e in
+    let t = e.tail in
+    let rests : high t.0 ≡ settled.count = subst (IsTailCount settled.count) t.1 (settled.rests e.alone) in
+    let same : settled.count ≡ e.count = sym rests ∙ t.2 in
+    record {
+      alone = f.alone;
+      outside = f.outside;
+      above = (let a = f.above in let b = e.settled in let c = settled.rises in omega arith);
+      settled = settled.settled;
+      count = e.count;
+      counted = f.counted;
+      tail = f.tail;
+      ends = subst (EndsAt u n) same (settled.ends e.alone);
+      marks = f.marks;
+    }
+
+-- ---- moments
+
+-- where nothing was done the store is where it was
+pub here_self : {D : Type 0} (content : D → Option (List ℕ)) (images : D → List ℕ → Type 0) (since : D → ℕ → List ℕ → Type 0)
+    (moment : D → ℕ) (p : Point D) → GoesOnHere content images since moment p p
+here_self content images since moment p = record {
+  learns = learns_self p.view;
+  told_before = λ told. told;
+  rises = omega arith;
+  sound = λ past s told. s;
+  crash = λ past s told. record { later = omega arith; now = λ c here. s.now c here; before = λ t c early left. inl left };
+}
+
+module _
+    {D : Type 0}
+    (content : D → Option (List ℕ))
+    (images : D → List ℕ → Type 0)
+    (since : D → ℕ → List ℕ → Type 0)
+    (moment : D → ℕ)
+    (p m q : Point D) where
+  -- a past that a disk is told to have later it was told to have before
+  pub behind_before : GoesOnHere content images since moment m q → (past : Whole) → IsSoundBehind content images p (content q.disk) past
+      → IsSoundBehind content images p (content m.disk) past
+  behind_before h past s = record { sound = s.sound; told = h.told_before s.told }
+
+  -- and the store is sound behind it still
+  pub behind_then : GoesOnHere content images since moment p m → GoesOnHere content images since moment m q → (past : Whole)
+      → IsSoundBehind content images p (content q.disk) past → IsSoundBehind content images m (content q.disk) past
+  behind_then h t past s = behind_on content images since moment p m (content q.disk) past h s t.told_before
+
+-- the control pass may close the log where it may go on
+pub close_of : {D : Type 0} (images : D → List ℕ → Type 0) (disk : D) (s : Store) (from : ℕ) → CanGoOn images disk s from → CanClose s
+close_of images disk s from go = record { of = go.can.of; alone = go.end.alone }
 
 -- ---- behind a block
 
@@ -102,6 +299,36 @@ pub first_there : {A : Type 0} (xs : List A) → 0 < length xs → (x : A) × (s
 first_there [] less = absurd (omega arith)
 first_there (x ∷ xs) less = (x, refl)
 
+-- the first lane had no fault, so the definitions that its items tell are known, and a checkpoint may follow
+pub go_next : {D : Type 0} (images : D → List ℕ → Type 0) (disk : D) (s : Store) (v : View) (r : Registrar) (x : Lane) (end : BlockEnd)
+    → CanControl s.log s.pass s.registrar → MayGoOn images (point_at disk s) → IsBelow s.log.key s.file.cold
+    → HasEnd (view s.pass) end.to → HasRegistered v (view s.pass) r s.registrar x end → x.fault ≡ cause.None
+    → CanGoOn images disk s end.to
+go_next images disk s v r x end can commit below ends has whole = record {
+  can = can;
+  commit = commit;
+  below = below;
+  end = ends;
+  known = subst (KnowsRegistry (view s.pass)) (sym (has.is whole))
+      (each_last (KnowsRegistry (view s.pass)) (registry_of v r) (control_items x end) (has.each whole));
+  settled = has.settled;
+}
+
+-- so it may where no lane had one
+pub go_whole : {D : Type 0} (images : D → List ℕ → Type 0) (disk : D) (s : Store) (v : View) (r : Registrar) (lanes : List Lane)
+    (end : BlockEnd) → AreWhole lanes → CanControl s.log s.pass s.registrar
+    → (((x : Lane) → slice_get lanes 0 ≡ Some x → x.fault ≡ cause.Disk → ⊥) → MayGoOn images (point_at disk s))
+    → IsBelow s.log.key s.file.cold → HasEnd (view s.pass) end.to
+    → ((x : Lane) → slice_get lanes 0 ≡ Some x → HasRegistered v (view s.pass) r s.registrar x end) → 0 < length lanes
+    → CanGoOn images disk s end.to
+go_whole images disk s v r lanes end whole can again below ends has some =
+    let first = first_there lanes some in
+    go_next images disk s v r first.0 end can
+    (again (λ x at is. (let bad : cause.None ≡ cause.Disk = sym (whole 0 x at) ∙ is in absurd cc))) below ends (has first.0 first.1)
+    (whole 0 first.0 first.1)
+
+-- ---- results
+
 -- what three clauses say where there is an answer
 pub ok_all : {A E P Q S T : Type 0} (r : Result A E) → (P → Q → S → T) → OnOk r P → OnOk r Q → OnOk r S → OnOk r T
 ok_all (Ok x) f p q s = f p q s
@@ -111,28 +338,3 @@ ok_all (Err e) f p q s = p
 pub err_known : {T E : Type 0} (r : Result T E) (P : E → Type 0) (x : E) → IsErrAnd r (λ e. e ≡ x) → P x → IfErr r P
 err_known (Ok y) P x is p = tt
 err_known (Err e) P x is p = subst P (sym is) p
-
--- a fault has a name
-pub feed_named : (r : FeedRefusal) → feed_fault r ≢ fault.None
-feed_named feed.Failed is = absurd cc
-feed_named feed.OutOfMemory is = absurd cc
-
-pub write_named : (r : WriteRefusal) → write_fault r ≢ fault.None
-write_named write.Failed is = absurd cc
-write_named write.OutOfMemory is = absurd cc
-
--- that of the output is none of the input
-pub write_other : (r : WriteRefusal) → write_fault r ≢ fault.Input
-write_other write.Failed is = absurd cc
-write_other write.OutOfMemory is = absurd cc
-
--- the first lane had no fault, so the definitions that its items tell are known
-pub go_next : (log : Log) (v : View) (main : Pass) (r s : Registrar) (x : Lane) (end : BlockEnd) → CanControl log main s
-    → HasEnd (view main) end.to → HasRegistered v (view main) r s x end → x.fault ≡ cause.None → CanGoOn log main s end.to
-go_next log v main r s x end can ends has whole = record {
-  can = can;
-  end = ends;
-  known = subst (KnowsRegistry (view main)) (sym (has.is whole))
-      (each_last (KnowsRegistry (view main)) (registry_of v r) (control_items x end) (has.each whole));
-  settled = has.settled;
-}

@@ -6,7 +6,7 @@ use Rattle.std.proofs.lemmas.Option.{same_Some, slice_get-get_or}
 use Rattle.fish_lang.specs.Language.{IsAccepted}
 use Rattle.fish_lanes.specs.Blocks.{AreLanes}
 use Rattle.fish_lanes.specs.Registering.{IsAcceptable}
-use Rattle.fish_lanes.specs.Running.{IsFree}
+use Rattle.fish_lanes.specs.Running.{IsShared}
 use Rattle.fish_lanes.specs.declared.lane.Lane.{Lane}
 use Rattle.fish_lanes.specs.declared.work.Work.{Work}
 use Rattle.fish_outside.specs.Told.{Files, StillTold}
@@ -63,14 +63,14 @@ acceptable_of told (does.Scan name value from to way) w can h = subst IsAcceptab
 acceptable_of told (does.Explain name value from to way) w can h = subst IsAcceptable (sym h) tt
 acceptable_of told does.Checkpoint w can h = subst IsAcceptable (sym h) tt
 
--- one that is no control statement changes no definition
-free_of : (told : Option Files) (s : Statement) (w : Work) → is_control s ≡ false → IsWorkOf told s w → IsFree w
-free_of told (does.Register name def) w no_control h = absurd cc
-free_of told (does.Deregister name) w no_control h = absurd cc
-free_of told (does.Ingest form header file) w no_control h = subst IsFree (sym h.1) tt
-free_of told (does.Scan name value from to way) w no_control h = subst IsFree (sym h) tt
-free_of told (does.Explain name value from to way) w no_control h = subst IsFree (sym h) tt
-free_of told does.Checkpoint w no_control h = absurd cc
+-- one that is no control statement any lane may do
+shared_of : (told : Option Files) (s : Statement) (w : Work) → is_control s ≡ false → IsWorkOf told s w → IsShared w
+shared_of told (does.Register name def) w no_control h = absurd cc
+shared_of told (does.Deregister name) w no_control h = absurd cc
+shared_of told (does.Ingest form header file) w no_control h = subst IsShared (sym h.1) tt
+shared_of told (does.Scan name value from to way) w no_control h = subst IsShared (sym h) tt
+shared_of told (does.Explain name value from to way) w no_control h = subst IsShared (sym h) tt
+shared_of told does.Checkpoint w no_control h = absurd cc
 
 free_at : (ss : List Statement) (i : ℕ) (s : Statement) → AreFree ss → slice_get ss i ≡ Some s → is_control s ≡ false
 free_at [] i s h at = absurd cc
@@ -89,7 +89,7 @@ are_lanes told b lanes can h =
       few = omega arith;
       new = h.new;
       acceptable = λ x at i d less. all_acceptable 0 x at i d less;
-      free = λ i x above at j d less. all_free i x above at j d less;
+      shared = λ i x above at j d less. all_shared i x above at j d less;
     }
   where
     all_acceptable : (k : ℕ) (x : Lane) → slice_get lanes k ≡ Some x → (i : ℕ) (d : Work) → i < length x.works
@@ -99,9 +99,9 @@ are_lanes told b lanes can h =
         let s = pairs_at (IsWorkOf told) t.0 x.works i (get_or x.works i d) t.2 (slice_get-get_or x.works i d less) in
         acceptable_of told s.0 (get_or x.works i d) (can.statements k t.0 t.1 i s.0 s.1) s.2
 
-    all_free : (k : ℕ) (x : Lane) → 0 < k → slice_get lanes k ≡ Some x → (i : ℕ) (d : Work) → i < length x.works
-        → IsFree (get_or x.works i d)
-    all_free k x above at i d less =
+    all_shared : (k : ℕ) (x : Lane) → 0 < k → slice_get lanes k ≡ Some x → (i : ℕ) (d : Work) → i < length x.works
+        → IsShared (get_or x.works i d)
+    all_shared k x above at i d less =
         let t = pairs_at (IsLaneOf told) b.lanes lanes k x h.works at in
         let s = pairs_at (IsWorkOf told) t.0 x.works i (get_or x.works i d) t.2 (slice_get-get_or x.works i d less) in
-        free_of told s.0 (get_or x.works i d) (free_at t.0 i s.0 (can.free k t.0 above t.1) s.1) s.2
+        shared_of told s.0 (get_or x.works i d) (free_at t.0 i s.0 (can.free k t.0 above t.1) s.1) s.2

@@ -1,7 +1,8 @@
 -- What the blocks of a run tell of the whole log.
-use Rattle.std.specs.Prelude.{ℕ, ◌≡◌, ◌≤◌, ◌+◌, List, [], ◌∷◌, ◌++◌, length, slice_get, Bool, IfSome, Option, Some, None, ⊤}
+use Rattle.std.specs.Prelude.{ℕ, ◌≡◌, ◌≢◌, ◌<◌, ◌≤◌, ◌+◌, List, [], ◌∷◌, ◌++◌, length, slice_get, Bool, IfSome, Option, Some, None, ⊤}
 use Rattle.fish_catalog.specs.declared.row.CatRow.{CatRow}
 use Rattle.fish_lanes.specs.Blocks.{AreEnded, At, NameMarks, TellsBlock, control_items}
+use Rattle.fish_lanes.specs.Controlling.{IsCommitted}
 use Rattle.fish_lanes.specs.Outcome.{IsFullIn, LanesSayPlans}
 use Rattle.fish_lanes.specs.Plans.{RowsAre}
 use Rattle.fish_lanes.specs.Registering.{AreSo, HasEach, Registry, after_all}
@@ -16,6 +17,8 @@ use Rattle.fish_report.specs.declared.item.Item.{Item}
 use Rattle.fish_rule.specs.Views.{AllOf, Among}
 use Rattle.fish_rule.specs.declared.view.Shut.{Shut}
 use Rattle.fish_rule.specs.declared.view.View.{View}
+use Rattle.fish_run.specs.Faults.{lane_fault}
+use Rattle.fish_run.specs.declared.fault.RunFault.{RunFault}
 use Rattle.fish_whole.specs.Whole.{Whole}
 
 -- a block that has run: whether it stood between `lanes` and `end`, where it lies, its lanes with their items, and what was
@@ -28,9 +31,9 @@ pub record Block : Type 0 where
 
 -- ---- definitions
 
--- in front of the first block
-abbrev pub no_registry : Registry
-no_registry = record { rows = []; waiting = None; version = 0 }
+-- before the first block: the rows with which the store was opened, and no change of them
+abbrev pub first_registry : List CatRow → Registry
+first_registry rows = record { rows = rows; waiting = None; version = 0 }
 
 -- the items of a block's first lane, and with the boundary that was found behind them
 abbrev pub first_items : List Lane → List Item
@@ -126,11 +129,11 @@ abbrev pub TellsRest : Whole → ℕ → Registry → Option Block → ℕ → T
 TellsRest w from r None end = from ≡ end
 TellsRest w from r (Some b) end = TellsCut w from r b × (b.span.to ≡ end)
 
--- what all blocks of a run tell, from the empty log on, in which no claim had found the log full
-pub record TellsRun (w : Whole) (blocks : List Block) (cut : Option Block) (end : ℕ) : Type 0 where
+-- what all blocks of a run tell, from the number on at which the table begins, with these rows, and where no claim had found the log full
+pub record TellsRun (w : Whole) (first : ℕ) (rows : List CatRow) (blocks : List Block) (cut : Option Block) (end : ℕ) : Type 0 where
   pub to : ℕ
-  pub whole : TellsBlocks w 0 no_registry blocks to
-  pub rest : TellsRest w to (behind_blocks no_registry blocks) cut end
+  pub whole : TellsBlocks w first (first_registry rows) blocks to
+  pub rest : TellsRest w to (behind_blocks (first_registry rows) blocks) cut end
   pub fulls : AreFullSince [] blocks
   pub rest_full : IfSome cut (IsFullSince blocks)
 
@@ -145,6 +148,25 @@ with_cut blocks (Some b) = blocks ++ b ∷ []
 pub record FullsAgree (blocks : List Block) (end : ℕ) : Type 0 where
   pub ends : (line lines e : ℕ) → IsFullOf blocks line lines e → e ≡ end
   pub same : (line a b e f : ℕ) → IsFullOf blocks line a e → IsFullOf blocks line b f → a ≡ b
+
+-- ---- checkpoints
+
+-- no checkpoint that an item of these blocks tells has more entries than so many
+abbrev pub AreAcknowledged : ℕ → List Block → Type 0
+AreAcknowledged count blocks = (b : Block) → Among b blocks → AllOf (IsCommitted count) (first_items b.lanes)
+
+-- ---- faults
+
+-- why the first of these lanes stopped that stopped at a fault
+pub record IsFirstFault (lanes : List Lane) (why : RunFault) : Type 0 where
+  pub at : ℕ
+  pub lane : Lane
+  pub lane_is : slice_get lanes at ≡ Some lane
+  pub stopped : lane.fault ≢ cause.None
+  pub is : why ≡ lane_fault lane.fault
+  pub before : (i : ℕ) (x : Lane) → i < at → slice_get lanes i ≡ Some x → x.fault ≡ cause.None
+
+-- ---- marks
 
 -- all refusals by a full log name marks
 abbrev pub AreMarked : View → List Block → Type 0

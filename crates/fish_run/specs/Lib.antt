@@ -1,4 +1,5 @@
 pub mod Blocks
+pub mod Faults
 pub mod Ran
 pub mod Reading
 pub mod Reports

@@ -39,13 +39,18 @@ lanes_items several from end lanes =
 abbrev pub block_items : Block → List Item
 block_items b = lanes_items b.several b.span.from b.end b.lanes
 
--- the items of blocks, behind the one that the log was made
-abbrev pub report_of : List Block → List Item
-report_of blocks = item.Created ∷ flat_map block_items blocks
+-- the first item of a run: its store was made, or opened with so many entries
+abbrev pub first_item : Bool → ℕ → Item
+first_item true count = item.Created
+first_item false count = item.Opened count
 
--- the report of a run that came to its end, with so many numbers
-abbrev pub whole_report : List Block → ℕ → List Item
-whole_report blocks count = report_of blocks ++ item.Closed count ∷ []
+-- the items of blocks, after the first one
+abbrev pub report_of : Item → List Block → List Item
+report_of first blocks = first ∷ flat_map block_items blocks
+
+-- the report of a run that came to its end, with so many entries
+abbrev pub whole_report : Item → List Block → ℕ → List Item
+whole_report first blocks count = report_of first blocks ++ item.Closed count ∷ []
 
 -- ---- refusals
 

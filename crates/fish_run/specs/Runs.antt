@@ -1,73 +1,44 @@
--- What a run of a script asks for and leaves between two blocks, and why it stops.
-use Rattle.std.specs.Prelude.{ℕ, ◌≡◌, ◌*◌, ◌^◌, ◌≤◌, List, [], None, Some, Result, IsErrOf, slice_get}
+-- What a run of a script asks for and leaves between two blocks.
+use Rattle.std.specs.Prelude.{ℕ, ◌≡◌, List, None, Option, Some, slice_get}
 use Rattle.fish_lanes.specs.Controlling.{CanControl}
 use Rattle.fish_lanes.specs.Ending.{HasEnd}
 use Rattle.fish_lanes.specs.Registering.{KnowsRegistry, registry_of}
-use Rattle.fish_outside.specs.Causes.{Rose}
-use Rattle.fish_outside.specs.declared.fault.FeedRefusal.{FeedRefusal}
-use Rattle.fish_outside.specs.declared.fault.FeedRefusal.TheVariants as feed
-use Rattle.fish_registry.specs.declared.registrar.Registrar.{Registrar}
-use Rattle.fish_report.specs.declared.writing.WriteRefusal.{WriteRefusal}
-use Rattle.fish_report.specs.declared.writing.WriteRefusal.TheVariants as write
-use Rattle.fish_rule.specs.Passes.{IsPassOf, view}
 use Rattle.fish_rule.specs.LoadSteps.{IsAlone}
-use Rattle.fish_rule.specs.Table.{first_view}
-use Rattle.fish_rule.specs.declared.table.Log.{Log}
-use Rattle.fish_rule.specs.declared.table.Pass.{Pass}
-use Rattle.fish_run.specs.declared.running.RunFault.{RunFault}
-use Rattle.fish_run.specs.declared.running.RunFault.TheVariants as fault
+use Rattle.fish_rule.specs.Passes.{IsPassOf, view}
+use Rattle.fish_scan.specs.Colder.{IsBelow}
 use Rattle.fish_script.specs.Runnable.{AreRunnable}
 use Rattle.fish_script.specs.declared.script.Statement.{Statement}
+use Rattle.fish_store.specs.Points.{point_at}
+use Rattle.fish_store.specs.Sound.{IsSoundBehind, MayGoOn}
+use Rattle.fish_store.specs.declared.store.Store.{Store}
+use Rattle.fish_whole.specs.Whole.{Whole}
 
 -- the statements of each lane can be run
 abbrev pub AllRunnable : List (List Statement) → Type 0
 AllRunnable texts = (i : ℕ) (ss : List Statement) → slice_get texts i ≡ Some ss → AreRunnable ss
 
--- ---- between blocks
-
--- the log was just opened, from number 0 on and without a definition
-pub record IsNewLog (log : Log) (main : Pass) : Type 0 where
-  pub of : IsPassOf log main
-  pub first : view main ≡ first_view log.key
-  pub number : log.key.number ≡ 0
-  pub line : log.key.line ≡ 0
-  pub version : log.key.version ≡ 0
-  pub rows : log.key.rows.value ≡ []
-  pub end : log.key.end ≡ log.shape.pages * 32768
-  pub buckets : log.key.buckets ≡ 2 ^ log.shape.bucket_bits
-
 -- the control pass may close the log
-pub record CanClose (log : Log) (main : Pass) : Type 0 where
-  pub of : IsPassOf log main
-  pub alone : IsAlone (view main)
+pub record CanClose (s : Store) : Type 0 where
+  pub of : IsPassOf s.log s.pass
+  pub alone : IsAlone (view s.pass)
 
--- it may run a block behind so many numbers
-pub record CanGoOn (log : Log) (main : Pass) (r : Registrar) (from : ℕ) : Type 0 where
-  pub can : CanControl log main r
-  pub end : HasEnd (view main) from
-  pub known : KnowsRegistry (view main) (registry_of (view main) r)
-  pub settled : r.waiting ≡ None
+-- it may run a block behind so many numbers, and a checkpoint may follow
+pub record CanGoOn {D : Type 0} (images : D → List ℕ → Type 0) (disk : D) (s : Store) (from : ℕ) : Type 0 where
+  pub can : CanControl s.log s.pass s.registrar
+  pub commit : MayGoOn images (point_at disk s)
+  pub below : IsBelow s.log.key s.file.cold
+  pub end : HasEnd (view s.pass) from
+  pub known : KnowsRegistry (view s.pass) (registry_of (view s.pass) s.registrar)
+  pub settled : s.registrar.waiting ≡ None
 
--- ---- faults
+-- the store was just opened: it may go on where its table begins, whose definitions were not changed, and no claim had found the log full
+pub record IsNewStore {D : Type 0} (images : D → List ℕ → Type 0) (disk : D) (s : Store) : Type 0 where
+  pub go : CanGoOn images disk s s.log.key.number
+  pub version : (view s.pass).learned.version ≡ 0
+  pub unshut : (view s.pass).shut ≡ None
 
--- a file that couldn't be read
-abbrev pub feed_fault : FeedRefusal → RunFault
-feed_fault feed.Failed = fault.Input
-feed_fault feed.OutOfMemory = fault.Memory
+-- ---- pasts
 
--- an item that couldn't be written
-abbrev pub write_fault : WriteRefusal → RunFault
-write_fault write.Failed = fault.Output
-write_fault write.OutOfMemory = fault.Memory
-
--- the output's count of faults didn't fall, and where the run stopped at the output, it rose
-pub record WritesCause {T : Type 0} (before now : ℕ) (result : Result T RunFault) : Type 0 where
-  pub later : before ≤ now
-  pub output : IsErrOf result fault.Output → Rose before now
-
--- the same of the input and of the output
-pub record HasRunCause {T : Type 0} (before now old new : ℕ) (result : Result T RunFault) : Type 0 where
-  pub input_later : before ≤ now
-  pub output_later : old ≤ new
-  pub input : IsErrOf result fault.Input → Rose before now
-  pub output : IsErrOf result fault.Output → Rose old new
+-- what stood before the table as a disk had it with this store, of which the content is told later
+abbrev pub Behind : {D : Type 0} → (D → Option (List ℕ)) → (D → List ℕ → Type 0) → D → Store → D → Whole → Type 0
+Behind content images disk s next = IsSoundBehind content images (point_at disk s) (content next)

@@ -2,9 +2,11 @@
 #![tactic(auto)]
 
 mod building;
+mod fault;
 mod file;
 mod running;
 mod telling;
 
+pub use fault::RunFault;
 pub use file::read_file;
-pub use running::{Ran, RunFault, run_script};
+pub use running::{Ran, run_script};

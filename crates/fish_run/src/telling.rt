@@ -1,29 +1,32 @@
 //! What is written of a block: the items of its lanes, in order.
 
-ghost use Rattle.std.specs.Prelude.{◌≡◌, ℕ, OnErr, OnOk, Some, false, slice_get};
+ghost use Rattle.std.specs.Prelude.{◌≡◌, ◌≢◌, ◌∷◌, [], OnErr, OnOk};
 ghost use Rattle.std.specs.List.{flat_map, list_any};
-ghost use Rattle.fish_lanes.specs.declared.lane.Lane.{Lane};
-ghost use Rattle.fish_lanes.specs.declared.work.LaneFault.TheVariants as fault;
 ghost use Rattle.fish_outside.specs.Told.{Gained, GainedPart};
 ghost use Rattle.fish_report.specs.ReportText.{is_refusal, report_text};
 ghost use Rattle.fish_report.specs.Writing.{HasWriteCause};
-ghost use Rattle.fish_run.specs.Reports.{block_foot, block_head, lane_foot, lane_head, lane_items, lanes_items, lanes_refused};
+ghost use Rattle.fish_run.specs.Blocks.{IsFirstFault};
+ghost use Rattle.fish_run.specs.Reports.{block_foot, block_head, first_item, lane_foot, lane_head, lane_items, lanes_items};
+ghost use Rattle.fish_run.specs.Reports.{lanes_refused};
+ghost use Rattle.fish_run.specs.Steps.{AreWhole};
 
+use crate::fault::RunFault;
 use fish_lanes::{BlockEnd, Lane, LaneFault};
 use fish_outside::Sink;
 use fish_report::{Item, WriteRefusal, write_items};
 use std::alloc::Global;
 
-/// Whether a lane stopped at a fault.
-pub(crate) fn has_fault(lanes: &[Lane]) -> bool
-    ensures { result ≡ false → (i : ℕ) (x : Lane) → slice_get lanes.now i ≡ Some x → x.fault ≡ fault.None }
+/// The fault of the first lane that stopped at one.
+pub(crate) fn fault_of(lanes: &[Lane]) -> RunFault
+    ensures none { result ≡ RunFault.None → AreWhole lanes.now }
+    ensures first { result ≢ RunFault.None → IsFirstFault lanes.now result }
 {
     for lane in lanes {
         if lane.fault != LaneFault::None {
-            return true;
+            return RunFault::from(lane.fault);
         }
     }
-    false
+    RunFault::None
 }
 
 /// Whether a statement of a lane was refused.
@@ -38,6 +41,26 @@ fn is_refused(lane: &Lane) -> bool
     ensures { result ≡ list_any is_refusal lane.now.items }
 {
     lane.items.as_slice().iter().any(|item| item.is_refusal())
+}
+
+/// Writes that the store was made, or how many entries it had as it was opened.
+pub(crate) fn write_opened<W: Sink>(
+    alloc: Global,
+    out: &mut W,
+    made: bool,
+    count: u32,
+) -> Result<(), WriteRefusal>
+    ensures written { OnOk result (Gained (W.written out.old) (W.written out.new)
+        (report_text (first_item made count ∷ []))) }
+    ensures part { OnErr result (GainedPart (W.written out.old) (W.written out.new)
+        (report_text (first_item made count ∷ []))) }
+    ensures cause { HasWriteCause (W.faults out.old) (W.faults out.new) result }
+{
+    if made {
+        write_items(alloc, out, &[Item::Created])
+    } else {
+        write_items(alloc, out, &[Item::Opened { count }])
+    }
 }
 
 /// Writes what a block tells: a statement by itself its items, and several lanes each its own under its number.

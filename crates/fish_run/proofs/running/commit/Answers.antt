@@ -1,0 +1,25 @@
+-- The control pass only reads, so the log ends where it did, and there the number that was committed stands.
+use Rattle.std.proofs.Common.{sym, subst}
+use Rattle.fish_lanes.specs.Ending.{HasEnd}
+use Rattle.fish_rule.specs.Passes.{view}
+use Rattle.fish_run.proofs.Going.{end_reads, end_settled, holds_rows}
+use Rattle.fish_run.proofs.running.commit.Goals as goal
+
+pub checkpoint-requires-clause-rows : goal.checkpoint-requires-clause-rows
+checkpoint-requires-clause-rows g c =
+    holds_rows (view c.args.store.now.pass) c.args.store.now.registrar c.requires.go.1.can.knows
+
+pub returns-in_err-checkpoint-clause-end : goal.returns-in_err-checkpoint-clause-end
+returns-in_err-checkpoint-clause-end g c = λ to e.
+    end_reads (view c.args.store.now.pass) (view c.checkpoint.new.pass) to c.checkpoint.ensures.reads c.checkpoint.ensures.pass.stands e
+
+pub returns-clause-end : goal.returns-clause-end
+returns-clause-end g c = λ to e.
+    end_reads (view c.args.store.now.pass) (view c.checkpoint.new.pass) to c.checkpoint.ensures.reads c.checkpoint.ensures.pass.stands e
+
+pub returns-clause-all : goal.returns-clause-all
+returns-clause-all g c =
+    let u = view c.checkpoint.new.pass in
+    subst (HasEnd u) (sym c.in_ok-checkpoint.ensures.count.0)
+    (end_settled (view c.args.store.now.pass) u c.in_ok-checkpoint.field-0 c.requires.go.0 c.checkpoint.ensures.reads
+    c.checkpoint.ensures.pass.stands c.requires.go.1.end c.in_ok-checkpoint.ensures.settled)
