@@ -1,7 +1,9 @@
 -- The control pass from block to block.
-use Rattle.std.proofs.Common.{◌≡◌, ℕ, ◌+◌, ◌*◌, ◌<◌, ◌≤◌, List, [], ◌∷◌, ◌++◌, length, map, refl, sym, ap, ◌∙◌, subst, inl, arith}
+use Rattle.std.proofs.Common.{◌≡◌, ℕ, ◌+◌, ◌*◌, ◌/◌, ◌%◌, ◌<◌, ◌≤◌, List, [], ◌∷◌, ◌++◌, length, map, refl}
+use Rattle.std.proofs.Common.{sym, ap, ◌∙◌, subst, inl, arith}
 use Rattle.std.proofs.Common.{All, None, Option, Some, Result, Ok, Err, slice_get, append-nil, drop, take}
 use Rattle.std.proofs.lemmas.List.{drop_all, take_all}
+use Rattle.std.proofs.lemmas.Nat.{div-mul-add, mod-mul-add}
 use Rattle.std.specs.Prelude.{IfErr, OnOk}
 use Rattle.std.specs.Result.{IsErrAnd}
 use Rattle.fish_catalog.proofs.Clamping.{all_clamped}
@@ -26,7 +28,6 @@ use Rattle.fish_recover.specs.declared.opened.Opened.{Opened}
 use Rattle.fish_registry.specs.Knowing.{Awaits, HasBegunBy, Knows, KnowsFirst}
 use Rattle.fish_registry.specs.declared.registrar.Registrar.{Registrar}
 use Rattle.fish_registry.specs.declared.registrar.Waiting.{Waiting}
-use Rattle.fish_rule.proofs.basics.Bodies.{high-pack, low-pack}
 use Rattle.fish_rule.proofs.laws.ChainFacts.{always_later}
 use Rattle.fish_rule.proofs.laws.Learning.{learns_self}
 use Rattle.fish_rule.proofs.laws.Versions.{definitions_first}
@@ -66,8 +67,9 @@ first_end v k is few = subst (λ (z : View). HasEnd z k.number) (sym is) (record
   counted = omega arith;
   tail =
       let x : ℕ = k.line + k.number * 68719476736 in
-      let up : high x ≡ k.number = high-pack k.number k.line few in
-      let down : low x ≡ k.line = low-pack k.number k.line few in
+      let packed : x ≡ k.number * 68719476736 + k.line = omega arith in
+      let up : high x ≡ k.number = ap (λ (z : ℕ). z / 68719476736) packed ∙ div-mul-add k.number 68719476736 k.line few in
+      let down : low x ≡ k.line = ap (λ (z : ℕ). z % 68719476736) packed ∙ mod-mul-add k.number 68719476736 k.line few in
       (x, (λ i. Some (record { number = sym up i; line = sym down i })), up, refl);
   ends = inl refl;
   marks = λ s e. absurd cc;

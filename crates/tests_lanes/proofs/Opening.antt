@@ -1,5 +1,6 @@
 -- A store that was just opened is between two blocks.
-use Rattle.std.proofs.Common.{◌≡◌, ℕ, ◌+◌, ◌*◌, ◌<◌, ◌≤◌, List, All, Option, Some, map, refl, sym, ap, ◌∙◌, subst, inl, arith}
+use Rattle.std.proofs.Common.{◌≡◌, ℕ, ◌+◌, ◌*◌, ◌/◌, ◌%◌, ◌<◌, ◌≤◌, List, All, Option, Some, map, refl, sym, ap, ◌∙◌, subst, inl, arith}
+use Rattle.std.proofs.lemmas.Nat.{div-mul-add, mod-mul-add}
 use Rattle.fish_catalog.proofs.Clamping.{all_clamped}
 use Rattle.fish_catalog.specs.Clamps.{clamped}
 use Rattle.fish_catalog.specs.Listing.{listed_of}
@@ -14,7 +15,6 @@ use Rattle.fish_recover.specs.Stores.{IsOpened}
 use Rattle.fish_recover.specs.declared.opened.Opened.{Opened}
 use Rattle.fish_registry.specs.Knowing.{HasBegunBy, Knows, KnowsFirst}
 use Rattle.fish_registry.specs.declared.registrar.Registrar.{Registrar}
-use Rattle.fish_rule.proofs.basics.Bodies.{high-pack, low-pack}
 use Rattle.fish_rule.proofs.laws.Versions.{definitions_first}
 use Rattle.fish_rule.specs.Passes.{view}
 use Rattle.fish_rule.specs.Table.{first_view}
@@ -36,8 +36,9 @@ first_end v k is few = subst (λ (z : View). HasEnd z k.number) (sym is) (record
   counted = omega arith;
   tail =
       let x : ℕ = k.line + k.number * 68719476736 in
-      let up : high x ≡ k.number = high-pack k.number k.line few in
-      let down : low x ≡ k.line = low-pack k.number k.line few in
+      let packed : x ≡ k.number * 68719476736 + k.line = omega arith in
+      let up : high x ≡ k.number = ap (λ (z : ℕ). z / 68719476736) packed ∙ div-mul-add k.number 68719476736 k.line few in
+      let down : low x ≡ k.line = ap (λ (z : ℕ). z % 68719476736) packed ∙ mod-mul-add k.number 68719476736 k.line few in
       (x, (λ i. Some (record { number = sym up i; line = sym down i })), up, refl);
   ends = inl refl;
   marks = λ s e. absurd cc;
