@@ -1,17 +1,23 @@
 -- How a script that was read and the run of it make an end.
-use Rattle.std.proofs.Common.{◌≡◌, ◌≢◌, ℕ, inr, List, [], refl, sym, subst, ◌∙◌}
-use Rattle.std.specs.Prelude.{Option, Some, None, IfSome}
-use Rattle.fish_outside.specs.Told.{Files, StillTold}
+use Rattle.std.proofs.Common.{◌≡◌, ◌≢◌, ℕ, inl, inr, List, [], append-nil, ap, refl, sym, subst, ◌∙◌}
+use Rattle.std.specs.Prelude.{Bool, Option, Some, None, IfSome, IsSome}
+use Rattle.fish_outside.specs.Told.{Files, Gained, StillTold}
+use Rattle.fish_recover.specs.declared.opened.Opened.{Opened}
+use Rattle.fish_recover.specs.declared.refusal.Asked.{Asked}
+use Rattle.fish_recover.specs.declared.refusal.OpenRefusal.{OpenRefusal}
+use Rattle.fish_recover.specs.declared.refusal.OpenRefusal.TheVariants as opening
 use Rattle.fish_rule.specs.declared.close.Remains.{Remains}
-use Rattle.fish_rule.specs.declared.table.Shape.{Shape}
+use Rattle.fish_run.specs.Faults.{IsUndamaged}
 use Rattle.fish_run.specs.Ran.{IsLost, IsStopped, IsWhole}
+use Rattle.fish_run.specs.declared.fault.RunFault.{RunFault}
+use Rattle.fish_run.specs.declared.fault.RunFault.TheVariants as ran
 use Rattle.fish_run.specs.declared.running.Ran.{Ran}
-use Rattle.fish_run.specs.declared.running.RunFault.{RunFault}
-use Rattle.fish_run.specs.declared.running.RunFault.TheVariants as ran
 use Rattle.fish_script.specs.declared.script.Block.{Block}
-use Rattle.fish_program.specs.Faults.{run_fault}
-use Rattle.fish_program.specs.Outcome.{EndsRun}
-use Rattle.fish_program.specs.Runs.{HasScript, IsLeft}
+use Rattle.fish_program.specs.Faults.{open_fault, run_fault}
+use Rattle.fish_program.specs.Outcome.{DidNothing, EndsScript}
+use Rattle.fish_program.specs.Runs.{HasScript, IsLeft, IsStoppedRun}
+use Rattle.fish_program.specs.Stores.{IsUnopened, Opens}
+use Rattle.fish_program.specs.declared.fault.Fault.TheVariants as fault
 use Rattle.fish_program.specs.declared.outcome.Outcome.{Outcome}
 
 -- what is so of files that are still told was so of them before
@@ -29,66 +35,121 @@ script_still file old new script same h = record {
   is = h.is;
 }
 
--- the log that a stopped run left, or that it was lost
-left_of : (script : List Block) (shape : Shape) (told : Option Files) (old new : Option (List ℕ)) (why : RunFault)
-    (remains : Option Remains)
-    → ((log : Remains) → remains ≡ Some log → IsStopped told script shape log old new why)
-    → (remains ≡ None → (why ≡ ran.Memory) × IsLost told script old new)
-    → IsLeft script shape told old new why remains
-left_of script shape told old new why (Some log) stopped lost = stopped log refl
-left_of script shape told old new why None stopped lost = lost refl
+-- an output that wasn't touched gained nothing
+pub gained_nil : (x : Option (List ℕ)) → Gained x x []
+gained_nil None = tt
+gained_nil (Some a) = ap Some (append-nil a)
 
--- what a run of a script ensures, with the refusals and the log of an outcome
-pub record Went (script : List Block) (shape : Shape) (told : Option Files) (old new : Option (List ℕ)) (why : RunFault)
-    (o : Outcome) : Type 0 where
-  pub report : o.report.items ≡ []
-  pub whole : why ≡ ran.None → (log : Remains) × (o.remains ≡ Some log) × IsWhole told script shape log old new o.refused
-  pub stopped : why ≢ ran.None → (log : Remains) → o.remains ≡ Some log → IsStopped told script shape log old new why
-  pub lost : o.remains ≡ None → (why ≡ ran.Memory) × IsLost told script old new
+-- ---- faults
 
--- it is so of an outcome that has the same parts
-pub went_as : (script : List Block) (shape : Shape) (told : Option Files) (old new : Option (List ℕ)) (r : Ran) (o : Outcome)
-    → o.report.items ≡ [] → o.refused ≡ r.refused → o.remains ≡ r.remains
-    → (r.fault ≡ ran.None → (log : Remains) × (r.remains ≡ Some log) × IsWhole told script shape log old new r.refused)
-    → (r.fault ≢ ran.None → (log : Remains) → r.remains ≡ Some log → IsStopped told script shape log old new r.fault)
-    → (r.remains ≡ None → (r.fault ≡ ran.Memory) × IsLost told script old new)
-    → Went script shape told old new r.fault o
-went_as script shape told old new r o report refused remains whole stopped lost = record {
-  report = report;
-  whole = λ none. let all = whole none in
-      (all.0, remains ∙ all.1, subst (λ x. IsWhole told script shape all.0 old new x) (sym refused) all.2);
-  stopped = λ some log is. stopped some log (sym remains ∙ is);
-  lost = λ is. lost (sym remains ∙ is);
-}
+-- the fault of a run is the one of the input where that of its script's run is, and so of the output and of the disk
+pub input_ran : (why : RunFault) → run_fault why ≡ fault.Input → why ≡ ran.Input
+input_ran ran.Input is = refl
+input_ran ran.None is = absurd cc
+input_ran ran.Output is = absurd cc
+input_ran ran.Memory is = absurd cc
+input_ran ran.Disk is = absurd cc
+input_ran (ran.Damaged n) is = absurd cc
 
--- so it ends
-pub read_end : (file : List ℕ) (script : List Block) (shape : Shape) (told : Option Files) (old new : Option (List ℕ))
-    (why : RunFault) (o : Outcome) → HasScript file told script → Went script shape told old new why o
-    → EndsRun file shape told old new o (run_fault why)
-read_end file script shape told old new ran.None o read went =
-    let whole = went.whole refl in record {
-      script = script;
-      read = read;
-      report = went.report;
-      log = whole.0;
-      remains = whole.1;
-      whole = whole.2;
-    }
-read_end file script shape told old new ran.Input o read went = inr (record {
-  script = script;
-  read = read;
-  report = went.report;
-  left = left_of script shape told old new ran.Input o.remains (went.stopped (λ e. cc)) went.lost;
-})
-read_end file script shape told old new ran.Output o read went = record {
-  script = script;
-  read = read;
-  report = went.report;
-  left = left_of script shape told old new ran.Output o.remains (went.stopped (λ e. cc)) went.lost;
-}
-read_end file script shape told old new ran.Memory o read went = inr (record {
-  script = script;
-  read = read;
-  report = went.report;
-  left = left_of script shape told old new ran.Memory o.remains (went.stopped (λ e. cc)) went.lost;
-})
+pub output_ran : (why : RunFault) → run_fault why ≡ fault.Output → why ≡ ran.Output
+output_ran ran.Output is = refl
+output_ran ran.None is = absurd cc
+output_ran ran.Input is = absurd cc
+output_ran ran.Memory is = absurd cc
+output_ran ran.Disk is = absurd cc
+output_ran (ran.Damaged n) is = absurd cc
+
+pub disk_ran : (why : RunFault) → run_fault why ≡ fault.Disk → why ≡ ran.Disk
+disk_ran ran.Disk is = refl
+disk_ran ran.None is = absurd cc
+disk_ran ran.Input is = absurd cc
+disk_ran ran.Output is = absurd cc
+disk_ran ran.Memory is = absurd cc
+disk_ran (ran.Damaged n) is = absurd cc
+
+-- ---- an end
+
+module _ {D : Type 0} (content : D → Option (List ℕ)) (images : D → List ℕ → Type 0) (since : D → ℕ → List ℕ → Type 0)
+    (moment : D → ℕ) (disk mid disk' : D) (asked : Asked) (told : Option Files) (script : List Block) (old new : Option (List ℕ))
+    (out : Outcome) where
+  -- no store was opened
+  pub refused_end : (e : OpenRefusal) → IsUnopened content images since moment disk disk' asked e → DidNothing old new out
+      → EndsScript content images since moment disk disk' asked told script old new out (open_fault e)
+  refused_end opening.NotAStore none nothing = inl (tt, none, nothing)
+  refused_end (opening.Damaged n) none nothing = inl (tt, none, nothing)
+  refused_end (opening.ShapeDiffers kept other) none nothing = inl (tt, none, nothing)
+  refused_end opening.DiskFault none nothing = inl (none, nothing)
+  refused_end opening.OutOfMemory none nothing = inl (none, nothing)
+
+  -- what a run of a script ensures, with the refusals and the log of an outcome
+  pub record Went (o : Opened) (why : RunFault) : Type 0 where
+    pub opens : Opens content images since moment disk mid disk' asked o
+    pub report : out.report.items ≡ []
+    pub whole : why ≡ ran.None → (log : Remains) × (out.remains ≡ Some log)
+        × IsWhole content images since moment mid disk' o told script log old new out.refused
+    pub stopped : why ≢ ran.None → (log : Remains) → out.remains ≡ Some log
+        → IsStopped content images since moment mid disk' o told script log old new why
+    pub lost : out.remains ≡ None → (why ≡ ran.Memory) × IsLost content images since moment mid disk' o told script old new
+    pub damaged : IsSome (content disk') → IsUndamaged why
+
+  -- the log that a stopped run left, or that it was lost
+  left_of : (o : Opened) (why : RunFault) (remains : Option Remains)
+      → ((log : Remains) → remains ≡ Some log → IsStopped content images since moment mid disk' o told script log old new why)
+      → (remains ≡ None → (why ≡ ran.Memory) × IsLost content images since moment mid disk' o told script old new)
+      → IsLeft content images since moment mid disk' o told script old new why remains
+  left_of o why (Some log) stopped lost = stopped log refl
+  left_of o why None stopped lost = lost refl
+
+  -- a run that this fault stopped
+  stopped_end : (o : Opened) (why : RunFault) → why ≢ ran.None → Went o why
+      → IsStoppedRun content images since moment disk disk' asked told script old new why out
+  stopped_end o why some went = record {
+    opened = o;
+    mid = mid;
+    opens = went.opens;
+    report = went.report;
+    left = left_of o why out.remains (went.stopped some) went.lost;
+  }
+
+  -- so it ends
+  pub run_end : (o : Opened) (why : RunFault) → Went o why
+      → EndsScript content images since moment disk disk' asked told script old new out (run_fault why)
+  run_end o ran.None went =
+      let whole = went.whole refl in record {
+        opened = o;
+        mid = mid;
+        opens = went.opens;
+        report = went.report;
+        log = whole.0;
+        remains = whole.1;
+        whole = whole.2;
+      }
+  run_end o ran.Input went = stopped_end o ran.Input (λ e. cc) went
+  run_end o ran.Output went = stopped_end o ran.Output (λ e. cc) went
+  run_end o ran.Memory went = inr (stopped_end o ran.Memory (λ e. cc) went)
+  run_end o ran.Disk went = inr (stopped_end o ran.Disk (λ e. cc) went)
+  run_end o (ran.Damaged n) went =
+      inr (n, refl, record { stopped = stopped_end o (ran.Damaged n) (λ e. cc) went; untold = went.damaged })
+
+  -- what the run ensures is so of an outcome that has its parts
+  pub went_as : (o : Opened) (r : Ran) → Opens content images since moment disk mid disk' asked o
+      → out.report.items ≡ [] → out.refused ≡ r.refused → out.remains ≡ r.remains
+      → (r.fault ≡ ran.None → (log : Remains) × (r.remains ≡ Some log)
+      × IsWhole content images since moment mid disk' o told script log old new r.refused)
+      → (r.fault ≢ ran.None → (log : Remains) → r.remains ≡ Some log
+      → IsStopped content images since moment mid disk' o told script log old new r.fault)
+      → (r.remains ≡ None → (r.fault ≡ ran.Memory) × IsLost content images since moment mid disk' o told script old new)
+      → (IsSome (content disk') → IsUndamaged r.fault)
+      → Went o r.fault
+  went_as o r opens report refused remains whole stopped lost damaged = record {
+    opens = opens;
+    report = report;
+    whole = λ none. let all = whole none in (
+      all.0,
+      remains ∙ all.1,
+      subst (λ (x : Bool). IsWhole content images since moment mid disk' o told script all.0 old new x) (sym refused) all.2,
+    );
+    stopped = λ some log is. stopped some log (sym remains ∙ is);
+    lost = λ is. lost (sym remains ∙ is);
+    damaged = damaged;
+  }

@@ -1,2 +1,4 @@
 pub mod FirstBytes
 pub mod Fates
+pub mod Laws
+pub mod Stores

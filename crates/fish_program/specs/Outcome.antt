@@ -1,15 +1,18 @@
--- How a run ends, and what each end tells of the words, the files, the output and the log.
+-- How a run ends, and what each end tells of the words, the files, the disk, the output and the log.
 use Rattle.std.specs.Prelude.{◌≡◌, ◌⊎◌, ℕ, List, [], Bool, Option, None, Ok, Err, IfSome, ⊤, if◌then◌else◌}
 use Rattle.std.specs.List.{list_any}
 use Rattle.fish_outside.specs.Told.{Files, Gained, GainedPart}
 use Rattle.fish_report.specs.ReportText.{is_refusal, report_text}
 use Rattle.fish_report.specs.declared.item.Item.{Item}
-use Rattle.fish_rule.specs.declared.table.Shape.{Shape}
-use Rattle.fish_run.specs.declared.running.RunFault.TheVariants as ran
+use Rattle.fish_recover.specs.Opening.{IsOfStore}
+use Rattle.fish_recover.specs.declared.refusal.Asked.{Asked}
+use Rattle.fish_recover.specs.declared.refusal.OpenRefusal.TheVariants as opening
+use Rattle.fish_run.specs.declared.fault.RunFault.TheVariants as ran
+use Rattle.fish_script.specs.declared.script.Block.{Block}
 use Rattle.fish_words.specs.Words as words
 use Rattle.fish_program.specs.Answer.{IsAnswer, answer_of}
-use Rattle.fish_program.specs.Limits.{shape_of}
-use Rattle.fish_program.specs.Runs.{IsStoppedRun, IsWholeRun, RefusesScript}
+use Rattle.fish_program.specs.Runs.{HasScript, IsDamagedRun, IsStoppedRun, IsUnread, IsWholeRun}
+use Rattle.fish_program.specs.Stores.{IsUnopened, shape_asked}
 use Rattle.fish_program.specs.declared.fault.Fault.{Fault}
 use Rattle.fish_program.specs.declared.fault.Fault.TheVariants as fault
 use Rattle.fish_program.specs.declared.outcome.Outcome.{Outcome}
@@ -19,6 +22,8 @@ abbrev pub status_of : Fault → Bool → ℕ
 status_of fault.None refused = if refused then 3 else 0
 status_of (fault.Usage cause) refused = 1
 status_of (fault.Script refusal) refused = 2
+status_of (fault.Store refusal) refused = 4
+status_of fault.Disk refused = 5
 status_of fault.Input refused = 6
 status_of fault.Output refused = 7
 status_of fault.Memory refused = 8
@@ -27,6 +32,8 @@ status_of fault.Memory refused = 8
 abbrev pub IsUsage : List (List ℕ) → Fault → Type 0
 IsUsage line (fault.Usage cause) = words.IsCommand line (Err cause)
 IsUsage line (fault.Script refusal) = words.IsSomeCommand line
+IsUsage line (fault.Store refusal) = words.IsSomeCommand line
+IsUsage line fault.Disk = words.IsSomeCommand line
 IsUsage line fault.None = words.IsSomeCommand line
 IsUsage line fault.Input = words.IsSomeCommand line
 IsUsage line fault.Output = words.IsSomeCommand line
@@ -48,7 +55,8 @@ pub record HasAnswer (answer : List ℕ → Item) (file : List ℕ) (told : Opti
 
 -- how a selection from a file ends by each fault: the whole text of the report was written, or a first part of it where
 -- the output failed, and else nothing
-abbrev pub EndsSelect : (List ℕ → Item) → List ℕ → Option Files → Option (List ℕ) → Option (List ℕ) → Outcome → Fault → Type 0
+abbrev pub EndsSelect : (List ℕ → Item) → List ℕ → Option Files → Option (List ℕ) → Option (List ℕ) → Outcome
+    → Fault → Type 0
 EndsSelect answer file told old new o fault.None =
     HasAnswer answer file told o × Gained old new (report_text o.report.items)
 EndsSelect answer file told old new o fault.Output =
@@ -57,41 +65,67 @@ EndsSelect answer file told old new o fault.Input = DidNothing old new o
 EndsSelect answer file told old new o fault.Memory = DidNothing old new o
 EndsSelect answer file told old new o (fault.Usage cause) = ⊥
 EndsSelect answer file told old new o (fault.Script refusal) = ⊥
+EndsSelect answer file told old new o (fault.Store refusal) = ⊥
+EndsSelect answer file told old new o fault.Disk = ⊥
 
 -- ---- `run`
 
--- how a run of the script in a file ends by each fault, on a log of this shape: the whole script ran, or it was refused,
--- or a fault came before it was read or stopped it
-abbrev pub EndsRun : List ℕ → Shape → Option Files → Option (List ℕ) → Option (List ℕ) → Outcome → Fault → Type 0
-EndsRun file shape told old new o fault.None = IsWholeRun file shape told old new o
-EndsRun file shape told old new o (fault.Script refusal) = RefusesScript file told refusal × DidNothing old new o
-EndsRun file shape told old new o fault.Input =
-    DidNothing old new o ⊎ IsStoppedRun file shape told old new ran.Input o
-EndsRun file shape told old new o fault.Output = IsStoppedRun file shape told old new ran.Output o
-EndsRun file shape told old new o fault.Memory =
-    DidNothing old new o ⊎ IsStoppedRun file shape told old new ran.Memory o
-EndsRun file shape told old new o (fault.Usage cause) = ⊥
+-- how a run ends whose script was read, by each fault, on a store of the shape that is asked for: the whole script
+-- ran; or no store was opened, and nothing was done; or a fault stopped the script's run
+abbrev pub EndsScript : {D : Type 0} → (D → Option (List ℕ)) → (D → List ℕ → Type 0) → (D → ℕ → List ℕ → Type 0)
+    → (D → ℕ) → D → D → Asked → Option Files → List Block → Option (List ℕ) → Option (List ℕ) → Outcome → Fault → Type 0
+EndsScript content images since moment disk disk' asked told script old new o fault.None =
+    IsWholeRun content images since moment disk disk' asked told script old new o
+EndsScript content images since moment disk disk' asked told script old new o (fault.Store refusal) =
+    (IsOfStore refusal × IsUnopened content images since moment disk disk' asked refusal × DidNothing old new o)
+    ⊎ ((n : ℕ) × (refusal ≡ opening.Damaged n)
+    × IsDamagedRun content images since moment disk disk' asked told script old new n o)
+EndsScript content images since moment disk disk' asked told script old new o fault.Disk =
+    (IsUnopened content images since moment disk disk' asked opening.DiskFault × DidNothing old new o)
+    ⊎ IsStoppedRun content images since moment disk disk' asked told script old new ran.Disk o
+EndsScript content images since moment disk disk' asked told script old new o fault.Input =
+    IsStoppedRun content images since moment disk disk' asked told script old new ran.Input o
+EndsScript content images since moment disk disk' asked told script old new o fault.Output =
+    IsStoppedRun content images since moment disk disk' asked told script old new ran.Output o
+EndsScript content images since moment disk disk' asked told script old new o fault.Memory =
+    (IsUnopened content images since moment disk disk' asked opening.OutOfMemory × DidNothing old new o)
+    ⊎ IsStoppedRun content images since moment disk disk' asked told script old new ran.Memory o
+EndsScript content images since moment disk disk' asked told script old new o (fault.Script refusal) = ⊥
+EndsScript content images since moment disk disk' asked told script old new o (fault.Usage cause) = ⊥
+
+-- how a run of the script in a file ends: the script wasn't read, and nothing was done, the disk not touched; or it was
+abbrev pub EndsRun : {D : Type 0} → (D → Option (List ℕ)) → (D → List ℕ → Type 0) → (D → ℕ → List ℕ → Type 0)
+    → (D → ℕ) → D → D → Asked → List ℕ → Option Files → Option (List ℕ) → Option (List ℕ) → Outcome → Type 0
+EndsRun content images since moment disk disk' asked file told old new o =
+    (IsUnread file told o.fault × (disk' ≡ disk) × DidNothing old new o)
+    ⊎ ((script : List Block) × HasScript file told script
+    × EndsScript content images since moment disk disk' asked told script old new o o.fault)
 
 -- ---- all commands
 
--- how a command ends
-abbrev pub Ends : words.Asked → Option Files → Option (List ℕ) → Option (List ℕ) → Outcome → Type 0
-Ends (words.select def value form header file) told old new o =
-    EndsSelect (answer_of def value form header file) file told old new o o.fault
-Ends (words.run store script pages bits) told old new o =
-    EndsRun script (shape_of pages bits) told old new o o.fault
+-- how a command ends: a `select` doesn't touch the disk
+abbrev pub Ends : {D : Type 0} → (D → Option (List ℕ)) → (D → List ℕ → Type 0) → (D → ℕ → List ℕ → Type 0)
+    → (D → ℕ) → D → D → words.Asked → Option Files → Option (List ℕ) → Option (List ℕ) → Outcome → Type 0
+Ends content images since moment disk disk' (words.select def value form header file) told old new o =
+    (disk' ≡ disk) × EndsSelect (answer_of def value form header file) file told old new o o.fault
+Ends content images since moment disk disk' (words.run store script pages bits) told old new o =
+    EndsRun content images since moment disk disk' (shape_asked pages bits) script told old new o
 
 -- the words are none, and this names why; or memory ran out before they were read
 abbrev pub IsNoCommand : List (List ℕ) → Fault → Type 0
 IsNoCommand line (fault.Usage cause) = words.IsCommand line (Err cause)
 IsNoCommand line fault.Memory = ⊤
 IsNoCommand line (fault.Script refusal) = ⊥
+IsNoCommand line (fault.Store refusal) = ⊥
+IsNoCommand line fault.Disk = ⊥
 IsNoCommand line fault.None = ⊥
 IsNoCommand line fault.Input = ⊥
 IsNoCommand line fault.Output = ⊥
 
--- a run ends as the command does that the words are, or nothing was done
-abbrev pub IsEnd : List (List ℕ) → Option Files → Option (List ℕ) → Option (List ℕ) → Outcome → Type 0
-IsEnd line told old new o =
-    ((asked : words.Asked) × words.IsCommand line (Ok asked) × Ends asked told old new o)
-    ⊎ (IsNoCommand line o.fault × DidNothing old new o)
+-- a run ends as the command does that the words are, or nothing was done, and the disk wasn't touched
+abbrev pub IsEnd : {D : Type 0} → (D → Option (List ℕ)) → (D → List ℕ → Type 0) → (D → ℕ → List ℕ → Type 0)
+    → (D → ℕ) → D → D → List (List ℕ) → Option Files → Option (List ℕ) → Option (List ℕ) → Outcome → Type 0
+IsEnd content images since moment disk disk' line told old new o =
+    ((asked : words.Asked) × words.IsCommand line (Ok asked)
+    × Ends content images since moment disk disk' asked told old new o)
+    ⊎ (IsNoCommand line o.fault × (disk' ≡ disk) × DidNothing old new o)

@@ -1,21 +1,25 @@
--- What a run of a script tells of the file that the script stands in, of the output and of the log.
-use Rattle.std.specs.Prelude.{◌≡◌, ◌≢◌, ℕ, List, [], Option, Some, None, IfSome, ⊤}
+-- What a run of a script tells of the file that the script stands in, of the disk, of the output and of the log.
+use Rattle.std.specs.Prelude.{◌≡◌, ◌≢◌, ℕ, List, [], Option, Some, None, IfSome, IsSome, ⊤}
 use Rattle.fish_outside.specs.Causes.{Rose}
 use Rattle.fish_outside.specs.Told.{Files}
+use Rattle.fish_recover.specs.declared.opened.Opened.{Opened}
+use Rattle.fish_recover.specs.declared.refusal.Asked.{Asked}
 use Rattle.fish_rule.specs.declared.close.Remains.{Remains}
-use Rattle.fish_rule.specs.declared.table.Shape.{Shape}
 use Rattle.fish_run.specs.Ran.{IsLost, IsStopped, IsWhole}
 use Rattle.fish_run.specs.Reading.{ReadsFile}
-use Rattle.fish_run.specs.declared.running.RunFault.{RunFault}
-use Rattle.fish_run.specs.declared.running.RunFault.TheVariants as ran
+use Rattle.fish_run.specs.declared.fault.RunFault.{RunFault}
+use Rattle.fish_run.specs.declared.fault.RunFault.TheVariants as ran
 use Rattle.fish_script.specs.Refusals.{IsRefusal, IsScript}
 use Rattle.fish_script.specs.declared.refusal.ScriptRefusal.{ScriptRefusal}
 use Rattle.fish_script.specs.declared.refusal.ScriptRefusal.TheVariants.{OutOfMemory}
 use Rattle.fish_script.specs.declared.script.Block.{Block}
 use Rattle.fish_program.specs.Limits.{longest_read}
+use Rattle.fish_program.specs.Stores.{Opens}
 use Rattle.fish_program.specs.declared.fault.Fault.{Fault}
 use Rattle.fish_program.specs.declared.fault.Fault.TheVariants as fault
 use Rattle.fish_program.specs.declared.outcome.Outcome.{Outcome}
+
+-- ---- the script
 
 -- the text of the file with this name is this script, where the files are still told
 pub record HasScript (file : List ℕ) (told : Option Files) (script : List Block) : Type 0 where
@@ -37,26 +41,72 @@ IsScriptFault file told before now fault.Input = Rose before now
 IsScriptFault file told before now fault.Memory = ⊤
 IsScriptFault file told before now fault.None = ⊥
 IsScriptFault file told before now fault.Output = ⊥
+IsScriptFault file told before now fault.Disk = ⊥
+IsScriptFault file told before now (fault.Store refusal) = ⊥
 IsScriptFault file told before now (fault.Usage cause) = ⊥
 
--- the whole script ran, and this log is left
-pub record IsWholeRun (file : List ℕ) (shape : Shape) (told : Option Files) (old new : Option (List ℕ)) (o : Outcome) : Type 0 where
-  pub script : List Block
-  pub read : HasScript file told script
+-- so a run may end that read none
+abbrev pub IsUnread : List ℕ → Option Files → Fault → Type 0
+IsUnread file told (fault.Script refusal) = RefusesScript file told refusal
+IsUnread file told fault.Input = ⊤
+IsUnread file told fault.Memory = ⊤
+IsUnread file told fault.None = ⊥
+IsUnread file told fault.Output = ⊥
+IsUnread file told fault.Disk = ⊥
+IsUnread file told (fault.Store refusal) = ⊥
+IsUnread file told (fault.Usage cause) = ⊥
+
+-- ---- its run
+
+-- the store was opened, the whole script ran, and this log is left
+pub record IsWholeRun
+    {D : Type 0}
+    (content : D → Option (List ℕ))
+    (images : D → List ℕ → Type 0)
+    (since : D → ℕ → List ℕ → Type 0)
+    (moment : D → ℕ)
+    (disk disk' : D) (asked : Asked) (told : Option Files) (script : List Block) (old new : Option (List ℕ))
+    (o : Outcome) : Type 0 where
+  pub opened : Opened
+  pub mid : D
+  pub opens : Opens content images since moment disk mid disk' asked opened
   pub report : o.report.items ≡ []
   pub log : Remains
   pub remains : o.remains ≡ Some log
-  pub whole : IsWhole told script shape log old new o.refused
+  pub whole : IsWhole content images since moment mid disk' opened told script log old new o.refused
 
 -- a log is left of a run that this fault stopped, or was lost for want of memory
-abbrev pub IsLeft : List Block → Shape → Option Files → Option (List ℕ) → Option (List ℕ) → RunFault → Option Remains → Type 0
-IsLeft script shape told old new why (Some log) = IsStopped told script shape log old new why
-IsLeft script shape told old new why None = (why ≡ ran.Memory) × IsLost told script old new
+abbrev pub IsLeft : {D : Type 0} → (D → Option (List ℕ)) → (D → List ℕ → Type 0) → (D → ℕ → List ℕ → Type 0) → (D → ℕ)
+    → D → D → Opened → Option Files → List Block → Option (List ℕ) → Option (List ℕ) → RunFault → Option Remains
+    → Type 0
+IsLeft content images since moment mid disk' o told script old new why (Some log) =
+    IsStopped content images since moment mid disk' o told script log old new why
+IsLeft content images since moment mid disk' o told script old new why None =
+    (why ≡ ran.Memory) × IsLost content images since moment mid disk' o told script old new
 
--- the script was read, and this fault stopped its run
-pub record IsStoppedRun (file : List ℕ) (shape : Shape) (told : Option Files) (old new : Option (List ℕ)) (why : RunFault) (o : Outcome)
-    : Type 0 where
-  pub script : List Block
-  pub read : HasScript file told script
+-- the store was opened, and this fault stopped the script's run
+pub record IsStoppedRun
+    {D : Type 0}
+    (content : D → Option (List ℕ))
+    (images : D → List ℕ → Type 0)
+    (since : D → ℕ → List ℕ → Type 0)
+    (moment : D → ℕ)
+    (disk disk' : D) (asked : Asked) (told : Option Files) (script : List Block) (old new : Option (List ℕ))
+    (why : RunFault) (o : Outcome) : Type 0 where
+  pub opened : Opened
+  pub mid : D
+  pub opens : Opens content images since moment disk mid disk' asked opened
   pub report : o.report.items ≡ []
-  pub left : IsLeft script shape told old new why o.remains
+  pub left : IsLeft content images since moment mid disk' opened told script old new why o.remains
+
+-- and it is a record below the table of which the disk has none: never one that is told in the end
+pub record IsDamagedRun
+    {D : Type 0}
+    (content : D → Option (List ℕ))
+    (images : D → List ℕ → Type 0)
+    (since : D → ℕ → List ℕ → Type 0)
+    (moment : D → ℕ)
+    (disk disk' : D) (asked : Asked) (told : Option Files) (script : List Block) (old new : Option (List ℕ))
+    (number : ℕ) (o : Outcome) : Type 0 where
+  pub stopped : IsStoppedRun content images since moment disk disk' asked told script old new (ran.Damaged number) o
+  pub untold : IsSome (content disk') → ⊥

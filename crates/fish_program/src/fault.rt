@@ -5,6 +5,8 @@ ghost use Rattle.fish_program.specs.Faults.{definition_kind, number_text, place_
 
 use fish_lang::LangRefusal;
 use fish_outside::FeedRefusal;
+use fish_recover::OpenRefusal;
+use fish_rule::Shape;
 use fish_run::RunFault;
 use fish_script::ScriptRefusal;
 use fish_words::{UsageCause, WordsRefusal};
@@ -20,6 +22,10 @@ pub enum Fault {
     Usage(UsageCause),
     /// The text of the script is none.
     Script(ScriptRefusal),
+    /// The disk has no store of the shape that is asked for, or what it has of a record is none.
+    Store(OpenRefusal),
+    /// The disk failed.
+    Disk,
     /// The input failed.
     Input,
     /// The output failed.
@@ -40,6 +46,8 @@ impl fmt::Display for Fault {
             Fault::None => write!(f, "fault none"),
             Fault::Usage(cause) => write!(f, "fault usage {}", Usage(*cause)),
             Fault::Script(refusal) => write!(f, "fault script {}", Script(*refusal)),
+            Fault::Store(refusal) => write!(f, "fault store {}", Store(*refusal)),
+            Fault::Disk => write!(f, "fault disk"),
             Fault::Input => write!(f, "fault input"),
             Fault::Output => write!(f, "fault output"),
             Fault::Memory => write!(f, "fault memory"),
@@ -112,6 +120,35 @@ fn place_of(refusal: ScriptRefusal) -> (&'static str, Place)
     }
 }
 
+/// Why a store isn't opened, likewise.
+#[derive(Clone, Copy)]
+struct Store(OpenRefusal);
+
+impl fmt::Display for Store {
+    ghost use Rattle.std.specs.Prelude.{Some};
+    ghost use Rattle.fish_program.specs.Faults.{store_kind};
+
+    ghost output = { λ store. Some (store_kind store.0) };
+
+    fn fmt<W: fmt::Write>(&self, f: &mut fmt::Formatter<W>) -> fmt::Result {
+        match self.0 {
+            OpenRefusal::NotAStore => write!(f, "not a store"),
+            OpenRefusal::Damaged { number } => write!(f, "damaged {number}"),
+            OpenRefusal::ShapeDiffers { kept, asked } => {
+                let Shape { pages, bucket_bits } = kept;
+                let asked_pages = asked.pages.unwrap_or(pages);
+                let asked_bits = asked.bucket_bits.unwrap_or(bucket_bits);
+                write!(
+                    f,
+                    "shape {pages} {bucket_bits} asked {asked_pages} {asked_bits}"
+                )
+            }
+            OpenRefusal::DiskFault => write!(f, "disk"),
+            OpenRefusal::OutOfMemory => write!(f, "out of memory"),
+        }
+    }
+}
+
 /// Why a definition was refused, likewise.
 #[derive(Clone, Copy)]
 struct Definition(LangRefusal);
@@ -173,6 +210,21 @@ impl From<ScriptRefusal> for Fault {
     }
 }
 
+impl From<OpenRefusal> for Fault {
+    ghost use Rattle.std.specs.Prelude.{◌≡◌};
+    ghost use Rattle.fish_program.specs.Faults.{open_fault};
+
+    ghost from_gives = { λ refusal made. made ≡ open_fault refusal };
+
+    fn from(refusal: OpenRefusal) -> Fault {
+        match refusal {
+            OpenRefusal::DiskFault => Fault::Disk,
+            OpenRefusal::OutOfMemory => Fault::Memory,
+            _ => Fault::Store(refusal),
+        }
+    }
+}
+
 impl From<RunFault> for Fault {
     ghost use Rattle.std.specs.Prelude.{◌≡◌};
     ghost use Rattle.fish_program.specs.Faults.{run_fault};
@@ -185,6 +237,8 @@ impl From<RunFault> for Fault {
             RunFault::Input => Fault::Input,
             RunFault::Output => Fault::Output,
             RunFault::Memory => Fault::Memory,
+            RunFault::Disk => Fault::Disk,
+            RunFault::Damaged { number } => Fault::Store(OpenRefusal::Damaged { number }),
         }
     }
 }

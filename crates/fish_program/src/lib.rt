@@ -6,10 +6,12 @@
 
 mod command;
 mod fault;
+mod law;
 mod outcome;
 mod script;
 mod selection;
 
 pub use command::{run, run_gated};
 pub use fault::Fault;
+pub use law::law_runs_keep;
 pub use outcome::Outcome;

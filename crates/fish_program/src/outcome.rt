@@ -21,7 +21,7 @@ pub struct Outcome {
     pub refused: bool,
     /// What `select` tells. What `run` tells is written block by block, and isn't kept.
     pub report: Report,
-    /// The log of a `run`, where it was closed.
+    /// The part of a `run`'s log that its last table had, where it was closed.
     pub remains: Option<Remains>,
 }
 
@@ -88,6 +88,8 @@ fn status(fault: Fault, refused: bool) -> u8
         Fault::None => { if refused { 3 } else { 0 } }
         Fault::Usage(_) => 1,
         Fault::Script(_) => 2,
+        Fault::Store(_) => 4,
+        Fault::Disk => 5,
         Fault::Input => 6,
         Fault::Output => 7,
         Fault::Memory => 8,

@@ -3,60 +3,61 @@
 ghost use Rattle.std.specs.Prelude.{◌≡◌, ◌≤◌, [], IfErr, IfOk};
 ghost use Rattle.fish_outside.specs.Causes.{Rose};
 ghost use Rattle.fish_outside.specs.Told.{StillTold};
+ghost use Rattle.fish_recover.specs.Stores.{asked_shape};
 ghost use Rattle.fish_rule.specs.Start.{IsShape};
+ghost use Rattle.fish_script.specs.Runnable.{CanRun};
 ghost use Rattle.fish_program.specs.Faults.{run_fault};
-ghost use Rattle.fish_program.specs.Limits.{shape_of};
-ghost use Rattle.fish_program.specs.Outcome.{EndsRun, status_of};
+ghost use Rattle.fish_program.specs.Outcome.{EndsRun, EndsScript, status_of};
 ghost use Rattle.fish_program.specs.Runs.{HasScript, IsScriptFault};
+ghost use Rattle.fish_program.specs.Stores.{shape_asked};
 
 use crate::fault::Fault;
 use crate::outcome::{Outcome, no_report};
+use fish_disk::Disk;
 use fish_lanes::Gate;
 use fish_outside::{Host, Sink};
-use fish_rule::Shape;
+use fish_recover::{Asked, open_store};
 use fish_run::{Ran, read_file, run_script};
-use fish_script::{MAX_SCRIPT, Script, law_scripts_can_run, parse_script};
+use fish_script::{Block, MAX_SCRIPT, Script, law_scripts_can_run, parse_script};
 use fish_value::Text;
 use fish_words::Run;
 use std::alloc::Global;
 use std::thread::Threads;
 
-/// How many pages a log has where the words don't say it.
-const PAGES: u16 = 8;
-
-/// How many bits choose a bucket where the words don't say it.
-const BITS: u8 = 12;
-
-/// Runs a `run`: its script is read, and then run on a log in memory.
-pub(crate) fn answer_run<R: Threads + Sync, H: Host, W: Sink, G: Gate + Sync>(
+/// Runs a `run`: its script is read, and then run over the store on a disk.
+pub(crate) fn answer_run<R: Threads + Sync, H: Host, D: Disk + Send, W: Sink, G: Gate + Sync>(
     rt: &R,
     alloc: Global,
     command: &Run,
     host: &mut H,
+    disk: &mut D,
     out: &mut W,
     gate: &G,
 ) -> Outcome
     ensures status { result.status ≡ status_of result.fault result.refused }
-    ensures ended { EndsRun command.now.script (shape_of command.now.pages command.now.bits) (H.files host.new)
-        (W.written out.old) (W.written out.new) result result.fault }
+    ensures ended { EndsRun D.content D.images D.since D.moment disk.old disk.new
+        (shape_asked command.now.pages command.now.bits) command.now.script (H.files host.new) (W.written out.old)
+        (W.written out.new) result }
     ensures told { StillTold (H.files host.old) (H.files host.new) }
     ensures input { result.fault ≡ Fault.Input → Rose (H.faults host.old) (H.faults host.new) }
     ensures output { result.fault ≡ Fault.Output → Rose (W.faults out.old) (W.faults out.new) }
+    ensures disk { result.fault ≡ Fault.Disk → Rose (D.faults disk.old) (D.faults disk.new) }
 {
     match read_script(alloc, host, &command.script) {
         Ok(script) => {
             law_scripts_can_run();
-            let ran = run_script(
+            let outcome = run_store(
                 rt,
                 alloc,
-                shape_of(command),
+                asked_by(command),
                 script.as_slice(),
                 host,
+                disk,
                 out,
                 gate,
             );
             drop(script);
-            ended(alloc, ran)
+            outcome
         }
         Err(fault) => Outcome::failed(alloc, fault),
     }
@@ -75,14 +76,44 @@ fn read_script<H: Host>(alloc: Global, host: &mut H, name: &Text) -> Result<Scri
     Ok(script)
 }
 
-/// How large the log is to be.
-fn shape_of(command: &Run) -> Shape
-    ensures shape { IsShape result }
-    ensures is { result ≡ shape_of command.now.pages command.now.bits }
+/// The shape that is asked for.
+fn asked_by(command: &Run) -> Asked
+    ensures shape { IsShape (asked_shape result) }
+    ensures is { result ≡ shape_asked command.now.pages command.now.bits }
 {
-    Shape {
-        pages: command.pages.unwrap_or(PAGES),
-        bucket_bits: command.bits.unwrap_or(BITS),
+    Asked {
+        pages: command.pages,
+        bucket_bits: command.bits,
+    }
+}
+
+/// Opens the store on a disk, and runs a script over it.
+fn run_store<R: Threads + Sync, H: Host, D: Disk + Send, W: Sink, G: Gate + Sync>(
+    rt: &R,
+    alloc: Global,
+    asked: Asked,
+    script: &[Block],
+    host: &mut H,
+    disk: &mut D,
+    out: &mut W,
+    gate: &G,
+) -> Outcome
+    requires shape { IsShape (asked_shape asked) }
+    requires script { CanRun script.now }
+    ensures status { result.status ≡ status_of result.fault result.refused }
+    ensures ended { EndsScript D.content D.images D.since D.moment disk.old disk.new asked (H.files host.new) script.now
+        (W.written out.old) (W.written out.new) result result.fault }
+    ensures told { StillTold (H.files host.old) (H.files host.new) }
+    ensures input { result.fault ≡ Fault.Input → Rose (H.faults host.old) (H.faults host.new) }
+    ensures output { result.fault ≡ Fault.Output → Rose (W.faults out.old) (W.faults out.new) }
+    ensures disk { result.fault ≡ Fault.Disk → Rose (D.faults disk.old) (D.faults disk.new) }
+{
+    match open_store(alloc, asked, disk) {
+        Ok(opened) => {
+            let ran = run_script(rt, alloc, opened, script, host, disk, out, gate);
+            ended(alloc, ran)
+        }
+        Err(refusal) => Outcome::failed(alloc, Fault::from(refusal)),
     }
 }
 
