@@ -1,5 +1,6 @@
--- Why the arguments of the process give no words.
-use Rattle.std.specs.Prelude.{◌≡◌, ◌≢◌}
+-- What the arguments of the process are: the name of a store, or no words.
+use Rattle.std.specs.Prelude.{◌≡◌, ◌≢◌, ℕ, List, [], ◌∷◌, codes, if◌then◌else◌}
+use Rattle.std.specs.Str.{bytes_eq}
 use Rattle.std.specs.declared.io.ErrorKind.{ErrorKind}
 use Rattle.std.specs.declared.io.ErrorKind.TheVariants.{OutOfMemory}
 use Rattle.fish_program.specs.declared.fault.Fault.{Fault}
@@ -10,3 +11,9 @@ use Rattle.fish_words.specs.declared.refusal.UsageCause.TheVariants as cause
 pub record IsArgsFault (kind : ErrorKind) (why : Fault) : Type 0 where
   pub memory : kind ≡ OutOfMemory → why ≡ fault.Memory
   pub words : kind ≢ OutOfMemory → why ≡ fault.Usage cause.Words
+
+-- the name of the store that words speak of: the word after `run`, and of other words none
+abbrev pub store_name : List (List ℕ) → List ℕ
+store_name [] = []
+store_name (verb ∷ []) = []
+store_name (verb ∷ store ∷ rest) = if bytes_eq verb (codes "run") then store else []

@@ -3,7 +3,7 @@
 ghost use Rattle.std.specs.IoError.{error_kind};
 ghost use Rattle.std.specs.Prelude.{◌≡◌, IfErr, IfOk, MatchResult, drop, map, string_bytes};
 ghost use Rattle.std.specs.Vec.Iter.{into_iter_items};
-ghost use Rattle.fishstore.specs.Args.{IsArgsFault};
+ghost use Rattle.fishstore.specs.Args.{IsArgsFault, store_name};
 
 use fish_program::Fault;
 use fish_value::{Text, Texts};
@@ -38,6 +38,19 @@ fn behind_name(alloc: Global, args: Args) -> Result<Texts, AllocError>
         words.push(Text::from_string(word))?;
     }
     Ok(words)
+}
+
+/// The name of the store that words speak of: the word after `run`. Of other words it is empty.
+pub fn store_of(alloc: Global, words: &[Text]) -> Result<Text, AllocError>
+    ensures { IfOk result (λ name. name ≡ store_name words.now) }
+{
+    let [verb, store, ..] = words else {
+        return Text::copy_of(alloc, "");
+    };
+    match verb.as_str() {
+        "run" => store.again(alloc),
+        _ => Text::copy_of(alloc, ""),
+    }
 }
 
 /// Words that are no text are no command.
