@@ -1,7 +1,8 @@
 //! Commands over files and an output in memory: how they end, and what is written, worked out by hand.
 
 use crate::expecting::{expect, expect_text};
-use crate::outside::{host_of, sink_of, told_of, words_of};
+use crate::outside::{disk_of, host_of, sink_of, told_of, words_of};
+use fish_disk::MemoryDisk;
 use fish_outside::{MemoryHost, MemorySink};
 use fish_program::run;
 use fish_run::read_file;
@@ -75,8 +76,8 @@ scan t = \"Push\"\n";
 /// What it writes before the file.
 const REGISTERED: &str = "created\nregistered t id 0 from 0\n";
 
-/// A command, and how it ends: its words, its script, which feed and which write fail, its status with its fault, whether
-/// something was refused and how many entries its log has, and what is written.
+/// A command on an empty disk, and how it ends: its words, its script, which feed and which write fail, its status
+/// with its fault, whether something was refused and how many entries its log has, and what is written.
 type End = (
     &'static str,
     &'static str,
@@ -158,10 +159,11 @@ fn ended_by<R: Threads + Sync>(
     alloc: Global,
     line: &str,
     host: &mut MemoryHost,
+    disk: &mut MemoryDisk,
     out: &mut MemorySink,
 ) -> Result<String, AllocError> {
     let words = words_of(alloc, line)?;
-    let outcome = run(rt, alloc, words.as_slice(), host, out);
+    let outcome = run(rt, alloc, words.as_slice(), host, disk, out);
     told_of(alloc, &outcome, out)
 }
 
@@ -173,8 +175,9 @@ fn expect_end<R: Threads + Sync + Abort>(
 ) -> Result<(), AllocError> {
     let (line, script, feed, write, end, written) = *row;
     let mut host = host_of(alloc, script, FILES, feed)?;
+    let mut disk = disk_of(alloc, b"", None)?;
     let mut out = sink_of(alloc, write)?;
-    let found = ended_by(rt, alloc, line, &mut host, &mut out)?;
+    let found = ended_by(rt, alloc, line, &mut host, &mut disk, &mut out)?;
     let want = format!(in alloc; "{end}\n{written}")?;
     expect_text(rt, line, found.as_str(), want.as_str());
     Ok(())

@@ -1,10 +1,11 @@
-//! Lanes that a gate holds: one scans while the record of another has its number and isn't published yet. So the two run at
-//! once, and what the scan tells doesn't depend on who comes first. The first lane is the control pass's; the others have threads
-//! of their own, and run beside each other too.
+//! Lanes that a gate holds: one scans while the record of another has its number and isn't published yet. So the two
+//! run at once, and what the scan tells doesn't depend on who comes first. The first lane is the control pass's; the
+//! others have threads of their own, and run beside each other too.
 
 use crate::expecting::{expect, expect_text};
 use crate::holds::{Hold, HoldGate};
-use crate::outside::{host_of, sink_of, told_of, words_of};
+use crate::outside::{disk_of, host_of, sink_of, told_of, words_of};
+use fish_disk::MemoryDisk;
 use fish_lanes::Point;
 use fish_outside::{MemoryHost, MemorySink};
 use fish_program::run_gated;
@@ -47,8 +48,8 @@ scan t = \"Push\" in 0..2 found 2 open none\n\
 0 21 {\"type\":\"Push\",\"n\":6}\n\
 closed 2\n";
 
-/// The first lane waits in front of its first statement behind the registration until the second one has claimed, and the
-/// second one waits there until the first one has scanned.
+/// The first lane waits in front of its first statement behind the registration until the second one has claimed, and
+/// the second one waits there until the first one has scanned.
 const TWO_HOLDS: &[Hold] = &[
     Hold {
         lane: 1,
@@ -92,8 +93,8 @@ scan t = \"Push\" in 0..1 found 0 open 0\n\
 end\n\
 closed 1\n";
 
-/// The third lane waits until the second one has claimed, which waits there until the third one has scanned; the first one
-/// waits until the second one is done.
+/// The third lane waits until the second one has claimed, which waits there until the third one has scanned; the
+/// first one waits until the second one is done.
 const THREE_HOLDS: &[Hold] = &[
     Hold {
         lane: 3,
@@ -138,11 +139,12 @@ fn ended_by<R: Threads + Sync>(
     rt: &R,
     alloc: Global,
     host: &mut MemoryHost,
+    disk: &mut MemoryDisk,
     out: &mut MemorySink,
     gate: &HoldGate,
 ) -> Result<String, AllocError> {
     let words = words_of(alloc, "run|store|script|--pages|1|")?;
-    let outcome = run_gated(rt, alloc, words.as_slice(), host, out, gate);
+    let outcome = run_gated(rt, alloc, words.as_slice(), host, disk, out, gate);
     told_of(alloc, &outcome, out)
 }
 
@@ -155,8 +157,9 @@ fn expect_ran<R: Threads + Sync + Abort>(
     let (script, holds, written) = *row;
     let gate = gate_of(alloc, holds)?;
     let mut host = host_of(alloc, script, FILES, None)?;
+    let mut disk = disk_of(alloc, b"", None)?;
     let mut out = sink_of(alloc, None)?;
-    let found = ended_by(rt, alloc, &mut host, &mut out, &gate)?;
+    let found = ended_by(rt, alloc, &mut host, &mut disk, &mut out, &gate)?;
     expect_text(rt, script, found.as_str(), written);
     expect(rt, "let go", &gate.let_go(), &0);
     Ok(())

@@ -12,3 +12,5 @@ mod gates;
 mod holds;
 #[cfg(test)]
 mod outside;
+#[cfg(test)]
+mod stores;

@@ -1,5 +1,6 @@
-//! Words, files and an output in memory, and how a command over them is told.
+//! Words, files, a disk and an output in memory, and how a command over them is told.
 
+use fish_disk::MemoryDisk;
 use fish_outside::{HostFile, HostFiles, MemoryHost, MemorySink};
 use fish_program::Outcome;
 use fish_value::{Bytes, Numbers64, Text, Texts};
@@ -34,6 +35,16 @@ pub(crate) fn sink_of(alloc: Global, fails: Option<u64>) -> Result<MemorySink, A
     Ok(MemorySink::new(alloc, numbers_of(alloc, fails)?))
 }
 
+/// The disk with these bytes, one of whose calls may fail.
+pub(crate) fn disk_of(
+    alloc: Global,
+    bytes: &[u8],
+    fails: Option<u64>,
+) -> Result<MemoryDisk, AllocError> {
+    let bytes = Bytes::copy_of(alloc, bytes)?;
+    Ok(MemoryDisk::new(alloc, bytes, numbers_of(alloc, fails)?))
+}
+
 /// A number as a list, where there is one.
 fn numbers_of(alloc: Global, number: Option<u64>) -> Result<Numbers64, AllocError> {
     let mut numbers = Numbers64::new(alloc);
@@ -52,15 +63,15 @@ pub(crate) fn words_of(alloc: Global, line: &str) -> Result<Texts, AllocError> {
     Ok(words)
 }
 
-/// How a command ended: its status, its fault, whether something was refused, how many entries its log has; and what was
-/// written.
+/// How a command ended: its status, its fault, whether something was refused, how many entries the log has that it
+/// left; and what was written.
 pub(crate) fn told_of(
     alloc: Global,
     outcome: &Outcome,
     out: &MemorySink,
 ) -> Result<String, AllocError> {
     let entries = match &outcome.remains {
-        Some(remains) => remains.log.len(),
+        Some(remains) => remains.base as usize + remains.log.len(),
         None => 0,
     };
     let written = Text::from_bytes(alloc, out.as_bytes())?;
