@@ -1,7 +1,8 @@
 #!/usr/bin/env bash
 # Times `fishstore run` on a large file of events with four definitions beside sqlite3 with four indexed columns and beside
 # a plain Rust program over `serde_json` that keeps a map of positions, all in one run on one core, by processor time:
-# ingest in MB a second, one scan in milliseconds, peak memory. Then it times a block of four lanes beside one lane.
+# ingest in MB a second, one scan in milliseconds, peak memory. Each `run` makes a new store in data/ and ends with its
+# checkpoint. Then it times a block of four lanes beside one lane.
 #
 # usage: [PAGES=128] [RUNS=3] bench/run.sh [BYTES]        (67108864 bytes where none are given, and no more)
 #
@@ -16,7 +17,7 @@ scans=20
 [ -x "$program" ] || { echo "bench: $program is missing: run 'make build' first" >&2; exit 1; }
 file=$(events "${1:-67108864}")
 size=$(stat -c %s "$file")
-store="store --pages ${PAGES:-128} --bits 16"
+store="data/store --pages ${PAGES:-128} --bits 16"
 
 definitions() {
   printf 'register type as take type\nregister login as take actor.login\n'
@@ -58,7 +59,9 @@ sqlite=$(command -v sqlite3 || true)
 
 rm -f data/*-ingest.runs data/*-scan.runs data/lanes*.runs
 for _ in $(seq "$runs"); do
+  rm -f data/store
   measure ours-ingest "$program" run $store data/ingest.fish
+  rm -f data/store
   measure ours-scan "$program" run $store data/scan.fish
   [ -z "$sqlite" ] || measure sqlite-ingest "$sqlite" :memory: < data/ingest.sql
   [ -z "$sqlite" ] || measure sqlite-scan "$sqlite" :memory: < data/scan.sql
@@ -90,7 +93,9 @@ elapsed() {
   cat data/time >> "data/$name.runs"
 }
 for _ in $(seq "$runs"); do
+  rm -f data/store
   elapsed lanes1 "$program" run $store data/ingest.fish
+  rm -f data/store
   elapsed lanes4 "$program" run $store data/lanes.fish
 done
 read -r one _ <<< "$(best lanes1)"
