@@ -1,6 +1,6 @@
 -- What a scan or a plan of one answers is told of the one log.
 use Rattle.std.proofs.Common.{◌≡◌, ℕ, ◌+◌, ◌<◌, ◌≤◌, zero, suc, List, [], ◌∷◌, ◌++◌, length, map, max, min, refl, sym, ap, ◌∙◌, subst}
-use Rattle.std.proofs.Common.{append_assoc, inl, inr, ◌⊎◌, ⊎_elim, arith, Option, Some, None, slice_get, cond}
+use Rattle.std.proofs.Common.{append_assoc, inl, inr, ⊎_elim, arith, Option, Some, None, slice_get, cond}
 use Rattle.std.proofs.Common.{nat_lt, true, false, Bool}
 use Rattle.std.proofs.Math.Decide.{ℕ_discrete, dec_lt}
 use Rattle.std.proofs.lemmas.Option.{same_Some}

@@ -1,5 +1,5 @@
 -- What the statements so far tell, and what one item more tells behind them.
-use Rattle.std.proofs.Common.{◌≡◌, ℕ, ◌+◌, ◌<◌, ◌≤◌, suc, List, [], ◌∷◌, length, refl}
+use Rattle.std.proofs.Common.{◌≡◌, ℕ, ◌+◌, ◌<◌, ◌≤◌, suc, List, [], ◌∷◌, refl}
 use Rattle.std.proofs.Common.{ap, ◌∙◌, subst, inl, inr, ◌⊎◌, ⊎_elim, arith, None, Some}
 use Rattle.fish_lanes.proofs.Answered.{plan_told, refused_told, scan_told}
 use Rattle.fish_lanes.proofs.Fitting.{refused_version}
@@ -13,10 +13,9 @@ pub use Rattle.fish_lanes.specs.Advancing.{HasTold}
 use Rattle.fish_lanes.specs.Gains.{AreTold}
 use Rattle.fish_lanes.specs.Published.{IsPublished}
 use Rattle.fish_lanes.specs.Records.{Ascends, HasNumber, LaneRow, entry_of}
-use Rattle.fish_lanes.specs.Running.{IsFullItem}
 use Rattle.fish_lanes.specs.Scanning.{TellsRefused}
-use Rattle.fish_lanes.specs.Seen.{IsSeen, IsShown, Shown, settled}
-use Rattle.fish_lanes.specs.Sizes.{IsEarlier, IsSizeBetween, IsSizeOf, TellsClaim, TellsShut, claim_of}
+use Rattle.fish_lanes.specs.Seen.{IsSeen}
+use Rattle.fish_lanes.specs.Sizes.{IsEarlier, IsSizeBetween, IsSizeOf, TellsClaim, claim_of}
 use Rattle.fish_lanes.specs.Spans.{IsWithinSpan, Span}
 use Rattle.fish_lanes.specs.Telling.{TellsItem}
 use Rattle.fish_lanes.specs.declared.work.Work.{Work}
@@ -31,7 +30,6 @@ use Rattle.fish_rule.specs.LoadSteps.{IsAlone}
 use Rattle.fish_rule.specs.Logs.{Learns, TellsMark}
 use Rattle.fish_rule.specs.Parts.{IsEntryWord}
 use Rattle.fish_rule.specs.Regions.{code}
-use Rattle.fish_rule.specs.Views.{AllOf, Among}
 use Rattle.fish_rule.specs.World.{high}
 use Rattle.fish_rule.specs.declared.view.Epoch.TheVariants.{Out}
 use Rattle.fish_rule.specs.declared.view.Key.{Key}

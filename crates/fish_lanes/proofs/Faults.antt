@@ -1,5 +1,5 @@
 -- Why a statement has no item.
-use Rattle.std.proofs.Common.{◌≡◌, ◌≢◌, None, Option, Some, Result, Ok, Err, sym, ap, ◌∙◌, refl, subst}
+use Rattle.std.proofs.Common.{◌≡◌, ◌≢◌, None, Some, Result, Ok, Err, ◌∙◌, refl}
 use Rattle.std.proofs.lemmas.Option.{same_Some}
 use Rattle.std.specs.Prelude.{IfErr, IfOk}
 use Rattle.fish_lanes.proofs.Parts.{scan_gains}

@@ -1,7 +1,5 @@
 -- The statements of a lane behind the first, from their start to their end.
-use Rattle.std.proofs.Common.{◌≡◌, ◌≢◌, ℕ, ◌≤◌, List, [], Option, ⊎_elim, sym, ap, ◌∙◌, subst, refl, arith}
-use Rattle.std.specs.Prelude.{IsSome}
-use Rattle.fish_cold.specs.declared.cold.Cold.{Cold}
+use Rattle.std.proofs.Common.{◌≡◌, ◌≢◌, ℕ, ◌≤◌, List, [], ⊎_elim, sym, ◌∙◌, subst, refl, arith}
 use Rattle.fish_ingest.proofs.IngestionStart.{idle_law}
 use Rattle.fish_lanes.proofs.Advancing.{run_fewer}
 use Rattle.fish_lanes.proofs.Lists.{some_once}
@@ -22,7 +20,6 @@ use Rattle.fish_rule.proofs.laws.Learning.{learns_self}
 use Rattle.fish_rule.specs.Passes.{view}
 use Rattle.fish_rule.specs.Views.{AllOf}
 use Rattle.fish_rule.specs.declared.table.Log.{Log}
-use Rattle.fish_rule.specs.declared.view.Key.{Key}
 use Rattle.fish_rule.specs.declared.view.View.{View}
 use Rattle.fish_whole.specs.Whole.{Whole}
 

@@ -1,10 +1,10 @@
 -- Reading pages of a file, and what it had before the table.
-use Rattle.std.proofs.Common.{◌≡◌, ℕ, List, Option, Some, None, refl, sym, ap, ◌∙◌, subst}
+use Rattle.std.proofs.Common.{◌≡◌, ℕ, List, Option, Some, None, sym, ap, ◌∙◌, subst}
 use Rattle.std.specs.Prelude.{IsSome}
 use Rattle.fish_cold.specs.declared.cold.Cold.{Cold}
 use Rattle.fish_disk.specs.Content.{StillReads}
 use Rattle.fish_image.specs.Reached.{Reached}
-use Rattle.fish_lanes.specs.Pasts.{IsHere, WasHere}
+use Rattle.fish_lanes.specs.Pasts.{IsHere}
 use Rattle.fish_rule.specs.declared.view.Key.{Key}
 use Rattle.fish_scan.proofs.Carrying.{carried_last, stays_both, stays_none}
 use Rattle.fish_store.proofs.Running.{on_table, told_still}

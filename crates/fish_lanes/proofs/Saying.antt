@@ -7,7 +7,7 @@ use Rattle.fish_lanes.proofs.Registrations.{after_more, registry_later}
 pub use Rattle.fish_lanes.specs.Advancing.{HasSaid}
 use Rattle.fish_lanes.specs.Doing.{IsFit}
 use Rattle.fish_lanes.specs.Plans.{KnowsRows, TellsPlans}
-use Rattle.fish_lanes.specs.Registering.{Registry, after, after_all}
+use Rattle.fish_lanes.specs.Registering.{Registry, after}
 use Rattle.fish_lanes.specs.Running.{IsFree, SayPlans}
 use Rattle.fish_lanes.specs.Spans.{answers}
 use Rattle.fish_lanes.specs.declared.work.Work.{Work}

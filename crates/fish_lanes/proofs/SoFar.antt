@@ -21,7 +21,7 @@ use Rattle.fish_lanes.specs.Records.{LaneRow, contents}
 use Rattle.fish_lanes.specs.Running.{HasRun, IsFree, IsShared, SayPlans}
 use Rattle.fish_lanes.specs.Pasts.{anywhere}
 use Rattle.fish_lanes.specs.Spans.{IsAnswer, answers}
-use Rattle.fish_lanes.specs.Telling.{content_of, count_of}
+use Rattle.fish_lanes.specs.Telling.{content_of}
 use Rattle.fish_lanes.specs.declared.statements.Stop.{Stop}
 use Rattle.fish_lanes.specs.declared.statements.Stop.TheVariants as stop
 use Rattle.fish_lanes.specs.declared.work.LaneFault.{LaneFault}

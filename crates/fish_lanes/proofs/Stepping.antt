@@ -1,8 +1,7 @@
 -- How an open store goes on over a step that leaves its file.
-use Rattle.std.proofs.Common.{◌≡◌, ℕ, List, Option, refl}
+use Rattle.std.proofs.Common.{ℕ, List, Option, refl}
 use Rattle.fish_catalog.specs.declared.row.CatRow.{CatRow}
 use Rattle.fish_disk.proofs.Moments.{leaves_none}
-use Rattle.fish_flush.specs.Rows.{HaveGrown}
 use Rattle.fish_rule.specs.Logs.{Learns}
 use Rattle.fish_rule.specs.declared.view.View.{View}
 use Rattle.fish_store.proofs.Same.{still_self, table_same}

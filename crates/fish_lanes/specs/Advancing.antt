@@ -1,7 +1,7 @@
 -- How far the statements of a lane are done. Private clauses speak of it.
 use Rattle.std.specs.Prelude.{ℕ, ◌≡◌, ◌⊎◌, ◌+◌, ◌≤◌, List, [], ◌∷◌, ◌++◌, Option, Some, Result, Ok, Err, length, take}
 use Rattle.fish_cold.specs.declared.cold.Cold.{Cold}
-use Rattle.fish_lanes.specs.Doing.{IsItem, IsPart, IsStopped}
+use Rattle.fish_lanes.specs.Doing.{IsItem, IsStopped}
 use Rattle.fish_lanes.specs.Gains.{Gains}
 use Rattle.fish_lanes.specs.Pasts.{WasHere, anywhere}
 use Rattle.fish_lanes.specs.Published.{IsPublished}
@@ -15,7 +15,6 @@ use Rattle.fish_lanes.specs.Telling.{TellsItem, content_of, count_of}
 use Rattle.fish_lanes.specs.declared.lane.Lane.{Lane}
 use Rattle.fish_lanes.specs.declared.lane.Seated.{Seated}
 use Rattle.fish_lanes.specs.declared.statements.Stop.{Stop}
-use Rattle.fish_lanes.specs.declared.statements.Stop.TheVariants as stop
 use Rattle.fish_lanes.specs.declared.work.LaneFault.{LaneFault}
 use Rattle.fish_lanes.specs.declared.work.LaneFault.TheVariants as fault
 use Rattle.fish_lanes.specs.declared.work.Work.{Work}

@@ -1,6 +1,5 @@
 -- What was left of the lane is done.
-use Rattle.std.proofs.Common.{◌≡◌, ◌∙◌, ℕ, List, Option, refl, sym, subst, arith}
-use Rattle.fish_cold.specs.declared.cold.Cold.{Cold}
+use Rattle.std.proofs.Common.{◌∙◌, List, refl, sym, subst, arith}
 use Rattle.fish_lanes.proofs.Finished.{on_ended, on_far, short_stops}
 use Rattle.fish_lanes.specs.Advancing.{IsSoFar}
 use Rattle.fish_lanes.specs.Pasts.{WasHere}

@@ -1,5 +1,5 @@
 -- What is committed is what an item tells, and the control pass goes on.
-use Rattle.std.proofs.Common.{◌≡◌, ap, sym, ◌∙◌, refl}
+use Rattle.std.proofs.Common.{refl}
 use Rattle.fish_flush.proofs.Lasting.{known_held}
 use Rattle.fish_lanes.proofs.Committing.{commit_fits, reads_control}
 use Rattle.fish_rule.specs.Passes.{view}

@@ -1,5 +1,5 @@
 -- A statement on definitions, a checkpoint, or any other one.
-use Rattle.std.proofs.Common.{◌≡◌, ℕ, ◌∙◌, Result, refl, sym, subst}
+use Rattle.std.proofs.Common.{Result, refl, sym, subst}
 use Rattle.std.specs.Prelude.{IfErr, IfOk}
 use Rattle.fish_epoch.proofs.Reading.{defs_later}
 use Rattle.fish_ingest.proofs.IngestionStart.{idle_law}
@@ -14,7 +14,6 @@ use Rattle.fish_lanes.proofs.Single.{end_closed, end_rolls}
 use Rattle.fish_lanes.proofs.SoFar.{items_anywhere, items_fewer, shared_free, shared_of}
 use Rattle.fish_lanes.proofs.Stepping.{rows_self, stays_pass}
 use Rattle.fish_lanes.specs.Controlling.{IsCommitted, IsControlled, IsPartControlled}
-use Rattle.fish_lanes.specs.Doing.{IsItem}
 use Rattle.fish_lanes.specs.Pasts.{IsHere, anywhere}
 use Rattle.fish_lanes.specs.Registering.{IsAcceptable}
 use Rattle.fish_lanes.specs.declared.work.LaneFault.{LaneFault}

@@ -1,5 +1,5 @@
 -- A statement more, or the end.
-use Rattle.std.proofs.Common.{◌≡◌, ◌≢◌, ◌+◌, List, [], ◌∷◌, ◌++◌, take, drop, sym, ap, ◌∙◌, subst, arith}
+use Rattle.std.proofs.Common.{◌≡◌, ◌+◌, List, [], ◌∷◌, ◌++◌, take, drop, sym, ap, ◌∙◌, subst, arith}
 use Rattle.std.proofs.lemmas.List.{take_all, take_more}
 use Rattle.fish_epoch.proofs.Reading.{defs_later}
 use Rattle.fish_ingest.proofs.IngestionStart.{idle_law}
@@ -11,7 +11,7 @@ use Rattle.fish_lanes.proofs.Parts.{around, err_told, ok_told}
 use Rattle.fish_lanes.proofs.Pending.{found_next, found_polled}
 use Rattle.fish_lanes.proofs.SoFar.{controlled_fewer}
 use Rattle.fish_lanes.proofs.Stepping.{rows_self, stays_pass}
-use Rattle.fish_lanes.specs.Controlling.{HasControlled, HasPolled, IsCommitted, IsControlled}
+use Rattle.fish_lanes.specs.Controlling.{HasControlled, HasPolled, IsCommitted}
 use Rattle.fish_lanes.specs.Pending.{AreFound}
 use Rattle.fish_lanes.specs.Registering.{registry_of}
 use Rattle.fish_lanes.specs.Telling.{count_of}

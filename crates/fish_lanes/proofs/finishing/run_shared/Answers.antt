@@ -1,5 +1,5 @@
 -- Each statement's item is one of the statement, behind what the disk has before the table.
-use Rattle.std.proofs.Common.{◌≡◌, ◌≢◌, ◌∙◌, List, Result, ℕ, ap, sym, subst}
+use Rattle.std.proofs.Common.{◌∙◌, List, Result, ℕ, ap, sym, subst}
 use Rattle.std.specs.Prelude.{IfErr, IfOk}
 use Rattle.fish_ingest.proofs.IngestionStart.{idle_law}
 use Rattle.fish_lanes.proofs.Faults.{memory_ok, memory_part}

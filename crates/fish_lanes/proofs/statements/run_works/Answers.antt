@@ -1,5 +1,5 @@
 -- A statement more, or the end, or the first scan of older records.
-use Rattle.std.proofs.Common.{Ok, Err, ◌≡◌, ◌∙◌, ◌+◌, ℕ, List, [], ◌∷◌, get_or, length, length-append, inl, inr, refl, sym, ap, subst}
+use Rattle.std.proofs.Common.{Ok, Err, ◌≡◌, ◌∙◌, ◌+◌, ℕ, List, [], ◌∷◌, get_or, length, length-append, sym, ap, subst}
 use Rattle.std.proofs.Common.{arith}
 use Rattle.fish_ingest.proofs.IngestionStart.{idle_law}
 use Rattle.fish_lanes.proofs.SoFar.{next_answers, next_done, next_memory, next_more, next_older, next_start}
