@@ -1,5 +1,5 @@
 -- Why a run stops, case by case.
-use Rattle.std.proofs.Common.{◌≡◌, ◌≢◌, ℕ, ◌≤◌, arith, refl, sym, ap, ◌∙◌, subst, ⊎_elim, ◌⊎◌, List, [], Option, Result, Ok, Err}
+use Rattle.std.proofs.Common.{◌≡◌, ◌≢◌, ℕ, ◌≤◌, arith, refl, sym, ap, ◌∙◌, subst, ⊎_elim, List, [], Option, Result, Ok, Err}
 use Rattle.std.specs.Prelude.{IfErr}
 use Rattle.std.specs.Result.{IsErrAnd}
 use Rattle.fish_flush.specs.declared.refusal.FlushRefusal.{FlushRefusal}
