@@ -71,7 +71,7 @@ pub(crate) fn told_of(
     out: &MemorySink,
 ) -> Result<String, AllocError> {
     let entries = match &outcome.remains {
-        Some(remains) => remains.base as usize + remains.log.len(),
+        Some(remains) => (remains.base as usize).saturating_add(remains.log.len()),
         None => 0,
     };
     let written = Text::from_bytes(alloc, out.as_bytes())?;
