@@ -176,7 +176,7 @@ fn a_disk_without_a_store_is_refused(rt: HostRuntime) -> Result<(), Fail> {
     let disk = store_of(&rt, alloc, INDEXED)?;
     let bytes = disk.as_bytes();
     expect(&rt, "bytes", &bytes.len(), &180_416);
-    let cut = &bytes[..180_400];
+    let (cut, _) = bytes.split_at(bytes.len().min(180_400));
     expect_refused(&rt, alloc, cut, "4 fault store damaged 2 false 0\n")?;
     let none = b"{\"type\":\"Push\"}\n".as_slice();
     expect_refused(&rt, alloc, none, "4 fault store not a store false 0\n")?;
