@@ -103,6 +103,24 @@ impl<'b> RowTexts<'b> {
         Ok(RowTexts { store, rest })
     }
 
+    /// Stands in front of the first of these rows, which stand after others in a file: so what may be a byte order mark belongs to
+    /// a row.
+    pub fn after(alloc: Global, b: &'b [u8]) -> RowTexts<'b>
+        ensures { result.rest.now ≡ b.now }
+    {
+        RowTexts {
+            store: Store::new(alloc),
+            rest: b,
+        }
+    }
+
+    /// The bytes of the rows that are left.
+    pub fn rest(&self) -> &'b [u8]
+        ensures { result.now ≡ self.now.rest.now }
+    {
+        self.rest
+    }
+
     /// The payload of the next row, or none where the row is refused.
     #[tactic(auto, unfolding(crate::specs::Left::left))]
     pub fn next_row(&mut self, alloc: Global) -> Result<Option<Option<Text>>, AllocError>

@@ -3,4 +3,5 @@ pub mod LineLemmas
 pub mod MarkLemmas
 pub mod PartLemmas
 pub mod PayloadLemmas
+pub mod ResumingLemmas
 pub mod SplitLemmas

@@ -2,4 +2,5 @@ pub mod File
 pub mod Left
 pub mod Lines
 pub mod Open
+pub mod Resuming
 pub mod Split

@@ -28,6 +28,20 @@ impl<'b> Lines<'b> {
         }
     }
 
+    /// Stands in front of the first of these lines, which stand after others in a file.
+    pub fn after(b: &'b [u8]) -> Lines<'b>
+        ensures { result.rest.now ≡ b.now }
+    {
+        Lines { rest: b }
+    }
+
+    /// The bytes of the lines that are left.
+    pub fn rest(&self) -> &'b [u8]
+        ensures { result.now ≡ self.now.rest.now }
+    {
+        self.rest
+    }
+
     /// The next line, without one CR at its end. Blank lines are passed over.
     #[tactic(auto, unfolding(crate::specs::Left::left))]
     pub fn next_line(&mut self) -> Option<&'b [u8]>
