@@ -64,6 +64,13 @@ impl Registrar {
         &self.catalog
     }
 
+    /// The definitions, and no longer a registrar: for the table that takes this one's place.
+    pub fn into_catalog(self) -> Catalog
+        ensures { result ≡ self.catalog }
+    {
+        self.catalog
+    }
+
     /// Registers a definition under a name: from the version that this makes on, records have its keys. Where its index
     /// begins, `poll` finds.
     ///
