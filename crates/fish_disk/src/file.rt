@@ -18,7 +18,8 @@ use std::rt::Files;
 /// How often a read is tried that signals interrupt.
 const TRIES: u32 = 64;
 
-/// A file of the system. It is opened at the first call, and made if it isn't there.
+/// A file of the system. It is opened at the first call, and made if it isn't there. One that another
+/// disk has open, here or in another process, is not opened: the call fails.
 #[derive(Drop)]
 pub struct FileDisk<R: Files<File = File> + Clone + Drop + Send> {
     rt: R,
@@ -128,7 +129,16 @@ fn open<R: Files<File = File>>(rt: &R, path: &Text) -> Option<File> {
         .create(true)
         .open(rt, path.as_str())
     {
-        Ok(file) => Some(file),
+        Ok(file) => alone(file),
+        Err(_) => None,
+    }
+}
+
+/// The file with the lock of it, or nothing where another handle has that. The system takes the lock
+/// back when the handle goes, and so when the process ends, however it does.
+fn alone(file: File) -> Option<File> {
+    match file.try_lock() {
+        Ok(()) => Some(file),
         Err(_) => None,
     }
 }

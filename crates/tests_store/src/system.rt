@@ -8,11 +8,11 @@ use std::fmt::Write;
 use std::test::Fail;
 use std::{env, fs, process};
 
-/// A path in the folder for files that don't stay, by a name that no other process has.
-fn new_path(rt: &HostRuntime) -> Result<Text, Fail> {
+/// A path in the folder for files that don't stay, by a name that no other process and no other test has.
+fn new_path(rt: &HostRuntime, test: &str) -> Result<Text, Fail> {
     let folder = env::temp_dir(rt)?;
     let id = process::id(rt.process());
-    let path = format!(in rt.alloc(); "{}/fish_disk_{id}", folder.as_path().display())?;
+    let path = format!(in rt.alloc(); "{}/fish_disk_{id}_{test}", folder.as_path().display())?;
     Ok(Text::from_string(path))
 }
 
@@ -59,7 +59,7 @@ fn put_second(rt: &HostRuntime, told: &mut String, path: &Text) -> Result<(), Al
 
 #[test]
 fn keeps_bytes(rt: HostRuntime) -> Result<(), Fail> {
-    let path = new_path(&rt)?;
+    let path = new_path(&rt, "bytes")?;
     let mut told = told_first(&rt, &path)?;
     put_second(&rt, &mut told, &path)?;
     fs::remove_file(&rt, path.as_str())?;
@@ -68,6 +68,36 @@ fn keeps_bytes(rt: HostRuntime) -> Result<(), Fail> {
         told.as_str(),
         "Ok(0) Ok(()) Ok(()) Ok(()) Ok(6) cxyz Ok(4) Ok(0) 0",
     );
+    Ok(())
+}
+
+/// Puts behind it what the length of a new disk at a path answers.
+fn put_length(rt: &HostRuntime, told: &mut String, path: &Text) -> Result<(), AllocError> {
+    let mut disk = FileDisk::at(*rt, path.again(rt.alloc())?);
+    let length = disk.length();
+    drop(disk);
+    write!(told, "{length:?} ")
+}
+
+/// Puts behind it what a disk's length answers, and before that, what one of a second disk there does.
+fn put_both(rt: &HostRuntime, told: &mut String, path: &Text) -> Result<(), AllocError> {
+    let mut disk = FileDisk::at(*rt, path.again(rt.alloc())?);
+    let length = disk.length();
+    let done = put_length(rt, told, path);
+    drop(disk);
+    done?;
+    write!(told, "{length:?} ")
+}
+
+/// Of two disks at one file the second is refused while the first is there.
+#[test]
+fn keeps_a_second_disk_out(rt: HostRuntime) -> Result<(), Fail> {
+    let path = new_path(&rt, "both")?;
+    let mut told = String::new(rt.alloc());
+    put_both(&rt, &mut told, &path)?;
+    put_length(&rt, &mut told, &path)?;
+    fs::remove_file(&rt, path.as_str())?;
+    expect(&rt, told.as_str(), "Err(Failed) Ok(0) Ok(0) ");
     Ok(())
 }
 
