@@ -11,9 +11,17 @@ use fish_disk::FileDisk;
 use fish_outside::{FileHost, OutSink};
 use fish_program::{Fault, Outcome, run};
 use std::env;
+use std::fs::File;
 use std::process::ExitCode;
 
 fn main(rt: HostRuntime) -> ExitCode {
+    // Where a standard stream is closed, the next file that is opened would take its place, and the
+    // report be written into the store. A folder there is neither read nor written.
+    let _places = [
+        File::open(&rt, "/"),
+        File::open(&rt, "/"),
+        File::open(&rt, "/"),
+    ];
     let outcome = match words_of(rt.alloc(), env::args(&rt)) {
         Ok(words) => match store_of(rt.alloc(), words.as_slice()) {
             Ok(store) => run(
