@@ -13,7 +13,6 @@ use Rattle.fish_catalog.specs.declared.entry.Entry.{Entry}
 use Rattle.fish_catalog.specs.declared.row.CatRow.{CatRow}
 use Rattle.fish_cold.specs.Carries.{CarriesTable, IsPrior, IsPriorRecord}
 use Rattle.fish_flush.proofs.Committed.{agrees_entries}
-use Rattle.fish_flush.proofs.Growing.{grown_self}
 use Rattle.fish_flush.proofs.Lasting.{grown_clamps}
 use Rattle.fish_flush.specs.Carrying.{Carries}
 use Rattle.fish_flush.specs.Kept.{IsAtRest, IsCommitted, IsKeptOf}
@@ -40,7 +39,7 @@ use Rattle.fish_slots.proofs.Commits.{rests_commit}
 use Rattle.fish_recover.specs.Beginning.{BeginsAt, IsKept}
 use Rattle.fish_recover.proofs.Keepings.{kept_committed, whole_lines}
 use Rattle.fish_recover.specs.Opening.{IsRead}
-use Rattle.fish_recover.specs.Stores.{IsOpened, Resumes}
+use Rattle.fish_recover.specs.Stores.{IsBegun, Resumes}
 use Rattle.fish_recover.specs.declared.finding.Found.{Found}
 use Rattle.fish_recover.specs.declared.opened.Opened.{Opened}
 
@@ -97,7 +96,8 @@ pub resumed_line : (f : Found) (o : Opened) → Resumes f o → o.log.key.line �
 resumed_line f o h = h.begins.opens.key.line ∙ h.begins.after.base.line ∙ h.kept.line
 
 module _ (images : List ℕ → Type 0) (f : Flusher) (c : Commit) (log : List Entry) (rest : IsAtRest images f c log) (s : Shape)
-    (bits : c.bucket_bits ≡ s.bucket_bits) (made : Bool) (o : Opened) (h : BeginsAt f s c.rows made o) where
+    (bits : c.bucket_bits ≡ s.bucket_bits) (rows : List CatRow) (went : HaveGrown c.count c.rows rows) (at : ℕ) (made : Bool) (o : Opened)
+    (h : BeginsAt f s rows at made o) where
   at_count : o.log.key.number ≡ c.count
   at_count = h.opens.key.number ∙ h.after.base.number ∙ sym rest.committed.count
 
@@ -107,13 +107,13 @@ module _ (images : List ℕ → Type 0) (f : Flusher) (c : Commit) (log : List E
   rows_are : o.log.key.rows.value ≡ o.catalog
   rows_are = h.opens.key.rows ∙ sym h.opens.catalog
 
-  cut : o.catalog ≡ map (clamped c.count) c.rows
-  cut = h.opens.catalog ∙ h.after.catalog ∙ ap (λ (n : ℕ). map (clamped n) c.rows) (sym rest.committed.count)
+  cut : o.catalog ≡ map (clamped c.count) rows
+  cut = h.opens.catalog ∙ h.after.catalog ∙ ap (λ (n : ℕ). map (clamped n) rows) (sym rest.committed.count)
 
   -- the rows went on
   grown : HaveGrown c.count c.rows o.catalog
   grown = subst (HaveGrown c.count c.rows) (sym cut)
-      (grown_clamps c.count c.count c.rows c.rows (grown_self c.count c.rows) (omega arith))
+      (grown_clamps c.count c.count c.rows rows went (omega arith))
 
   -- a checkpoint may follow
   first_carried : c.pages ≡ s.pages → Carries images o.flusher (first_view o.log.key) o.log.shape o.catalog c log
@@ -203,9 +203,9 @@ module _ (images : List ℕ → Type 0) (f : Flusher) (c : Commit) (log : List E
   told_carried None read = tt
   told_carried (Some i) read = table_carried i (read i refl) (Some i) refl
 
-  -- the store is open
+  -- so the table has begun after the commit
   pub begun_open : (content : Option (List ℕ)) → ((i : List ℕ) → content ≡ Some i → images i) → c.pages ≡ s.pages
-      → f.shut ≡ false → IsOpened content images c log o
+      → f.shut ≡ false → IsBegun at rows content images c log o
   begun_open content read pages live = record {
     pass = h.opens.pass;
     first = h.opens.view_is;

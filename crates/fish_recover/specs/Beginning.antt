@@ -27,12 +27,12 @@ pub record IsBase (f : Flusher) (base : Base) : Type 0 where
   pub number : base.number ≡ f.count
   pub line : base.line ≡ f.line
 
--- what a table begins with after the commit that is kept, which has these rows
-pub record IsStartAfter (f : Flusher) (rows : List CatRow) (start : Start) : Type 0 where
+-- what a table begins with after the commit that is kept, with these rows and at a version
+pub record IsStartAfter (f : Flusher) (rows : List CatRow) (at : ℕ) (start : Start) : Type 0 where
   pub base : IsBase f start.base
   pub heads : start.heads ≡ f.heads.items
   pub catalog : start.catalog ≡ map (clamped f.count) rows
-  pub version : start.version ≡ 0
+  pub version : start.version ≡ at
 
 -- the commit's records are below the base, and no page of them was read
 pub record IsUnread (f : Flusher) (cold : Cold) : Type 0 where
@@ -52,8 +52,8 @@ pub record OpensAt (f : Flusher) (s : Shape) (start : Start) (made : Bool) (o : 
   pub made_is : o.made ≡ made
   pub count : o.count ≡ f.count
 
--- so it is where the table begins after the commit that is kept
-pub record BeginsAt (f : Flusher) (s : Shape) (rows : List CatRow) (made : Bool) (o : Opened) : Type 0 where
+-- so it is where the table begins after the commit that is kept, at a version
+pub record BeginsAt (f : Flusher) (s : Shape) (rows : List CatRow) (at : ℕ) (made : Bool) (o : Opened) : Type 0 where
   pub start : Start
-  pub after : IsStartAfter f rows start
+  pub after : IsStartAfter f rows at start
   pub opens : OpensAt f s start made o

@@ -3,6 +3,7 @@ use Rattle.std.specs.Prelude.{ℕ, ◌≡◌, ◌+◌, ◌^◌, ◌<◌, ◌≤�
 use Rattle.fish_catalog.specs.Clamps.{clamped}
 use Rattle.fish_catalog.specs.declared.commit.Commit.{Commit}
 use Rattle.fish_catalog.specs.declared.entry.Entry.{Entry}
+use Rattle.fish_catalog.specs.declared.row.CatRow.{CatRow}
 use Rattle.fish_cold.specs.Carries.{CarriesTable}
 use Rattle.fish_flush.specs.Carrying.{Carries}
 use Rattle.fish_flush.specs.Kept.{IsKeptOf, first_commit}
@@ -31,18 +32,18 @@ shape_of c = record { pages = c.pages; bucket_bits = c.bucket_bits }
 
 -- ---- what is open
 
--- the store is open: every image stands for this log by this commit, and its table, at its first view, begins after them, with
--- the commit's rows cut to its count, and has the lines and buckets of the commit's shape; a checkpoint may follow; what is below the
--- base is looked for in the file, whatever the disk tells of it, and where its content is told, it is read from there
-pub record IsOpened (content : Option (List ℕ)) (images : List ℕ → Type 0) (c : Commit) (log : List Entry) (o : Opened)
-    : Type 0 where
+-- a table begins after a commit: every image stands for this log by the commit, and the table, at its first view, begins after them at a
+-- version, with these rows cut to the commit's count, and has the lines and buckets of the commit's shape; a checkpoint may follow; what is
+-- below the base is looked for in the file, whatever the disk tells of it, and where its content is told, it is read from there
+pub record IsBegun (at : ℕ) (from : List CatRow) (content : Option (List ℕ)) (images : List ℕ → Type 0) (c : Commit) (log : List Entry)
+    (o : Opened) : Type 0 where
   pub pass : IsPassOf o.log o.pass
   pub first : view o.pass ≡ first_view o.log.key
   pub number : o.log.key.number ≡ c.count
   pub line : o.log.key.line ≡ c.lines
-  pub version : o.log.key.version ≡ 0
+  pub version : o.log.key.version ≡ at
   pub rows : o.log.key.rows.value ≡ o.catalog
-  pub catalog : o.catalog ≡ map (clamped c.count) c.rows
+  pub catalog : o.catalog ≡ map (clamped c.count) from
   pub count : o.count ≡ c.count
   pub live : o.flusher.shut ≡ false
   pub carries : Carries images o.flusher (view o.pass) o.log.shape o.catalog c log
@@ -51,6 +52,10 @@ pub record IsOpened (content : Option (List ℕ)) (images : List ℕ → Type 0)
   pub below_number : o.cold.base.number ≡ o.log.key.number
   pub below_line : o.cold.base.line ≡ o.log.key.line
   pub cold : IfSome content (λ _. CarriesTable content o.log.key o.cold)
+
+-- the store is open: its table begins after the commit, at version 0 and with the commit's rows
+abbrev pub IsOpened : Option (List ℕ) → (List ℕ → Type 0) → Commit → List Entry → Opened → Type 0
+IsOpened content images c log o = IsBegun 0 c.rows content images c log o
 
 -- the image is none, and a store without a record was made of it; or it stands for this log, by this commit of the shape that
 -- is asked for
@@ -93,4 +98,4 @@ IsFlushed NoMemory refusal = refusal ≡ OutOfMemory
 pub record Resumes (found : Found) (o : Opened) : Type 0 where
   pub kept : IsKeptOf found.slot found.commit found.checked.heads found.checked.starts o.flusher
   pub live : o.flusher.shut ≡ false
-  pub begins : BeginsAt o.flusher (shape_of found.commit) found.commit.rows false o
+  pub begins : BeginsAt o.flusher (shape_of found.commit) found.commit.rows 0 false o

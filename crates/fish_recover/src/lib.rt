@@ -20,3 +20,4 @@ pub use law::{causes_exclude, stores_open};
 pub use opened::Opened;
 pub use refusal::{Asked, OpenRefusal};
 pub use store::open_store;
+pub use table::begin_table;

@@ -88,7 +88,7 @@ fn make_store<D: Disk>(alloc: Global, asked: Asked, disk: &mut D) -> Result<Open
 {
     let shape = shape_of(asked);
     match create(alloc, shape, disk) {
-        Ok(flusher) => Ok(begin_table(alloc, flusher, shape, Catalog::new(alloc), true)?),
+        Ok(flusher) => Ok(begin_table(alloc, flusher, shape, Catalog::new(alloc), 0, true)?),
         Err(refusal) => Err(refusal_of(refusal)),
     }
 }
@@ -156,7 +156,7 @@ fn resume(alloc: Global, found: Found) -> Result<Opened, AllocError>
         Ok(flusher) => {
             drop(checked);
             let Commit { rows, .. } = commit;
-            begin_table(alloc, flusher, shape, rows, false)
+            begin_table(alloc, flusher, shape, rows, 0, false)
         }
         Err(want) => {
             drop(checked);

@@ -1,4 +1,4 @@
-//! The table of a store: it begins where the commit ends that a flusher keeps, with its heads and its rows.
+//! The table of a store: it begins where the commit ends that a flusher keeps, with its heads, and with rows cut to its count.
 
 ghost use Rattle.std.specs.Prelude.{◌≡◌, ◌≤◌, IfOk};
 ghost use Rattle.fish_rule.specs.Start.{CanOpen, IsShape};
@@ -13,19 +13,26 @@ use fish_rule::{Base, Shape, Start, open_log};
 use fish_value::Numbers64;
 use std::alloc::{AllocError, Global};
 
-/// A table of this shape after the commit that a flusher keeps, which has these rows.
-pub(crate) fn begin_table(
+/// A table of this shape after the commit that a flusher keeps, with these rows, cut to its count, and at a version. No call of
+/// the disk is made. What the table is on a disk whose images all stand for that commit's log, the lemma `begun_open` says.
+///
+/// # Errors
+///
+/// Memory ran out.
+pub fn begin_table(
     alloc: Global,
     flusher: Flusher,
     shape: Shape,
     rows: Catalog,
+    version: u16,
     made: bool,
 ) -> Result<Opened, AllocError>
     requires shape { IsShape shape }
+    requires few { version ≤ 512 }
     requires kept { IsKept shape flusher }
-    ensures { IfOk result (BeginsAt flusher shape rows made) }
+    ensures { IfOk result (BeginsAt flusher shape rows version made) }
 {
-    match start_at(alloc, &flusher, rows) {
+    match start_at(alloc, &flusher, rows, version) {
         Ok(start) => match cold_at(alloc, &flusher) {
             Ok(cold) => open_at(alloc, shape, start, cold, flusher, made),
             Err(want) => {
@@ -42,8 +49,14 @@ pub(crate) fn begin_table(
 }
 
 /// What the table begins with.
-fn start_at(alloc: Global, flusher: &Flusher, mut rows: Catalog) -> Result<Start, AllocError>
-    ensures after { IfOk result (IsStartAfter flusher.now rows) }
+fn start_at(
+    alloc: Global,
+    flusher: &Flusher,
+    mut rows: Catalog,
+    version: u16,
+) -> Result<Start, AllocError>
+    requires few { version ≤ 512 }
+    ensures after { IfOk result (IsStartAfter flusher.now rows version) }
     ensures can { IfOk result (λ start. (s : Formed) → IsKept s flusher.now → CanOpen s start) }
 {
     match copied_heads(alloc, flusher.heads()) {
@@ -53,7 +66,7 @@ fn start_at(alloc: Global, flusher: &Flusher, mut rows: Catalog) -> Result<Start
                 base: base_of(flusher),
                 heads,
                 catalog: rows,
-                version: 0,
+                version,
             })
         }
         Err(want) => {

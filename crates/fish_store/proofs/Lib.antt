@@ -1,9 +1,13 @@
 pub mod Again
+pub mod Beginning
+pub mod Closing
 pub mod Committing
 pub mod Ending
 pub mod Kept
 pub mod Opening
 pub mod Pages
+pub mod Rolls
 pub mod Running
 pub mod Same
 pub mod Scanning
+pub mod Versions

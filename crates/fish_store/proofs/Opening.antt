@@ -1,17 +1,19 @@
--- A store that was opened is sound behind the log for which its disk stood.
-use Rattle.std.proofs.Common.{◌≡◌, ℕ, ◌≤◌, arith, List, [], ◌++◌, Option, Some, None, ap, subst, sym, refl, ◌∙◌, length, take}
+-- A table that begins after a commit is sound after that log: so is a store that was opened, after its disk's log.
+use Rattle.std.proofs.Common.{◌≡◌, ℕ, arith, List, [], ◌++◌, Option, Some, None, ap, subst, sym, refl, ◌∙◌, length, map}
 use Rattle.std.specs.Prelude.{IfSome, IsSome}
 use mathlib.Core.Option.{some-ne-none}
 use Rattle.std.proofs.lemmas.List.{take_all}
+use Rattle.fish_catalog.specs.Listing.{listed_of}
 use Rattle.fish_catalog.specs.declared.commit.Commit.{Commit}
 use Rattle.fish_catalog.specs.declared.entry.Entry.{Entry}
+use Rattle.fish_catalog.specs.declared.row.CatRow.{CatRow}
 use Rattle.fish_cold.specs.Carries.{CarriesTable, IsPrior}
 use Rattle.fish_flush.proofs.Committed.{committed_length}
 use Rattle.fish_flush.proofs.Resting.{rest_stands}
 use Rattle.fish_image.specs.Log.{Agrees}
 use Rattle.fish_image.specs.Reached.{Reached}
 use Rattle.fish_image.specs.Stands.{Stands, words_in}
-use Rattle.fish_recover.specs.Stores.{IsOpened}
+use Rattle.fish_recover.specs.Stores.{IsBegun, IsOpened}
 use Rattle.fish_recover.specs.declared.opened.Opened.{Opened}
 use Rattle.fish_rule.specs.Passes.{view}
 use Rattle.fish_rule.specs.declared.view.Key.{Key}
@@ -21,40 +23,18 @@ use Rattle.fish_store.proofs.Kept.{one_prior}
 use Rattle.fish_store.specs.Opened.{first_past, opened_point}
 use Rattle.fish_store.specs.Sound.{HasPast, IsImageOf, Sound}
 use Rattle.fish_whole.proofs.Prefixes.{prefix_first}
-use Rattle.fish_whole.specs.Whole.{FitsPast}
+use Rattle.fish_whole.specs.Whole.{FitsPast, IsPrefix, Whole}
 
-module _ {D : Type 0} (content : D → Option (List ℕ)) (images : D → List ℕ → Type 0) (disk : D) (c : Commit) (log : List Entry) (o : Opened)
-    (h : IsOpened (content disk) (images disk) c log o) where
+module _ {D : Type 0} (content : D → Option (List ℕ)) (images : D → List ℕ → Type 0) (disk : D) (at : ℕ) (rows : List CatRow)
+    (c : Commit) (log : List Entry) (o : Opened) (h : IsBegun at rows (content disk) (images disk) c log o) where
   about : (view o.pass).about ≡ o.log.key
   about = ap (λ (v : View). v.about) h.first
 
   -- how many entries there are
-  size : (length log ≡ c.count) × (o.flusher.count ≡ c.count)
-  size =
+  pub begun_size : (length log ≡ c.count) × (o.flusher.count ≡ c.count)
+  begun_size =
       let r = h.carries.rest in
       (committed_length o.flusher c r.body r.lines log r.committed, sym r.committed.count)
-
-  -- the table stands behind them
-  fits : FitsPast (first_past log o) (view o.pass)
-  fits =
-      let many = size in
-      let number = h.number in
-      let at = ap (λ (k : Key). k.number) about in
-      record {
-        base = omega arith;
-        joins = ap (λ l. Rattle.std.proofs.Common.map Rattle.fish_catalog.specs.Listing.listed_of l)
-            (sym (ap (λ (k : Key). k.rows.value) about ∙ h.rows));
-      }
-
-  -- an image of the log is one of a part that is there for good
-  pub stands_part : (i : List ℕ) → Stands c i log → IsImageOf (first_past log o) (view o.pass) (length log) i
-  stands_part i stands = record {
-    commit = c;
-    log = log;
-    stands = stands;
-    many = omega arith;
-    known = record { entries = []; told = λ j e there. absurd (some-ne-none e (sym there)); front = prefix_first log [] };
-  }
 
   -- the first entries that the disk has are these
   entries_are : (i : List ℕ) → images disk i → (t : CarriesTable (content disk) o.log.key o.cold) → t.image ≡ i → t.end.entries ≡ log
@@ -77,38 +57,77 @@ module _ {D : Type 0} (content : D → Option (List ℕ)) (images : D → List �
       (one_prior i o.log.key.number t.end stands.end (subst (λ (z : List ℕ). IsPrior z o.log.key.number t.end) is t.prior) prior)
       ∙ stands.entries
 
-  -- the disk has them
-  has_past : ((i : List ℕ) → content disk ≡ Some i → images disk i) → IsSome (content disk)
-      → HasPast content (opened_point disk o) (first_past log o)
-  has_past read some = by (content disk) refl some h.cold
-    where
-      by : (x : Option (List ℕ)) → content disk ≡ x → IsSome x → IfSome x (λ i. CarriesTable (content disk) o.log.key o.cold)
-          → HasPast content (opened_point disk o) (first_past log o)
-      by None is told t = absurd cc
-      by (Some i) is told t =
-          let moved : (x : CarriesTable (content disk) (view o.pass).about o.cold) × (x.end.entries ≡ log) =
-          subst (λ (k : Key). (x : CarriesTable (content disk) k o.cold) × (x.end.entries ≡ log)) (sym about)
-          (t, entries_are t.image (read t.image t.is) t refl) in
-          record { table = moved.0; entries = moved.1 }
+  module _ (past : Whole) (same : past.log ≡ log) where
+    -- an image of the log is one of a part that is there for good
+    pub begun_part : (i : List ℕ) → Stands c i log → IsImageOf past (view o.pass) (length log) i
+    begun_part i stands = record {
+      commit = c;
+      log = log;
+      stands = stands;
+      many = omega arith;
+      known = record {
+        entries = [];
+        told = λ j e there. absurd (some-ne-none e (sym there));
+        front = subst (λ (l : List Entry). IsPrefix log (l ++ [])) (sym same) (prefix_first log []);
+      };
+    }
+
+    -- the disk has what was there before the table
+    has_past : ((i : List ℕ) → content disk ≡ Some i → images disk i) → IsSome (content disk)
+        → HasPast content (opened_point disk o) past
+    has_past read some = by (content disk) refl some h.cold
+      where
+        by : (x : Option (List ℕ)) → content disk ≡ x → IsSome x → IfSome x (λ i. CarriesTable (content disk) o.log.key o.cold)
+            → HasPast content (opened_point disk o) past
+        by None is told t = absurd cc
+        by (Some i) is told t =
+            let moved : (x : CarriesTable (content disk) (view o.pass).about o.cold) × (x.end.entries ≡ past.log) =
+            subst (λ (k : Key). (x : CarriesTable (content disk) k o.cold) × (x.end.entries ≡ past.log)) (sym about)
+            (t, entries_are t.image (read t.image t.is) t refl ∙ sym same) in
+            record { table = moved.0; entries = moved.1 }
+
+    -- so it is sound, where it stands behind that past
+    pub begun_sound : FitsPast past (view o.pass) → ((i : List ℕ) → content disk ≡ Some i → images disk i) → IsSome (content disk)
+        → Sound content images (opened_point disk o) past
+    begun_sound fits read some =
+        let many = begun_size in
+        let number = h.number in
+        let first = ap (λ (v : View). v.learned.count) h.first in
+        let size = ap (λ (l : List Entry). length l) same in
+        record {
+          fits = fits;
+          has = has_past read some;
+          rests = λ live. record {
+            commit = c;
+            log = log;
+            carries = h.carries;
+            begins = take_all (length past.log) log (omega arith) ∙ sym same;
+            counted = omega arith;
+          };
+          now = λ i here. subst (λ (n : ℕ). IsImageOf past (view o.pass) n i)
+              (let whole : length log ≡ o.flusher.count = omega arith in whole)
+              (begun_part i (rest_stands (images disk) o.flusher c log h.carries.rest i here));
+        }
+
+module _ {D : Type 0} (content : D → Option (List ℕ)) (images : D → List ℕ → Type 0) (disk : D) (c : Commit) (log : List Entry) (o : Opened)
+    (h : IsOpened (content disk) (images disk) c log o) where
+  -- the table of a store that was opened stands behind the disk's log
+  fits : FitsPast (first_past log o) (view o.pass)
+  fits =
+      let many = begun_size content images disk 0 c.rows c log o h in
+      let number = h.number in
+      let key = ap (λ (v : View). v.about) h.first in
+      let at = ap (λ (k : Key). k.number) key in
+      record {
+        base = omega arith;
+        joins = ap (λ l. map listed_of l) (sym (ap (λ (k : Key). k.rows.value) key ∙ h.rows));
+      }
+
+  -- an image of the log is one of a part that is there for good
+  pub stands_part : (i : List ℕ) → Stands c i log → IsImageOf (first_past log o) (view o.pass) (length log) i
+  stands_part i stands = begun_part content images disk 0 c.rows c log o h (first_past log o) refl i stands
 
   -- the store is sound
   pub opened_sound : ((i : List ℕ) → content disk ≡ Some i → images disk i) → IsSome (content disk)
       → Sound content images (opened_point disk o) (first_past log o)
-  opened_sound read some =
-      let many = size in
-      let number = h.number in
-      let first = ap (λ (v : View). v.learned.count) h.first in
-      record {
-        fits = fits;
-        has = has_past read some;
-        rests = λ live. record {
-          commit = c;
-          log = log;
-          carries = h.carries;
-          begins = take_all (length log) log (omega arith);
-          counted = omega arith;
-        };
-        now = λ i here. subst (λ (n : ℕ). IsImageOf (first_past log o) (view o.pass) n i)
-            (let same : length log ≡ o.flusher.count = omega arith in same)
-            (stands_part i (rest_stands (images disk) o.flusher c log h.carries.rest i here));
-      }
+  opened_sound read some = begun_sound content images disk 0 c.rows c log o h (first_past log o) refl fits read some

@@ -2,4 +2,5 @@ pub mod Ending
 pub mod Laws
 pub mod Opened
 pub mod Points
+pub mod Rolling
 pub mod Sound

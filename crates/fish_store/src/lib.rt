@@ -3,6 +3,7 @@
 
 mod file;
 mod law;
+mod rolling;
 mod store;
 
 pub use file::StoreFile;

@@ -1,6 +1,7 @@
 -- A store that was made is at rest, and its table begins at 0.
 use Rattle.std.proofs.Common.{[], List, refl, subst, sym, true}
 use Rattle.fish_catalog.specs.declared.row.CatRow.{CatRow}
+use Rattle.fish_flush.proofs.Growing.{grown_self}
 use Rattle.fish_flush.specs.Kept.{first_commit}
 use Rattle.fish_recover.proofs.Beginnings.{begun_open, committed_kept}
 use Rattle.fish_recover.proofs.Refusals.{err_is, err_ok, flush_cause, flushed_outside, memory_cause, ok_cause}
@@ -51,8 +52,8 @@ returns-in_ok-begin_table-in-Ok-clause-opened g c =
     let s = c.shape_of-shape.result in
     let o = c.in_ok-begin_table-in-Ok.field-0 in
     subst (λ (z : Shape). IsOpened content images (first_commit z) [] o) c.shape_of-shape.ensures
-    (begun_open images f (first_commit s) [] c.in-Ok.ensures.made s refl true o
-    (subst (λ (rows : List CatRow). BeginsAt f s rows true o) c.new.ensures c.in_ok-begin_table-in-Ok.ensures) content
+    (begun_open images f (first_commit s) [] c.in-Ok.ensures.made s refl [] (grown_self 0 []) 0 true o
+    (subst (λ (rows : List CatRow). BeginsAt f s rows 0 true o) c.new.ensures c.in_ok-begin_table-in-Ok.ensures) content
     (g.met.D.Disk.as_read c.create.new.disk) refl c.in-Ok.ensures.live)
 
 pub returns-in_ok-begin_table-in-Ok-clause-made : goal.returns-in_ok-begin_table-in-Ok-clause-made

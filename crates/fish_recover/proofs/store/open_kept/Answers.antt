@@ -1,5 +1,6 @@
 -- What is open is what was found, and a crash leaves what has its commit.
 use Rattle.std.proofs.Common.{false, refl, arith}
+use Rattle.fish_flush.proofs.Growing.{grown_self}
 use Rattle.fish_recover.proofs.Beginnings.{begun_open, resumed_line}
 use Rattle.fish_recover.proofs.Keepings.{kept_in, kept_rest, kept_stored}
 use Rattle.fish_recover.proofs.Openings.{opening_leaves, read_leaves, still_before, told_before, told_through, was_stored}
@@ -82,8 +83,8 @@ returns-in_ok-resume-in-Ok-rest_store-clause-opened g c =
     record {
       commit = f.commit;
       log = k.held.end.entries;
-      opened = begun_open images o.flusher f.commit k.held.end.entries rest (shape_of f.commit) refl false o r.begins new
-          (g.met.D.Disk.as_read c.rest_store.new.disk) refl r.live;
+      opened = begun_open images o.flusher f.commit k.held.end.entries rest (shape_of f.commit) refl f.commit.rows
+          (grown_self f.commit.count f.commit.rows) 0 false o r.begins new (g.met.D.Disk.as_read c.rest_store.new.disk) refl r.live;
       was = was_stored old x new c.args.asked f k o.made r.begins.opens.made_is c.in-Ok.ensures.found c.find_store.ensures.content
           (told_before new x images before (g.met.D.Disk.as_read c.rest_store.new.disk) c.rest_store.ensures.told
           c.in-Ok.ensures.synced);
