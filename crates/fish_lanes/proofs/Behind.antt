@@ -1,12 +1,14 @@
 -- The moments of a store over which a block goes, and what stood before the table at each.
-use Rattle.std.proofs.Common.{◌≡◌, ℕ, List, Option, Some, All, slice_get, length, refl, sym, ap, ◌∙◌, subst, arith}
+use Rattle.std.proofs.Common.{◌≡◌, ℕ, Bool, List, Option, Some, All, slice_get, length, refl, sym, ap, ◌∙◌, subst, arith}
+use Rattle.std.specs.Prelude.{is_some}
 use Rattle.std.proofs.lemmas.Option.{get_or_from_slice_get, slice_get_within}
 use Rattle.fish_cold.specs.declared.cold.Cold.{Cold}
 use Rattle.fish_disk.specs.Content.{StillReads}
 use Rattle.fish_flush.specs.declared.flusher.Flusher.{Flusher}
 use Rattle.fish_lanes.proofs.Advancing.{run_fewer}
-use Rattle.fish_lanes.proofs.Finished.{done_of}
+use Rattle.fish_lanes.proofs.Finished.{done_both}
 use Rattle.fish_lanes.proofs.Lanes.{ready_seat, seated_ready}
+use Rattle.fish_lanes.proofs.Lists.{some_once}
 use Rattle.fish_lanes.proofs.Moments.{get_there}
 use Rattle.fish_lanes.proofs.Pages.{here_same}
 use Rattle.fish_lanes.proofs.Single.{only_fewer}
@@ -17,11 +19,13 @@ use Rattle.fish_lanes.specs.Course.{AllRan}
 use Rattle.fish_lanes.specs.Pasts.{IsHere, WasHere}
 use Rattle.fish_lanes.specs.Running.{IsReady, IsShared}
 use Rattle.fish_lanes.specs.declared.lane.Lane.{Lane}
+use Rattle.fish_lanes.specs.declared.lane.Seated.{Seated}
 use Rattle.fish_lanes.specs.declared.work.Work.{Work}
 use Rattle.fish_registry.specs.Knowing.{Knows}
 use Rattle.fish_registry.specs.declared.registrar.Registrar.{Registrar}
 use Rattle.fish_rule.proofs.laws.Learning.{learns_self}
 use Rattle.fish_rule.specs.Logs.{Learns}
+use Rattle.fish_rule.specs.Passes.{view}
 use Rattle.fish_rule.specs.Table.{Stands}
 use Rattle.fish_rule.specs.declared.table.Log.{Log}
 use Rattle.fish_rule.specs.declared.view.Key.{Key}
@@ -45,6 +49,7 @@ gone_ready log x y ready h = record {
   seat_is = h.after_is;
   can = h.can;
   shared = subst (λ (w : List Work). All IsShared w) (sym h.works) ready.shared;
+  nothing_left = h.left ∙ ready.nothing_left;
 }
 
 -- what the first lane did behind some pasts, it did behind each of these
@@ -54,34 +59,38 @@ first_fewer P Q v u r s x y fewer h =
     let c = h.controlled in
     record {
       controlled = record {
-        run = run_fewer P Q v u x.works y.items y.fault fewer c.run;
+        run = run_fewer P Q v u y.works y.items y.fault fewer c.run;
         so = c.so;
         closed = c.closed;
-        only = λ end e none. only_fewer P Q v u r.catalog end fewer x.works y.items (c.only end e none);
+        only = λ end e none. only_fewer P Q v u r.catalog end fewer y.works y.items (c.only end e none);
         plans = c.plans;
         is = c.is;
         each = c.each;
         found = c.found;
       };
+      stops = h.stops;
       works = h.works;
       number = h.number;
       seat = h.seat;
     }
 
 -- the lanes behind the first went on, and were finished
-others_done : (Past P : Whole → Type 0) (log : Log) (v : View) (before given gone last : List Lane)
-    → ((past : Whole) → Past past → P past) → CanGive v before → length given ≡ length before → AreSeated log v before given
-    → length gone ≡ length given → AreGone log given gone → Both (λ i x y. HasFinished P log x y) gone last
-    → AreDone Past log given last
-others_done Past P log v before given gone last fewer can given_size seated gone_size went finished i x z at_x at_z =
+others_done : (Past P : Whole → Type 0) (full : Bool) (log : Log) (v : View) (before given gone last : List Lane)
+    → ((past : Whole) → Past past → P past) → full ≡ is_some v.shut → CanGive v before → length given ≡ length before
+    → AreSeated log v before given → length gone ≡ length given → AreGone log given gone
+    → Both (λ i x y. HasFinished P full log x y) gone last → AreDone Past log given last
+others_done Past P full log v before given gone last fewer told can given_size seated gone_size went finished i x z at_x at_z =
     let less = slice_get_within given i x at_x in
     let o = get_there before i (omega arith) in
     let y = get_there gone i (omega arith) in
     let seat = seated i o.0 x o.1 at_x in
     let step = gone_at log given gone went i x y.0 at_x y.1 in
     let ready = seated_ready log v i o.0 x (can.new i o.0 o.1) (can.shared i o.0 o.1) seat in
-    done_of Past P log x y.0 z fewer (ap (λ (l : Lane). l.items) seat.is ∙ (can.new i o.0 o.1).empty) step
-    (ready_seat log x step.before ready step.before_is) (finished i y.0 z y.1 at_z)
+    let seat_is : seat.seat ≡ step.before = some_once seat.seat step.before
+    (sym (ap (λ (l : Lane). l.seat) {y = record o.0 { seat = Some seat.seat }} seat.is) ∙ step.before_is) in
+    done_both Past P full log x y.0 z fewer (ap (λ (l : Lane). l.items) seat.is ∙ (can.new i o.0 o.1).empty) step
+    (ready_seat log x step.before ready step.before_is)
+    (told ∙ ap is_some (sym seat.shut ∙ ap (λ (s : Seated). (view s.pass).shut) seat_is)) (finished i y.0 z y.1 at_z)
 
 module _
     {D : Type 0}
@@ -143,22 +152,22 @@ module _
         }
 
     -- so all lanes did their statements behind it
-    pub all_ran : (log : Log) (r s : Registrar) (first first' : Lane) (before given gone last : List Lane) → n.view.about ≡ log.key
-        → HasGiven p.view m.view (length before) → CanGive p.view before → length given ≡ length before
-        → AreSeated log p.view before given
+    pub all_ran : (full : Bool) (log : Log) (r s : Registrar) (first first' : Lane) (before given gone last : List Lane)
+        → n.view.about ≡ log.key → full ≡ is_some p.view.shut → HasGiven p.view m.view (length before) → CanGive p.view before
+        → length given ≡ length before → AreSeated log p.view before given
         → HasRunFirst (IsSoundBehind content images m (content n.disk)) m.view n.view r s first first' → Stands n.view → Knows n.view s
         → length gone ≡ length given → AreGone log given gone → length last ≡ length gone
-        → Both (λ i x y. HasFinished (WasHere (content n.disk) log.key n.cold (content q.disk)) log x y) gone last
+        → Both (λ i x y. HasFinished (WasHere (content n.disk) log.key n.cold (content q.disk)) full log x y) gone last
         → AllRan Before log p.view n.view r s first first' before last
-    all_ran log r s first first' before given gone last about gives can given_size seated did stands knows gone_size went last_size
-        finished = record {
+    all_ran full log r s first first' before given gone last about told gives can given_size seated did stands knows gone_size went
+        last_size finished = record {
           main = m.view;
           given = given;
           gives = gives;
           seated = seated;
           first_did = first_fewer (IsSoundBehind content images m (content n.disk)) Before m.view n.view r s first first' behind_given did;
-          others_did = others_done Before (WasHere (content n.disk) log.key n.cold (content q.disk)) log p.view before given gone last
-              (behind_run log.key about) can given_size seated gone_size went finished;
+          others_did = others_done Before (WasHere (content n.disk) log.key n.cold (content q.disk)) full log p.view before given gone
+              last (behind_run log.key about) told can given_size seated gone_size went finished;
           stands = stands;
           knows = knows;
           given_size = given_size;

@@ -101,9 +101,9 @@ each_more P r (y ∷ items) x h one = (h.0, each_more P (after r y) items x h.1 
 pub free_after : (Past : Whole → Type 0) (u t : View) (w : Work) (x : Item) (r : Registry) → IsFree w → IsFit Past u t w x → after r x ≡ r
 free_after Past u t (work.Register name def) x r free f = elim free [ ]
 free_after Past u t (work.Deregister name) x r free f = elim free [ ]
-free_after Past u t (work.Ingest form header name file) x r free (inl f) = ap (after r) f.is
-free_after Past u t (work.Ingest form header name file) x r free (inr (inl f)) = ap (after r) f.is
-free_after Past u t (work.Ingest form header name file) x r free (inr (inr f)) = ap (after r) f.is
+free_after Past u t (work.Ingest form begin name file) x r free (inl f) = ap (after r) f.is
+free_after Past u t (work.Ingest form begin name file) x r free (inr (inl f)) = ap (after r) f.is
+free_after Past u t (work.Ingest form begin name file) x r free (inr (inr f)) = ap (after r) f.is
 free_after Past u t (work.Scan ask) x r free (inl f) = ap (after r) f.is
 free_after Past u t (work.Scan ask) x r free (inr f) = ap (after r) f.is
 free_after Past u t (work.Explain ask) x r free (inl f) = ap (after r) f.is
@@ -302,7 +302,7 @@ pub free_of : (w : Work)
     → ((name : List ℕ) → w ≡ work.Deregister name → ⊥) → IsFree w
 free_of (work.Register name def) no_register no_end = absurd (no_register name def refl)
 free_of (work.Deregister name) no_register no_end = absurd (no_end name refl)
-free_of (work.Ingest form header name file) no_register no_end = tt
+free_of (work.Ingest form begin name file) no_register no_end = tt
 free_of (work.Scan ask) no_register no_end = tt
 free_of (work.Explain ask) no_register no_end = tt
 free_of work.Checkpoint no_register no_end = tt
@@ -316,9 +316,9 @@ free_so : (Past : Whole → Type 0) (u t : View) (w : Work) (x : Item) (low high
     → t.learned.version ≡ u.learned.version → IsFree w → IsFit Past u t w x → IsSo low high r x
 free_so Past u t (work.Register name def) x low high r is same free f = elim free [ ]
 free_so Past u t (work.Deregister name) x low high r is same free f = elim free [ ]
-free_so Past u t (work.Ingest form header name file) x low high r is same free (inl f) = subst (IsSo low high r) (sym f.is) tt
-free_so Past u t (work.Ingest form header name file) x low high r is same free (inr (inl f)) = subst (IsSo low high r) (sym f.is) tt
-free_so Past u t (work.Ingest form header name file) x low high r is same free (inr (inr f)) = subst (IsSo low high r) (sym f.is) tt
+free_so Past u t (work.Ingest form begin name file) x low high r is same free (inl f) = subst (IsSo low high r) (sym f.is) tt
+free_so Past u t (work.Ingest form begin name file) x low high r is same free (inr (inl f)) = subst (IsSo low high r) (sym f.is) tt
+free_so Past u t (work.Ingest form begin name file) x low high r is same free (inr (inr f)) = subst (IsSo low high r) (sym f.is) tt
 free_so Past u t (work.Scan ask) x low high r is same free (inl f) =
     let e = f.fits.planned in
     subst (IsSo low high r) (sym f.is) (only_version u t r f.version is same
@@ -337,9 +337,9 @@ free_so Past u t work.Checkpoint x low high r is same free f = subst (IsSo low h
 free_rolls : (Past : Whole → Type 0) (u t : View) (w : Work) (x : Item) → IsFree w → IsFit Past u t w x → RollsBy u t x
 free_rolls Past u t (work.Register name def) x free f = elim free [ ]
 free_rolls Past u t (work.Deregister name) x free f = elim free [ ]
-free_rolls Past u t (work.Ingest form header name file) x free (inl f) = subst (RollsBy u t) (sym f.is) tt
-free_rolls Past u t (work.Ingest form header name file) x free (inr (inl f)) = subst (RollsBy u t) (sym f.is) tt
-free_rolls Past u t (work.Ingest form header name file) x free (inr (inr f)) = subst (RollsBy u t) (sym f.is) tt
+free_rolls Past u t (work.Ingest form begin name file) x free (inl f) = subst (RollsBy u t) (sym f.is) tt
+free_rolls Past u t (work.Ingest form begin name file) x free (inr (inl f)) = subst (RollsBy u t) (sym f.is) tt
+free_rolls Past u t (work.Ingest form begin name file) x free (inr (inr f)) = subst (RollsBy u t) (sym f.is) tt
 free_rolls Past u t (work.Scan ask) x free (inl f) = subst (RollsBy u t) (sym f.is) tt
 free_rolls Past u t (work.Scan ask) x free (inr f) = subst (RollsBy u t) (sym f.is) tt
 free_rolls Past u t (work.Explain ask) x free (inl f) = subst (RollsBy u t) (sym f.is) tt
@@ -349,9 +349,9 @@ free_rolls Past u t work.Checkpoint x free f = subst (RollsBy u t) (sym f.is) tt
 free_tail : (Past : Whole → Type 0) (u t : View) (w : Work) (x : Item) → IsFree w → IsFit Past u t w x → TellsTail u x
 free_tail Past u t (work.Register name def) x free f = elim free [ ]
 free_tail Past u t (work.Deregister name) x free f = elim free [ ]
-free_tail Past u t (work.Ingest form header name file) x free (inl f) = subst (TellsTail u) (sym f.is) tt
-free_tail Past u t (work.Ingest form header name file) x free (inr (inl f)) = subst (TellsTail u) (sym f.is) tt
-free_tail Past u t (work.Ingest form header name file) x free (inr (inr f)) = subst (TellsTail u) (sym f.is) tt
+free_tail Past u t (work.Ingest form begin name file) x free (inl f) = subst (TellsTail u) (sym f.is) tt
+free_tail Past u t (work.Ingest form begin name file) x free (inr (inl f)) = subst (TellsTail u) (sym f.is) tt
+free_tail Past u t (work.Ingest form begin name file) x free (inr (inr f)) = subst (TellsTail u) (sym f.is) tt
 free_tail Past u t (work.Scan ask) x free (inl f) = subst (TellsTail u) (sym f.is) tt
 free_tail Past u t (work.Scan ask) x free (inr f) = subst (TellsTail u) (sym f.is) tt
 free_tail Past u t (work.Explain ask) x free (inl f) = subst (TellsTail u) (sym f.is) tt

@@ -1,5 +1,5 @@
 -- A block from its start to its end, put together.
-use Rattle.std.proofs.Common.{◌≡◌, ℕ, ◌+◌, ◌<◌, ◌≤◌, suc, List, [], ◌∷◌, length, sym, ap, ◌∙◌, subst}
+use Rattle.std.proofs.Common.{◌≡◌, ℕ, ◌+◌, ◌<◌, ◌≤◌, suc, List, [], ◌∷◌, ◌++◌, length, sym, ap, ◌∙◌, subst}
 use Rattle.std.proofs.Common.{inl, inr, ◌⊎◌, ⊎_elim, arith, Some, slice_get}
 use Rattle.std.proofs.Math.Decide.{ℕ_discrete}
 use Rattle.std.proofs.lemmas.Option.{slice_get_within}
@@ -153,10 +153,12 @@ module _ {Past : Whole → Type 0} {log : Log} {v w : View} {r q : Registrar} {f
         let z = ran_at i y at_y in
         let p = way i z.0 z.1 in
         let w' = returned.taken i z.0 y z.1 at_y in
-        let old : p.old ≡ x = some_once p.old x (sym p.old_at ∙ at_x) in (
-          w'.number ∙ p.run_of.number ∙ same_number i z.0 p ∙ ap (λ (q : Lane). q.number) old,
-          w'.works ∙ p.run_of.works ∙ same_works i z.0 p ∙ ap (λ (q : Lane). q.works) old,
-        )
+        let old : p.old ≡ x = some_once p.old x (sym p.old_at ∙ at_x) in
+        record {
+          number = w'.number ∙ p.run_of.number ∙ same_number i z.0 p ∙ ap (λ (q : Lane). q.number) old;
+          works = ap (λ (q : Lane). q.works) (sym old) ∙ sym (same_works i z.0 p) ∙ p.run_of.works
+              ∙ ap (λ (q : List Work × List Work). q.0 ++ q.1) (λ j. (sym w'.works j, sym w'.left j));
+        }
 
     -- the lanes have no passes any more
     pub vacant_at : AreVacant after
@@ -168,8 +170,7 @@ module _ {Past : Whole → Type 0} {log : Log} {v w : View} {r q : Registrar} {f
     pub all_ended : AreEnded (first' ∷ after)
     all_ended = at_places IsEndedLane first' after
         (record {
-          ended = subst (λ (z : List Work). IsEnded z first'.items first'.fault) (sym run.first_did.works)
-              run.first_did.controlled.run.ended;
+          ended = run.first_did.controlled.run.ended;
           answers = λ later. absurd (omega arith);
         })
         (λ i y at_y.
@@ -178,7 +179,7 @@ module _ {Past : Whole → Type 0} {log : Log} {v w : View} {r q : Registrar} {f
         let w' = returned.taken i z.0 y z.1 at_y in
         record {
           ended = subst (λ (q : List Work × List Item × LaneFault). IsEnded q.0 q.1 q.2)
-              (λ j. ((sym p.run_of.works ∙ sym w'.works) j, sym w'.items j, sym w'.fault j)) p.run_of.run.ended;
+              (λ j. (sym w'.works j, sym w'.items j, sym w'.fault j)) p.run_of.run.ended;
           answers = λ later. subst (AllOf IsAnswer) (sym w'.items) p.run_of.answers;
         })
 
@@ -396,9 +397,7 @@ module _ {Past : Whole → Type 0} {log : Log} {v w : View} {r q : Registrar} {f
           let run_first = run.first_did.controlled.run in
           let g = run_first.gains in
           let same : run.main.learned.count ≡ v.learned.count = ap (λ (z : Learned). z.count) run.gives.learned in
-          subst (λ (z : List Work). Will past t (λ y. TellsLane y k (rows_of_lane y.log k.from k.to 1) z first'.items))
-          (sym run.first_did.works)
-          (tells_rows past k w 1 run_first.rows first.works first'.items end_learns span.begins.above span.ends within counted
+          tells_rows past k w 1 run_first.rows first'.works first'.items end_learns span.begins.above span.ends within counted
           (subst (λ (z : ℕ). Ascends z run_first.rows w.learned.count) same g.ascends)
           (subst (λ (z : ℕ). AreTold w z run_first.rows) run.gives.main g.told)
           (λ o n lane. ⊎_elim (λ (h : Among o v.own). inl (own_before v k.from o stood span.begins h))
@@ -410,7 +409,7 @@ module _ {Past : Whole → Type 0} {log : Log} {v w : View} {r q : Registrar} {f
           (λ (j : HasNumber o.number p.run_of.run.rows × (o.lane ≡ i.place + 2)). let e = j.1 in omega arith)
           (lane_cases i.place i.lane p i.seat o i.seat_is i.among))) h) (own_cases o n))
           (run_first.tells past behind k (lane_within run.main w run.gives.about run.gives.learned end_learns main_alone)
-          (span.full ∙ sym run.gives.shut)))
+          (span.full ∙ sym run.gives.shut))
 
       -- what another lane has among the records of its number
       others_all : (i : ℕ) (z : Lane) (at : slice_get done i ≡ Some z) (p : Way i z) (o : Own)
@@ -449,8 +448,8 @@ module _ {Past : Whole → Type 0} {log : Log} {v w : View} {r q : Registrar} {f
           let back : Learns (view s.pass) t = learns_both (view s.pass) u t
           (returned.takes.learned i z.0 s (omega arith) z.1 p.run_of.after_is) closes.learns in
           subst (λ (q : List Work × List Item). TellsLane x k (rows_of_lane x.log k.from k.to (i + 2)) q.0 q.1)
-          (λ j. ((sym p.run_of.works ∙ sym w'.works) j, sym w'.items j))
-          (tells_rows past k (view s.pass) (i + 2) p.run_of.run.rows p.mid.works z.0.items back span.begins.above span.ends
+          (λ j. (sym w'.works j, sym w'.items j))
+          (tells_rows past k (view s.pass) (i + 2) p.run_of.run.rows z.0.works z.0.items back span.begins.above span.ends
           within counted (subst (λ (x : ℕ). Ascends x p.run_of.run.rows (view s.pass).learned.count) same g.ascends)
           (subst (λ (x : ℕ). AreTold (view s.pass) x p.run_of.run.rows) lane g.told)
           (others_all i z.0 z.1 p)

@@ -185,8 +185,8 @@ module _ (Past : Whole → Type 0) (v u t : View) (works : List Work) (items : L
       → SureUpTo past t s.to (λ z. TellsItem z now h.rows (shown_in items) w x)
   item_told behind (work.Register name def) x f w m far = f
   item_told behind (work.Deregister name) x f w m far = f
-  item_told behind (work.Ingest form header name file) x (inl s) w m far = inl s
-  item_told behind (work.Ingest form header name file) x (inr (inl f)) w m far = inr (inl (record {
+  item_told behind (work.Ingest form begin name file) x (inl s) w m far = inl s
+  item_told behind (work.Ingest form begin name file) x (inr (inl f)) w m far = inr (inl (record {
     line = f.line;
     lines = f.lines;
     end = f.end;
@@ -198,7 +198,7 @@ module _ (Past : Whole → Type 0) (v u t : View) (works : List Work) (items : L
     past = f.full.past;
     size = size_told form f.counted.payload f.line f.lines f.end f.size w m;
   }))
-  item_told behind (work.Ingest form header name file) x (inr (inr l)) w m far = inr (inr l)
+  item_told behind (work.Ingest form begin name file) x (inr (inr l)) w m far = inr (inr l)
   item_told behind (work.Scan ask) x (inl f) w m far = inl (record {
     from = f.from;
     to = f.to;

@@ -97,7 +97,7 @@ module _ {Past : Whole → Type 0} {log : Log} {v u t : View} {r q s : Registrar
     {end : BlockEnd} (lanes : HasRunLanes Past log v u r q first first' others others') (ended : HasFoundEnd u t q s end)
     (su : Stands u) (ku : Knows u q) (st : Stands t)
     (near : (k : Span) → IsBlockSpan v t end.to k → (k.from ≤ v.learned.count) × (t.learned.count ≤ k.to + 16)) where
-  controlled : HasControlled Past lanes.run.main lanes.ran r q first.works first'.items first'.fault
+  controlled : HasControlled Past lanes.run.main lanes.ran r q first'.works first'.items first'.fault
   controlled = lanes.run.first_did.controlled
 
   -- the pass that did the first lane's statements knew what the block began with, and what it knew then it knows at the end

@@ -1,11 +1,14 @@
 -- The statements of a lane behind the first, from their start to their end.
-use Rattle.std.proofs.Common.{◌≡◌, ◌≢◌, ℕ, ◌≤◌, List, [], ⊎_elim, sym, ◌∙◌, subst, refl, arith}
+use Rattle.std.proofs.Common.{◌≡◌, ◌≢◌, ℕ, ◌≤◌, List, [], ⊎_elim, sym, ap, ◌∙◌, subst, refl, arith, Bool}
+use Rattle.std.specs.Prelude.{is_some}
 use Rattle.fish_ingest.proofs.IngestionStart.{idle_law}
 use Rattle.fish_lanes.proofs.Advancing.{run_fewer}
+use Rattle.fish_lanes.proofs.Full.{unshut_test}
 use Rattle.fish_lanes.proofs.Lists.{some_once}
 use Rattle.fish_lanes.proofs.SoFar.{far_self}
 use Rattle.fish_lanes.specs.Advancing.{HasFinished, HasGone, IsOn, IsOnAnyhow, IsShort, IsSoFar}
 use Rattle.fish_lanes.specs.Causes.{HasCause, IsUndamaged}
+use Rattle.fish_lanes.specs.Full.{IsNotFull, TellsLast}
 use Rattle.fish_lanes.specs.Outcome.{Stops}
 use Rattle.fish_lanes.specs.Pasts.{WasHere}
 use Rattle.fish_lanes.specs.Running.{CanBegin, HasDone, HasRun, SayPlans}
@@ -31,15 +34,23 @@ on_ended Past v u works items fault.Memory named h = h
 on_ended Past v u works items fault.Disk named h = h
 on_ended Past v u works items (fault.Damaged n) named h = h
 
+-- and the other way round
+pub on_fault : {Past : Whole → Type 0} (v u : View) (works : List Work) (items : List Item) (why : LaneFault) → why ≢ fault.None
+    → HasRun Past v u works items why × SayPlans v u works items → IsOn Past v u works items why
+on_fault v u works items fault.None named h = absurd (named refl)
+on_fault v u works items fault.Memory named h = h
+on_fault v u works items fault.Disk named h = h
+on_fault v u works items (fault.Damaged n) named h = h
+
 -- one that stopped at none is so far
 pub on_far : (Past : Whole → Type 0) (v u : View) (works : List Work) (items : List Item) (why : LaneFault) → why ≡ fault.None
     → IsOn Past v u works items why → IsSoFar Past v u works items
 on_far Past v u works items why none h = subst (IsOn Past v u works items) none h
 
 -- what is finished behind some pasts is finished behind each of these
-pub finished_fewer : (P Q : Whole → Type 0) (log : Log) (x y : Lane) → ((past : Whole) → Q past → P past) → HasFinished P log x y
-    → HasFinished Q log x y
-finished_fewer P Q log x y fewer h = record {
+pub finished_fewer : (P Q : Whole → Type 0) (full : Bool) (log : Log) (x y : Lane) → ((past : Whole) → Q past → P past)
+    → HasFinished P full log x y → HasFinished Q full log x y
+finished_fewer P Q full log x y fewer h = record {
   before = h.before;
   before_is = h.before_is;
   after = h.after;
@@ -49,14 +60,17 @@ finished_fewer P Q log x y fewer h = record {
   number = h.number;
   run = λ start on.
       let ran = h.run start on in
-      (run_fewer P Q start (view h.after.pass) x.works y.items y.fault fewer ran.0, ran.1);
+      (run_fewer P Q start (view h.after.pass) y.works y.items y.fault fewer ran.0, ran.1);
+  cut = h.cut;
+  last = h.last;
   answers = h.answers;
 }
 
 -- the statements were begun, and then finished
-pub done_of : (Past P : Whole → Type 0) (log : Log) (x y z : Lane) → ((past : Whole) → Past past → P past) → x.items ≡ []
-    → (gone : HasGone log x y) → CanBegin log gone.before.pass → HasFinished P log y z → HasDone Past log x z
-done_of Past P log x y z fewer empty gone can fin =
+pub done_both : (Past P : Whole → Type 0) (full : Bool) (log : Log) (x y z : Lane) → ((past : Whole) → Past past → P past)
+    → x.items ≡ [] → (gone : HasGone log x y) → CanBegin log gone.before.pass → full ≡ is_some (view gone.before.pass).shut
+    → HasFinished P full log y z → HasDone Past log x z
+done_both Past P full log x y z fewer empty gone can told fin =
     let start : View = view gone.before.pass in
     let seat : gone.after ≡ fin.before = some_once gone.after fin.before (sym gone.after_is ∙ fin.before_is) in
     let on : IsOnAnyhow start (view fin.before.pass) y.works y.items y.fault =
@@ -72,11 +86,16 @@ done_of Past P log x y z fewer empty gone can fin =
       after = fin.after;
       after_is = fin.after_is;
       can = fin.can;
-      run = run_fewer P Past start (view fin.after.pass) x.works z.items z.fault fewer
-          (subst (λ (w : List Work). HasRun P start (view fin.after.pass) w z.items z.fault) gone.works ran.0);
-      plans = subst (λ (w : List Work). SayPlans start (view fin.after.pass) w z.items) gone.works ran.1;
+      run = run_fewer P Past start (view fin.after.pass) z.works z.items z.fault fewer ran.0;
+      plans = ran.1;
+      stops = record {
+        cut = λ some. let cut = fin.cut (gone.answers (subst (AllOf IsAnswer) (sym empty) tt)) some in
+            record { fault = cut.0; unshut = unshut_test start.shut (sym told ∙ cut.1); shut = cut.2 };
+        last = λ unshut. fin.last (told ∙ ap is_some unshut) (subst (λ (s : Seated). TellsLast (view s.pass) y.items y.fault) seat
+            (gone.last unshut (subst (AllOf IsNotFull) (sym empty) tt)));
+      };
       answers = fin.answers (gone.answers (subst (AllOf IsAnswer) (sym empty) tt));
-      works = fin.works ∙ gone.works;
+      works = sym gone.works ∙ fin.works;
       number = fin.number ∙ gone.number;
     }
 

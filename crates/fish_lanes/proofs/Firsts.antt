@@ -3,7 +3,7 @@ use Rattle.std.proofs.Common.{◌≡◌, ℕ, ◌+◌, zero, suc, List, [], ◌�
 use Rattle.std.proofs.Common.{◌∙◌, None, ap, length, sym}
 use Rattle.std.specs.Prelude.{All}
 use Rattle.fish_lanes.proofs.Lists.{some_once}
-use Rattle.fish_lanes.specs.Blocks.{AreLanes, CanGive, IsNewLane}
+use Rattle.fish_lanes.specs.Blocks.{AreKept, AreLanes, CanGive, IsKept, IsNewLane}
 use Rattle.fish_lanes.specs.Outcome.{AreVacant}
 use Rattle.fish_lanes.specs.Ending.{HasEnd}
 use Rattle.fish_lanes.specs.Registering.{IsAcceptable}
@@ -46,6 +46,14 @@ vacant_both x d [] others h first before rest i z at = (let some_ = h.some in ab
 vacant_both x d (y ∷ lanes) others h first before rest zero z at =
     subst (λ (w : Lane). w.seat ≡ None) (some_once x z at) (first ∙ before 0 y refl)
 vacant_both x d (y ∷ lanes) others h first before rest (suc i) z at = rest i z at
+
+-- each keeps its number and statements, but for what it hands back
+pub kept_both : (x d : Lane) (lanes after : List Lane) → AreLanes lanes → IsKept (get_or (take 1 lanes) 0 d) x
+    → AreKept (drop 1 lanes) after → AreKept lanes (set (take 1 lanes) 0 x ++ after)
+kept_both x d [] after h first rest i y z at_y at_z = (let some_ = h.some in absurd (omega arith))
+kept_both x d (l ∷ lanes) after h first rest zero y z at_y at_z =
+    subst (λ (p : Lane × Lane). IsKept p.0 p.1) (λ i. (some_once l y at_y i, some_once x z at_z i)) first
+kept_both x d (l ∷ lanes) after h first rest (suc i) y z at_y at_z = rest i y z at_y at_z
 
 -- where the first is all there is, there are no others
 pub alone_first : (P : Lane → Type 0) (x : Lane) (lanes others after : List Lane) → AreLanes lanes → length after ≡ length others

@@ -102,6 +102,7 @@ seated_ready log v i x y new shared s = record {
   seat_is = ap (λ (z : Lane). z.seat) s.is;
   can = s.can;
   shared = subst (λ (z : Lane). All IsShared z.works) (sym s.is) shared;
+  nothing_left = ap (λ (z : Lane). z.left) s.is ∙ new.nothing_left;
 }
 
 -- the pass of a lane that is ready

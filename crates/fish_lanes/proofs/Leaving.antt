@@ -1,11 +1,13 @@
 -- What the items of all lanes say of plans and of a full log, at the end of their block.
-use Rattle.std.proofs.Common.{◌≡◌, ◌⊎◌, ℕ, zero, suc, List, ◌∷◌, length, refl, sym, ap, ◌∙◌, subst, inl, inr, ⊎_elim}
+use Rattle.std.proofs.Common.{◌≡◌, ◌≢◌, ◌⊎◌, ℕ, [], zero, suc, List, ◌∷◌, length, refl, sym, ap, ◌∙◌, subst, inl, inr, ⊎_elim}
 use Rattle.std.proofs.Common.{arith, Some, slice_get}
 use Rattle.std.proofs.lemmas.Option.{slice_get_within}
 use Rattle.fish_lanes.proofs.Claims.{claim_by, names_one}
 use Rattle.fish_lanes.proofs.Course as course
 use Rattle.fish_lanes.proofs.Covering.{bounds_before, bounds_in, bounds_read, read_later}
 use Rattle.fish_lanes.proofs.Ends.{given_registry}
+use Rattle.fish_lanes.proofs.Full.{found_full}
+use Rattle.fish_lanes.proofs.Kept.{stops_same}
 use Rattle.fish_lanes.proofs.Lists.{at_places, some_once}
 use Rattle.fish_lanes.proofs.Moments.{Closes, get_there, learns_same}
 use Rattle.fish_lanes.proofs.Plans.{plans_later}
@@ -13,8 +15,9 @@ use Rattle.fish_lanes.proofs.Registrations.{registry_later}
 use Rattle.fish_lanes.specs.Blocks.{At, IsShutOfLane}
 use Rattle.fish_lanes.specs.Course.{AllBack, AllRan, HasFoundEnd}
 use Rattle.fish_lanes.specs.Ending.{HasEnd}
+use Rattle.fish_lanes.specs.Full.{AreFullLast, StopsFull}
 use Rattle.fish_lanes.specs.Gains.{WasShut}
-use Rattle.fish_lanes.specs.Outcome.{IsFullIn, LanesSayPlans, TellsShutBy}
+use Rattle.fish_lanes.specs.Outcome.{HandsBack, IsCutShort, IsFullIn, LanesSayPlans, TellFullLast, TellsShutBy}
 use Rattle.fish_lanes.specs.Plans.{AreSoPlans, KnowsRows}
 use Rattle.fish_lanes.specs.Registering.{KnowsRegistry, Registry, registry_of}
 use Rattle.fish_lanes.specs.Sizes.{NamesOneClaim, TellsClaim, claim_of}
@@ -28,6 +31,7 @@ use Rattle.fish_registry.specs.declared.registrar.Registrar.{Registrar}
 use Rattle.fish_report.specs.declared.item.Item.{Item}
 use Rattle.fish_report.specs.declared.item.Item.TheVariants as item
 use Rattle.fish_rule.proofs.laws.Learning.{learns_both}
+use Rattle.fish_rule.proofs.laws.Lists.{among_right}
 use Rattle.fish_rule.specs.Logs.{Learns}
 use Rattle.fish_rule.specs.Passes.{view}
 use Rattle.fish_rule.specs.Table.{Stands}
@@ -60,9 +64,9 @@ module _ {Past : Whole → Type 0} {log : Log} {v w u t : View} {r q kept : Regi
       let same : run.main.learned.settled ≡ v.learned.settled = ap (λ (z : Learned). z.settled) run.gives.learned in
       let said = run.first_did.controlled.plans kept.catalog from
       (bounds_before w t kept.catalog end_learns (bounds_in t kept stands knows)) (omega arith) in
-      subst (λ (z : Registry × List Work). AreSoPlans (KnowsRows t) z.0 kept.catalog from z.1 first'.items)
-      (λ j. (given_registry v run.main r run.gives.learned j, sym run.first_did.works j))
-      (plans_later w t (registry_of run.main r) kept.catalog from first.works first'.items end_learns said)
+      subst (λ (z : Registry). AreSoPlans (KnowsRows t) z kept.catalog from first'.works first'.items)
+      (given_registry v run.main r run.gives.learned)
+      (plans_later w t (registry_of run.main r) kept.catalog from first'.works first'.items end_learns said)
 
   others_plans : Knows v r → KnowsRegistry v (registry_of v r) → (from : ℕ) → HasEnd v from
       → LanesSayPlans (KnowsRows t) (registry_of v r) kept.catalog from after
@@ -84,8 +88,8 @@ module _ {Past : Whole → Type 0} {log : Log} {v w u t : View} {r q kept : Regi
       (registry_later v (view start.pass) (registry_of v r) learns registry) kept.catalog from
       (bounds_before (view e.pass) t kept.catalog back (bounds_in t kept stands knows)) (omega arith) in
       subst (λ (q : List Work × List Item). AreSoPlans (KnowsRows t) (registry_of v r) kept.catalog from q.0 q.1)
-      (λ j. ((sym p.run_of.works ∙ sym w'.works) j, sym w'.items j))
-      (plans_later (view e.pass) t (registry_of v r) kept.catalog from p.mid.works z.0.items back said)
+      (λ j. (sym w'.works j, sym w'.items j))
+      (plans_later (view e.pass) t (registry_of v r) kept.catalog from z.0.works z.0.items back said)
 
   pub all_plans : Knows v r → KnowsRegistry v (registry_of v r) → (from : ℕ) → HasEnd v from
       → LanesSayPlans (KnowsRows t) (registry_of v r) kept.catalog from (first' ∷ after)
@@ -165,3 +169,54 @@ module _ {Past : Whole → Type 0} {log : Log} {v w u t : View} {r q kept : Regi
         (names_one v.shut (view p.run_of.after.pass) z.0.items p.run_of.run.full
         (λ c e. p.run_of.run.gains.shut c (course.way_shut run i z.0 p ∙ e))));
   }
+
+  -- ---- statements that are handed back
+
+  -- a lane that stopped so stops, where its items tell the same and what shut its pass
+  cut_short : (s e : View) (at : ℕ) (x : Lane) → slice_get (first' ∷ after) at ≡ Some x → s.shut ≡ v.shut → StopsFull s e x
+      → x.left ≢ [] → IsCutShort v t x
+  cut_short s e at x there same stops some =
+      let cut = stops.cut some in
+      let told = found_full e x.items ((stops.last cut.unshut).found cut.fault) cut.shut in
+      record {
+        fault = cut.fault;
+        last = told;
+        unshut = sym same ∙ cut.unshut;
+        shut = all_shuts.shuts told.line told.lines told.end (record {
+          at = at;
+          lane = x;
+          lane_is = there;
+          file = told.file;
+          stored = told.stored;
+          refused = told.refused;
+          among = subst (Among (item.IngestFull told.file told.line told.lines told.end told.stored told.refused)) (sym told.is)
+              (among_right _ told.front _ (inl refl));
+        });
+      }
+
+  -- how the lane at a place stopped
+  stops_at : (i : ℕ) (y : Lane) → slice_get after i ≡ Some y
+      → (s : View) × (e : View) × (s.shut ≡ v.shut) × StopsFull s e y
+  stops_at i y at =
+      let z = course.ran_at run returned i y at in
+      let p = course.way run i z.0 z.1 in
+      let w' = returned.taken i z.0 y z.1 at in
+      let s = view p.run_of.before.pass in
+      let e = view p.run_of.after.pass in (
+        s,
+        e,
+        course.way_shut run i z.0 p,
+        stops_same s e z.0 y w'.left w'.items w'.fault p.run_of.stops,
+      )
+
+  -- each that hands statements back does so since it found the log full
+  pub all_left : HandsBack v t (first' ∷ after)
+  all_left zero x at some = cut_short run.main w zero x at run.gives.shut
+      (subst (StopsFull run.main w) (some_once first' x at) run.first_did.stops) some
+  all_left (suc i) y at some = (let s = stops_at i y at in cut_short s.0 s.1 (suc i) y at s.2 s.3 some)
+
+  -- and none but its last item tells so
+  pub all_last : TellFullLast v (first' ∷ after)
+  all_last unshut = at_places (λ i x. AreFullLast x.items) first' after
+      (run.first_did.stops.last (run.gives.shut ∙ unshut)).full
+      (λ i y at. let s = stops_at i y at in (s.3.last (s.2 ∙ unshut)).full)

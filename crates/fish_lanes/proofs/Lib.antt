@@ -16,10 +16,12 @@ pub mod Faults
 pub mod Finished
 pub mod Firsts
 pub mod Fitting
+pub mod Full
 pub mod Gaining
 pub mod Growing
 pub mod Items
 pub mod Keeping
+pub mod Kept
 pub mod Lanes
 pub mod Leaving
 pub mod Lists

@@ -71,7 +71,7 @@ module _ (v u : View) (r : Registry) (rows : List CatRow) (start : ℕ) (stands 
     unfolding named_at
     fit_so Past (work.Register name def) x f = tt
     fit_so Past (work.Deregister name) x f = tt
-    fit_so Past (work.Ingest form header name file) x f = tt
+    fit_so Past (work.Ingest form begin name file) x f = tt
     fit_so Past (work.Scan ask) x (inl f) = subst (TellsPlansOf (KnowsRows u) r.rows rows start ask) (sym f.is) tt
     fit_so Past (work.Scan ask) x (inr f) =
         subst (TellsPlansOf (KnowsRows u) r.rows rows start ask) (sym f.is) (scan_refused_so ask f.version f.why f.fits)
@@ -112,7 +112,7 @@ module _ {A B : ℕ → List Listed → Type 0} (so : (n : ℕ) (ls : List Liste
   first_so told rows start (work.Explain ask ∷ works) x h = of_so told rows start ask x h
   first_so told rows start (work.Register name def ∷ works) x h = tt
   first_so told rows start (work.Deregister name ∷ works) x h = tt
-  first_so told rows start (work.Ingest form header name file ∷ works) x h = tt
+  first_so told rows start (work.Ingest form begin name file ∷ works) x h = tt
   first_so told rows start (work.Checkpoint ∷ works) x h = tt
 
   -- by all items
@@ -145,7 +145,7 @@ module _ (A : ℕ → List Listed → Type 0) where
   first_other told rows start (work.Explain ask ∷ works) x e = of_other told rows start ask x e
   first_other told rows start (work.Register name def ∷ works) x e = tt
   first_other told rows start (work.Deregister name ∷ works) x e = tt
-  first_other told rows start (work.Ingest form header name file ∷ works) x e = tt
+  first_other told rows start (work.Ingest form begin name file ∷ works) x e = tt
   first_other told rows start (work.Checkpoint ∷ works) x e = tt
 
   -- what is so of the items behind one is so of all, where more statements follow

@@ -43,14 +43,14 @@ module _ (u t : View) (about : t.about ≡ u.about) where
   item_shown Past (work.Register name def) x n s (inr (inr f)) m sh low = shows_none x _ s (IsPublished t n) f.1 refl m
   item_shown Past (work.Deregister name) x n s (inl f) m sh low = shows_none x _ s (IsPublished t n) f.2 refl m
   item_shown Past (work.Deregister name) x n s (inr f) m sh low = shows_none x _ s (IsPublished t n) f.1 refl m
-  item_shown Past (work.Ingest form header name file) x n s (inl f) m sh low = elim (subst (λ (z : Item). Among s (shown_by z)) f.is m) [ ]
-  item_shown Past (work.Ingest form header name file) x n s (inr (inl f)) m sh low =
+  item_shown Past (work.Ingest form begin name file) x n s (inl f) m sh low = elim (subst (λ (z : Item). Among s (shown_by z)) f.is m) [ ]
+  item_shown Past (work.Ingest form begin name file) x n s (inr (inl f)) m sh low =
       refused (subst (λ (z : Item). Among s (shown_by z)) f.is m)
     where
       refused : Among s (claimed f.line f.lines f.end ∷ []) → IsPublished t n
       refused (inr none) = elim none [ ]
       refused (inl e) = elim (subst (IsShown n) (sym e) sh) [ ]
-  item_shown Past (work.Ingest form header name file) x n s (inr (inr f)) m sh low =
+  item_shown Past (work.Ingest form begin name file) x n s (inr (inr f)) m sh low =
       elim (subst (λ (z : Item). Among s (shown_by z)) f.is m) [ ]
   item_shown Past (work.Scan ask) x n s (inl f) m sh low =
       scanned f (subst (λ (z : Item). Among s (shown_by z)) f.is m)
@@ -83,15 +83,15 @@ module _ (u t : View) (about : t.about ≡ u.about) where
   item_settles Past (work.Register name def) x k (inr (inr f)) m = shows_none x _ (settled k) (k ≤ t.learned.settled) f.1 refl m
   item_settles Past (work.Deregister name) x k (inl f) m = shows_none x _ (settled k) (k ≤ t.learned.settled) f.2 refl m
   item_settles Past (work.Deregister name) x k (inr f) m = shows_none x _ (settled k) (k ≤ t.learned.settled) f.1 refl m
-  item_settles Past (work.Ingest form header name file) x k (inl f) m =
+  item_settles Past (work.Ingest form begin name file) x k (inl f) m =
       elim (subst (λ (z : Item). Among (settled k) (shown_by z)) f.is m) [ ]
-  item_settles Past (work.Ingest form header name file) x k (inr (inl f)) m =
+  item_settles Past (work.Ingest form begin name file) x k (inr (inl f)) m =
       refused (subst (λ (z : Item). Among (settled k) (shown_by z)) f.is m)
     where
       refused : Among (settled k) (claimed f.line f.lines f.end ∷ []) → k ≤ t.learned.settled
       refused (inr none) = elim none [ ]
       refused (inl e) = absurd (let bad : 0 ≡ 1 = ap is_count e in cc)
-  item_settles Past (work.Ingest form header name file) x k (inr (inr f)) m =
+  item_settles Past (work.Ingest form begin name file) x k (inr (inr f)) m =
       elim (subst (λ (z : Item). Among (settled k) (shown_by z)) f.is m) [ ]
   item_settles Past (work.Scan ask) x k (inl f) m = scanned f (subst (λ (z : Item). Among (settled k) (shown_by z)) f.is m)
     where
@@ -116,9 +116,9 @@ fit_answer Past u t (work.Register name def) x (inr (inl f)) = ap is_answer f.3
 fit_answer Past u t (work.Register name def) x (inr (inr f)) = ap is_answer f.1
 fit_answer Past u t (work.Deregister name) x (inl f) = ap is_answer f.2
 fit_answer Past u t (work.Deregister name) x (inr f) = ap is_answer f.1
-fit_answer Past u t (work.Ingest form header name file) x (inl f) = ap is_answer f.is
-fit_answer Past u t (work.Ingest form header name file) x (inr (inl f)) = ap is_answer f.is
-fit_answer Past u t (work.Ingest form header name file) x (inr (inr f)) = ap is_answer f.is
+fit_answer Past u t (work.Ingest form begin name file) x (inl f) = ap is_answer f.is
+fit_answer Past u t (work.Ingest form begin name file) x (inr (inl f)) = ap is_answer f.is
+fit_answer Past u t (work.Ingest form begin name file) x (inr (inr f)) = ap is_answer f.is
 fit_answer Past u t (work.Scan ask) x (inl f) = ap is_answer f.is
 fit_answer Past u t (work.Scan ask) x (inr f) = ap is_answer f.is
 fit_answer Past u t (work.Explain ask) x (inl f) = ap is_answer f.is
@@ -129,9 +129,9 @@ fit_answer Past u t work.Checkpoint x f = ap is_answer f.is
 pub free_made : (Past : Whole → Type 0) (u t : View) (w : Work) (x : Item) → IsFree w → IsFit Past u t w x → made_by x ≡ 0
 free_made Past u t (work.Register name def) x free f = elim free [ ]
 free_made Past u t (work.Deregister name) x free f = elim free [ ]
-free_made Past u t (work.Ingest form header name file) x free (inl f) = ap made_by f.is
-free_made Past u t (work.Ingest form header name file) x free (inr (inl f)) = ap made_by f.is
-free_made Past u t (work.Ingest form header name file) x free (inr (inr f)) = ap made_by f.is
+free_made Past u t (work.Ingest form begin name file) x free (inl f) = ap made_by f.is
+free_made Past u t (work.Ingest form begin name file) x free (inr (inl f)) = ap made_by f.is
+free_made Past u t (work.Ingest form begin name file) x free (inr (inr f)) = ap made_by f.is
 free_made Past u t (work.Scan ask) x free (inl f) = ap made_by f.is
 free_made Past u t (work.Scan ask) x free (inr f) = ap made_by f.is
 free_made Past u t (work.Explain ask) x free (inl f) = ap made_by f.is
@@ -161,11 +161,11 @@ full_fit Past u t w x fit file line lines end stored refused is = by w (subst (I
     by (work.Register name def) (inr (inr f)) = (let bad = f.1 in absurd cc)
     by (work.Deregister name) (inl f) = (let bad = f.2 in absurd cc)
     by (work.Deregister name) (inr f) = (let bad = f.1 in absurd cc)
-    by (work.Ingest form header name content) (inl f) = (let bad = f.is in absurd cc)
-    by (work.Ingest form header name content) (inr (inl f)) =
+    by (work.Ingest form begin name content) (inl f) = (let bad = f.is in absurd cc)
+    by (work.Ingest form begin name content) (inr (inl f)) =
         subst (λ (z : ℕ × ℕ × ℕ). IsFullBy t z.0 z.1 z.2)
         (λ i. (line_in (sym f.is i), lines_in (sym f.is i), end_in (sym f.is i))) f.full
-    by (work.Ingest form header name content) (inr (inr f)) = (let bad = f.is in absurd cc)
+    by (work.Ingest form begin name content) (inr (inr f)) = (let bad = f.is in absurd cc)
     by (work.Scan ask) (inl f) = (let bad = f.is in absurd cc)
     by (work.Scan ask) (inr f) = (let bad = f.is in absurd cc)
     by (work.Explain ask) (inl f) = (let bad = f.is in absurd cc)

@@ -277,7 +277,7 @@ module _ (v u : View) (end : ℕ) (h : HasEnd v end) (learns : Learns v u) (s : 
     fit_free Past work.Checkpoint x free f =
         let e = f.exact h.alone in
         f.is ∙ ap item.Checkpointed (same_end v u end f.count e.0 h learns s f.above f.settled e.1 e.2)
-    fit_free Past (work.Ingest form header name file) x free f = tt
+    fit_free Past (work.Ingest form begin name file) x free f = tt
     fit_free Past (work.Register name def) x free f = elim free [ ]
     fit_free Past (work.Deregister name) x free f = elim free [ ]
 
@@ -287,7 +287,7 @@ module _ (v u : View) (end : ℕ) (h : HasEnd v end) (learns : Learns v u) (s : 
       → TellsSingle Past v u r.rows end w x
   fit_single Past (work.Register name def) x r stood read registry free at f = boundary_at x stood at
   fit_single Past (work.Deregister name) x r stood read registry free at f = boundary_at x stood at
-  fit_single Past (work.Ingest form header name file) x r stood read registry free at f = tt
+  fit_single Past (work.Ingest form begin name file) x r stood read registry free at f = tt
   fit_single Past (work.Scan ask) x r stood read registry free at f =
       fit_free r read registry (free tt).0 (free tt).1 Past (work.Scan ask) x tt f
   fit_single Past (work.Explain ask) x r stood read registry free at f =
@@ -313,7 +313,7 @@ module _ (v u t : View) (rows : List CatRow) (end : ℕ) (learns : Learns u t) (
   single_later Past work.Checkpoint x h = h
   single_later Past (work.Register name def) x h = h
   single_later Past (work.Deregister name) x h = h
-  single_later Past (work.Ingest form header name file) x h = tt
+  single_later Past (work.Ingest form begin name file) x h = tt
 
   pub singles_later : (Past : Whole → Type 0) (w : Work) (items : List Item) → AllOf (TellsSingle Past v u rows end w) items
       → AllOf (TellsSingle Past v t rows end w) items
@@ -344,7 +344,7 @@ module _ (P Q : Whole → Type 0) (v u : View) (rows : List CatRow) (end : ℕ) 
   single_fewer work.Checkpoint x h = h
   single_fewer (work.Register name def) x h = h
   single_fewer (work.Deregister name) x h = h
-  single_fewer (work.Ingest form header name file) x h = tt
+  single_fewer (work.Ingest form begin name file) x h = tt
 
   singles_fewer : (w : Work) (items : List Item) → AllOf (TellsSingle P v u rows end w) items → AllOf (TellsSingle Q v u rows end w) items
   singles_fewer w [] h = tt
@@ -367,9 +367,9 @@ alone_changes u p changes alone = record {
 pub fit_closed : (Past : Whole → Type 0) (v u : View) (w : Work) (x : Item) → IsFree w → IsAlone v → IsFit Past v u w x → NamesNone x
 fit_closed Past v u (work.Register name def) x free a f = elim free [ ]
 fit_closed Past v u (work.Deregister name) x free a f = elim free [ ]
-fit_closed Past v u (work.Ingest form header name file) x free a (inl f) = subst NamesNone (sym f.is) tt
-fit_closed Past v u (work.Ingest form header name file) x free a (inr (inl f)) = subst NamesNone (sym f.is) tt
-fit_closed Past v u (work.Ingest form header name file) x free a (inr (inr f)) = subst NamesNone (sym f.is) tt
+fit_closed Past v u (work.Ingest form begin name file) x free a (inl f) = subst NamesNone (sym f.is) tt
+fit_closed Past v u (work.Ingest form begin name file) x free a (inr (inl f)) = subst NamesNone (sym f.is) tt
+fit_closed Past v u (work.Ingest form begin name file) x free a (inr (inr f)) = subst NamesNone (sym f.is) tt
 fit_closed Past v u (work.Scan ask) x free a (inl f) =
     subst NamesNone (sym f.is) (f.fits.planned.exact a).closed
 fit_closed Past v u (work.Scan ask) x free a (inr f) = subst NamesNone (sym f.is) tt
@@ -433,7 +433,7 @@ single_whole Past v u rows end (work.Explain ask) x (inl h) = subst (TellsWhole 
 single_whole Past v u rows end (work.Explain ask) x (inr h) = subst (TellsWhole rows v.shut end (work.Explain ask)) (sym h.is) h.tells
 single_whole Past v u rows end (work.Register name def) x h = h
 single_whole Past v u rows end (work.Deregister name) x h = h
-single_whole Past v u rows end (work.Ingest form header name file) x h = tt
+single_whole Past v u rows end (work.Ingest form begin name file) x h = tt
 single_whole Past v u rows end work.Checkpoint x h = h
 
 pub singles_whole : (Past : Whole → Type 0) (v u : View) (rows : List CatRow) (end : ℕ) (w : Work) (items : List Item)

@@ -1,10 +1,10 @@
 -- How far the statements of a lane behind the first are done: one more, none, a part of one, or all.
 use Rattle.std.proofs.Common.{◌≡◌, ◌≢◌, ℕ, ◌+◌, ◌<◌, ◌≤◌, List, [], ◌∷◌, ◌++◌, length, take, drop, get_or, refl, sym, ap, ◌∙◌, subst}
 use Rattle.std.proofs.Common.{Ok, Err, Result, inl, inr, arith, length-append, None}
-use Rattle.std.proofs.lemmas.List.{take_all, take_more}
+use Rattle.std.proofs.lemmas.List.{take_more}
 use Rattle.std.specs.Prelude.{IfOk}
 use Rattle.fish_lang.specs.declared.definition.Def.{Def}
-use Rattle.fish_lanes.proofs.Advancing.{answers_more, run_cut, run_ended, told_fewer, told_more, told_on}
+use Rattle.fish_lanes.proofs.Advancing.{answers_more, run_cut, told_fewer, told_more, told_on}
 use Rattle.fish_lanes.proofs.Controls.{plans_on}
 use Rattle.fish_lanes.proofs.Done.{told_self}
 use Rattle.fish_lanes.proofs.Gaining.{gains_scans, gains_start}
@@ -53,7 +53,7 @@ fit_fewer : (P Q : Whole → Type 0) (u t : View) (w : Work) (x : Item) → ((pa
     → IsFit Q u t w x
 fit_fewer P Q u t (work.Register name def) x fewer f = f
 fit_fewer P Q u t (work.Deregister name) x fewer f = f
-fit_fewer P Q u t (work.Ingest form header name file) x fewer f = f
+fit_fewer P Q u t (work.Ingest form begin name file) x fewer f = f
 fit_fewer P Q u t (work.Scan ask) x fewer (inl f) = inl (record {
   from = f.from;
   to = f.to;
@@ -120,7 +120,7 @@ far_fewer P Q v u works items fewer h = record {
 pub shared_free : (w : Work) → IsShared w → IsFree w
 shared_free (work.Register name def) h = elim h [ ]
 shared_free (work.Deregister name) h = elim h [ ]
-shared_free (work.Ingest form header name file) h = tt
+shared_free (work.Ingest form begin name file) h = tt
 shared_free (work.Scan ask) h = tt
 shared_free (work.Explain ask) h = tt
 shared_free work.Checkpoint h = elim h [ ]
@@ -130,7 +130,7 @@ pub shared_of : (w : Work) → ((name : List ℕ) (def : Def) → w ≡ work.Reg
     → ((name : List ℕ) → w ≡ work.Deregister name → ⊥) → (w ≡ work.Checkpoint → ⊥) → IsShared w
 shared_of (work.Register name def) no_register no_end no_commit = absurd (no_register name def refl)
 shared_of (work.Deregister name) no_register no_end no_commit = absurd (no_end name refl)
-shared_of (work.Ingest form header name file) no_register no_end no_commit = tt
+shared_of (work.Ingest form begin name file) no_register no_end no_commit = tt
 shared_of (work.Scan ask) no_register no_end no_commit = tt
 shared_of (work.Explain ask) no_register no_end no_commit = tt
 shared_of work.Checkpoint no_register no_end no_commit = absurd (no_commit refl)
@@ -239,12 +239,3 @@ pub next_start : (u t : View) (w : Work) (old new : List Item) (r : Result (Unit
 next_start u t w old new (Ok done) idle can n = gains_start u t n.2.gained.rows can n.2.gained.gains
 next_start u t w old new (Err stop.Memory) idle can n = gains_start u t n.1.1.rows can n.1.1.gains
 next_start u t w old new (Err stop.Older) idle can n = gains_start u t [] can (gains_scans u t can.outside idle n.1.2)
-
--- all are done
-pub far_ended : {Past : Whole → Type 0} (v u : View) (works : List Work) (items : List Item) → IsSoFar Past v u works items
-    → length works ≤ length items → HasRun Past v u works items fault.None × SayPlans v u works items
-far_ended {Past} v u works items h all =
-    let whole : take (length items) works ≡ works = take_all (length items) works all in (
-      subst (λ (z : List Work). HasRun Past v u z items fault.None) whole (run_ended v u (take (length items) works) items h.told),
-      subst (λ (z : List Work). SayPlans v u z items) whole h.said.plans,
-    )

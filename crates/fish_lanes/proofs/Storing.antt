@@ -28,8 +28,9 @@ use Rattle.fish_lanes.specs.Telling.{AreCounted, all_of}
 use Rattle.fish_lanes.specs.declared.ingesting.Tally.{Tally}
 use Rattle.fish_lanes.specs.declared.work.Work.{Work}
 use Rattle.fish_lanes.specs.declared.work.Work.TheVariants as work
-use Rattle.fish_lines.specs.File.{accepted, outcomes, refused}
-use Rattle.fish_lines.specs.Lines.{file_lines}
+use Rattle.fish_lines.specs.File.{accepted, refused}
+use Rattle.fish_lines.specs.Resuming.{outcomes_from}
+use Rattle.fish_lines.specs.declared.resuming.Begin.{Begin}
 use Rattle.fish_psf.proofs.RecordLemmas.{csv_long, json_long}
 use Rattle.fish_psf.specs.Keys.{keys_of}
 use Rattle.fish_psf.specs.Records.{fields_of_payload, is_record}
@@ -288,20 +289,14 @@ takes_one v u form payload t t' (inl h) =
 takes_one v u form payload t t' (inr h) =
     (let a = ap (λ (z : Tally). z.stored) h.2 in let b = ap (λ (z : Tally). z.refused) h.2 in omega arith)
 
--- the lines of a file are what is left at first
-pub json_outcomes : (file : List ℕ) (lines : List (List ℕ)) → lines ≡ file_lines file
-    → json.outcomes file ≡ map json.payload_of lines
-unfolding json.outcomes json.outcomes_of
-json_outcomes file lines is = ap (map json.payload_of) (sym is)
-
 -- ---- the file
 
 -- what was stored of a file is what its item tells
-pub file_item : (v u : View) (form : Form) (header : Bool) (name file : List ℕ) (tally : Tally) (end : Option Shut)
-    → length file ≤ longest_file → EndsWith v u form (outcomes form header file) tally end
-    → IsItem anywhere v u (work.Ingest form header name file) (item_of name tally end)
-file_item v u form header name file tally None within h = record {
-  gained = stored_first v u form (outcomes form header file) [] tally h.stored;
+pub file_item : (v u : View) (form : Form) (begin : Begin) (name file : List ℕ) (tally : Tally) (end : Option Shut)
+    → length file ≤ longest_file → EndsWith v u form (outcomes_from form begin file) tally end
+    → IsItem anywhere v u (work.Ingest form begin name file) (item_of name tally end)
+file_item v u form begin name file tally None within h = record {
+  gained = stored_first v u form (outcomes_from form begin file) [] tally h.stored;
   shuts = λ c e. inl (sym h.shut ∙ e);
   fit = inl (record {
     stored = tally.stored;
@@ -312,8 +307,8 @@ file_item v u form header name file tally None within h = record {
         (sym (h.stored.parts ∙ append-nil h.stored.front)) h.stored.counted;
   });
 }
-file_item v u form header name file tally (Some shut) within h = record {
-  gained = stored_first v u form (outcomes form header file) (Some h.payload ∷ h.rest) tally h.stored;
+file_item v u form begin name file tally (Some shut) within h = record {
+  gained = stored_first v u form (outcomes_from form begin file) (Some h.payload ∷ h.rest) tally h.stored;
   shuts = λ c e. inr (
     name,
     tally.stored,
@@ -342,9 +337,9 @@ file_item v u form header name file tally (Some shut) within h = record {
 }
 
 -- and a part of it a part
-pub file_part : (v u : View) (form : Form) (header : Bool) (name file : List ℕ) → IsPartStored v u form (outcomes form header file)
-    → IsPart v u (work.Ingest form header name file)
-file_part v u form header name file h = (h.1.stored, stored_first v u form (outcomes form header file) h.0 h.1 h.2)
+pub file_part : (v u : View) (form : Form) (begin : Begin) (name file : List ℕ) → IsPartStored v u form (outcomes_from form begin file)
+    → IsPart v u (work.Ingest form begin name file)
+file_part v u form begin name file h = (h.1.stored, stored_first v u form (outcomes_from form begin file) h.0 h.1 h.2)
 
 -- nothing of it is one too
 pub nothing_part : (v : View) (w : Work) → v.epoch ≡ Out → v.flight ≡ None → IsPart v v w

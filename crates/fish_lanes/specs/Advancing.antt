@@ -1,8 +1,10 @@
 -- How far the statements of a lane are done. Private clauses speak of it.
-use Rattle.std.specs.Prelude.{ℕ, ◌≡◌, ◌⊎◌, ◌+◌, ◌≤◌, List, [], ◌∷◌, ◌++◌, Option, Some, Result, Ok, Err, length, take}
+use Rattle.std.specs.Prelude.{ℕ, ◌≡◌, ◌≢◌, ◌⊎◌, ◌+◌, ◌≤◌, List, [], ◌∷◌, ◌++◌, Option, Some, None, Result, Ok, Err, length, take}
+use Rattle.std.specs.Prelude.{Bool, false}
 use Rattle.fish_cold.specs.declared.cold.Cold.{Cold}
 use Rattle.fish_lanes.specs.Doing.{IsItem, IsStopped}
-use Rattle.fish_lanes.specs.Gains.{Gains}
+use Rattle.fish_lanes.specs.Full.{IsNotFull, TellsLast}
+use Rattle.fish_lanes.specs.Gains.{Gains, WasShut}
 use Rattle.fish_lanes.specs.Pasts.{WasHere, anywhere}
 use Rattle.fish_lanes.specs.Published.{IsPublished}
 use Rattle.fish_lanes.specs.Records.{LaneRow, contents}
@@ -95,10 +97,9 @@ abbrev pub GoesOnBy : View → View → List Work → List Item → List Item �
 GoesOnBy v u works old new why = (start : View) (content : Option (List ℕ)) (k : Key) (cold : Cold) (later : Option (List ℕ))
     → IsSoFar (WasHere content k cold later) start v works old → IsOn (WasHere content k cold later) start u works new why
 
--- it goes on to its end, or to a fault
+-- the same behind such pasts alone
 abbrev pub FinishesBy : (Whole → Type 0) → View → View → List Work → List Item → List Item → LaneFault → Type 0
-FinishesBy Past v u works old new why = (start : View) → IsSoFar Past start v works old
-    → HasRun Past start u works new why × SayPlans start u works new
+FinishesBy Past v u works old new why = (start : View) → IsSoFar Past start v works old → IsOn Past start u works new why
 
 -- the next statement has its item, which is so whatever stood before the table; or it has none
 abbrev pub HasNext : View → View → Work → List Item → List Item → Result (Unit {0}) Stop → Type 0
@@ -118,20 +119,25 @@ pub record HasGone (log : Log) (old new : Lane) : Type 0 where
   pub can : CanBegin log after.pass
   pub works : new.works ≡ old.works
   pub number : new.number ≡ old.number
+  pub left : new.left ≡ old.left
   pub on : GoesOnBy (view before.pass) (view after.pass) old.works old.items new.items new.fault
+  pub last : (view before.pass).shut ≡ None → AllOf IsNotFull old.items → TellsLast (view after.pass) new.items new.fault
   pub short : IsShort new.fault
   pub more : length old.items ≤ length new.items
   pub answers : AllOf IsAnswer old.items → AllOf IsAnswer new.items
 
--- it has no statement left, or it stopped at a fault; behind each such past, whichever pass had begun it
-pub record HasFinished (Past : Whole → Type 0) (log : Log) (old new : Lane) : Type 0 where
+-- it has no statement without an item, but for those that it hands back since it found the log full, unless it was so when the block
+-- began; or it stopped at a fault; behind each such past, whichever pass had begun it
+pub record HasFinished (Past : Whole → Type 0) (full : Bool) (log : Log) (old new : Lane) : Type 0 where
   pub before : Seated
   pub before_is : old.seat ≡ Some before
   pub after : Seated
   pub after_is : new.seat ≡ Some after
   pub can : CanBegin log after.pass
-  pub works : new.works ≡ old.works
+  pub works : old.works ≡ new.works ++ new.left
   pub number : new.number ≡ old.number
   pub run : (start : View) → IsOnAnyhow start (view before.pass) old.works old.items old.fault
-      → HasRun Past start (view after.pass) old.works new.items new.fault × SayPlans start (view after.pass) old.works new.items
+      → HasRun Past start (view after.pass) new.works new.items new.fault × SayPlans start (view after.pass) new.works new.items
+  pub cut : AllOf IsAnswer old.items → new.left ≢ [] → (new.fault ≡ fault.None) × (full ≡ false) × WasShut (view after.pass)
+  pub last : full ≡ false → TellsLast (view before.pass) old.items old.fault → TellsLast (view after.pass) new.items new.fault
   pub answers : AllOf IsAnswer old.items → AllOf IsAnswer new.items

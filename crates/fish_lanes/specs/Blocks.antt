@@ -5,6 +5,7 @@ use Rattle.fish_catalog.specs.declared.entry.Entry.TheVariants as entry
 use Rattle.fish_lanes.specs.Advancing.{HasGone}
 use Rattle.fish_lanes.specs.Controlling.{HasControlled, bound_items}
 use Rattle.fish_lanes.specs.Ending.{HasEnd}
+use Rattle.fish_lanes.specs.Full.{StopsFull}
 use Rattle.fish_lanes.specs.declared.block.BlockEnd.{BlockEnd}
 use Rattle.fish_lanes.specs.declared.work.LaneFault.TheVariants as cause
 use Rattle.fish_registry.specs.declared.registrar.Registrar.{Registrar}
@@ -46,10 +47,11 @@ Both P old new = (i : ℕ) (x y : Lane) → slice_get old i ≡ Some x → slice
 
 -- ---- before a block
 
--- the lane has this number, and no item yet
+-- the lane has this number, and no item yet, and hands nothing back
 pub record IsNewLane (number : ℕ) (x : Lane) : Type 0 where
   pub number_is : x.number ≡ number
   pub empty : x.items ≡ []
+  pub nothing_left : x.left ≡ []
 
 -- there are 1 to 16 lanes, with the numbers from 1 on; the first alone may commit, and change definitions, as a registrar asks
 pub record AreLanes (lanes : List Lane) : Type 0 where
@@ -125,11 +127,13 @@ pub record IsFirst (v : View) (r : Registrar) (x : Lane) : Type 0 where
   pub known : KnowsRegistry v (registry_of v r)
   pub acceptable : All IsAcceptable x.works
   pub empty : x.items ≡ []
+  pub nothing_left : x.left ≡ []
 
 -- it did them
 pub record HasRunFirst (Past : Whole → Type 0) (v u : View) (r s : Registrar) (x y : Lane) : Type 0 where
-  pub controlled : HasControlled Past v u r s x.works y.items y.fault
-  pub works : y.works ≡ x.works
+  pub controlled : HasControlled Past v u r s y.works y.items y.fault
+  pub stops : StopsFull v u y
+  pub works : x.works ≡ y.works ++ y.left
   pub number : y.number ≡ x.number
   pub seat : y.seat ≡ x.seat
 
@@ -159,6 +163,7 @@ pub record WasTaken (x y : Lane) : Type 0 where
   pub works : y.works ≡ x.works
   pub items : y.items ≡ x.items
   pub fault : y.fault ≡ x.fault
+  pub left : y.left ≡ x.left
 
 abbrev pub WereTaken : List Lane → List Lane → Type 0
 WereTaken old new = Both (λ i x y. WasTaken x y) old new
@@ -283,6 +288,10 @@ AreEnded lanes = At IsEndedLane lanes
 abbrev pub NameMarks : View → List Lane → Type 0
 NameMarks u lanes = At (λ i x. AllOf (IsMarkItem u) x.items) lanes
 
--- the lanes keep their numbers and statements
+-- the lane keeps its number, and its statements but for the last ones, which it hands back
+pub record IsKept (x y : Lane) : Type 0 where
+  pub number : y.number ≡ x.number
+  pub works : x.works ≡ y.works ++ y.left
+
 abbrev pub AreKept : List Lane → List Lane → Type 0
-AreKept old new = Both (λ i x y. (y.number ≡ x.number) × (y.works ≡ x.works)) old new
+AreKept old new = Both (λ i x y. IsKept x y) old new

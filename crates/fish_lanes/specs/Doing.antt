@@ -17,7 +17,7 @@ use Rattle.fish_lanes.specs.declared.statements.Stop.{Stop}
 use Rattle.fish_lanes.specs.declared.statements.Stop.TheVariants as stop
 use Rattle.fish_lanes.specs.declared.work.Work.{Work}
 use Rattle.fish_lanes.specs.declared.work.Work.TheVariants as work
-use Rattle.fish_lines.specs.File.{outcomes}
+use Rattle.fish_lines.specs.Resuming.{outcomes_from}
 use Rattle.fish_plan.specs.declared.pieces.Piece.{Piece}
 use Rattle.fish_psf.specs.Records.{evaluation}
 use Rattle.fish_psf.specs.Select.{select}
@@ -194,8 +194,8 @@ pub record FitsCheckpoint (v u : View) (x : Item) : Type 0 where
 abbrev pub IsFit : (Whole → Type 0) → View → View → Work → Item → Type 0
 IsFit Past v u (work.Register name def) x = IsRegisterItem name (definition_text (definition_of def)) x
 IsFit Past v u (work.Deregister name) x = IsDeregisterItem name x
-IsFit Past v u (work.Ingest form header name file) x = TellsStored (outcomes form header file) name file x
-    ⊎ (FitsFull v u form (outcomes form header file) name file x ⊎ TellsTooLong name file x)
+IsFit Past v u (work.Ingest form begin name file) x = TellsStored (outcomes_from form begin file) name file x
+    ⊎ (FitsFull v u form (outcomes_from form begin file) name file x ⊎ TellsTooLong name file x)
 IsFit Past v u (work.Scan ask) x = FitsScanned Past v u ask x ⊎ FitsRefused v u ask item.ScanRefused x
 IsFit Past v u (work.Explain ask) x = FitsExplained v u ask x ⊎ FitsRefused v u ask item.ExplainRefused x
 IsFit Past v u work.Checkpoint x = FitsCheckpoint v u x

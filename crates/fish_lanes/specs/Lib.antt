@@ -5,6 +5,7 @@ pub mod Controlling
 pub mod Course
 pub mod Doing
 pub mod Ending
+pub mod Full
 pub mod Gains
 pub mod Loading
 pub mod Outcome

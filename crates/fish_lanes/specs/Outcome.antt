@@ -1,10 +1,11 @@
 -- What a block leaves and tells besides what its items tell of the log.
-use Rattle.std.specs.Prelude.{ℕ, ◌≡◌, ◌≤◌, ◌⊎◌, List, [], ◌∷◌, slice_get, Some, None}
+use Rattle.std.specs.Prelude.{ℕ, ◌≡◌, ◌≢◌, ◌≤◌, ◌⊎◌, List, [], ◌∷◌, slice_get, Some, None}
 use Rattle.fish_catalog.specs.declared.listed.Listed.{Listed}
 use Rattle.fish_catalog.specs.declared.row.CatRow.{CatRow}
 use Rattle.fish_lanes.specs.Blocks.{At}
 use Rattle.fish_lanes.specs.Causes.{HasCause, IsUndamaged}
 use Rattle.fish_lanes.specs.Ending.{HasEnd}
+use Rattle.fish_lanes.specs.Full.{AreFullLast, EndsFull}
 use Rattle.fish_lanes.specs.Gains.{WasShut, KeepsShut}
 use Rattle.fish_lanes.specs.declared.work.LaneFault.TheVariants as cause
 use Rattle.fish_registry.specs.declared.registrar.Registrar.{Registrar}
@@ -40,6 +41,28 @@ pub record TellsShutBy (v u : View) (lanes : List Lane) : Type 0 where
   pub keeps : KeepsShut v u
   pub shuts : (line lines end : ℕ) → IsFullIn lanes line lines end → WasShut u
   pub one : At (λ i x. NamesOneClaim v.shut x.items) lanes
+
+-- ---- statements that are handed back
+
+-- the lane stopped since it found the log full, as it wasn't before the block: it met no fault, its last item and no other tells that the
+-- log is full, and after the block the control pass is shut
+pub record IsCutShort (v u : View) (x : Lane) : Type 0 where
+  pub fault : x.fault ≡ cause.None
+  pub last : EndsFull x.items
+  pub unshut : v.shut ≡ None
+  pub shut : WasShut u
+
+-- so did each lane that hands statements back
+abbrev pub HandsBack : View → View → List Lane → Type 0
+HandsBack v u lanes = At (λ i x. x.left ≢ [] → IsCutShort v u x) lanes
+
+-- where the log wasn't full before the block, none but the last item of a lane tells that it is
+abbrev pub TellFullLast : View → List Lane → Type 0
+TellFullLast v lanes = v.shut ≡ None → At (λ i x. AreFullLast x.items) lanes
+
+-- no lane hands any back
+abbrev pub LeaveNone : List Lane → Type 0
+LeaveNone lanes = At (λ i x. x.left ≡ []) lanes
 
 -- ---- plans
 

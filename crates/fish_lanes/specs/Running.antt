@@ -1,6 +1,7 @@
 -- What a lane asks of its pass, and what it leaves.
-use Rattle.std.specs.Prelude.{ℕ, ◌≡◌, ◌≢◌, ◌<◌, All, List, length, Some, ⊤}
+use Rattle.std.specs.Prelude.{ℕ, ◌≡◌, ◌≢◌, ◌<◌, ◌++◌, All, List, [], length, Some, ⊤}
 use Rattle.fish_ingest.specs.Ingestion.{CanStart}
+use Rattle.fish_lanes.specs.Full.{StopsFull}
 use Rattle.fish_lanes.specs.Gains.{Gains, IsFullBy}
 use Rattle.fish_lanes.specs.Plans.{AreReadBounds, PlansAreSoBy}
 use Rattle.fish_lanes.specs.Records.{LaneRow}
@@ -66,12 +67,13 @@ pub record CanBegin (log : Log) (pass : Pass) : Type 0 where
   pub of : IsPassOf log pass
   pub start : CanStart (view pass)
 
--- the lane has a pass of the log, and may go on
+-- the lane has a pass of the log, and may go on; it hands nothing back yet
 pub record IsReady (log : Log) (lane : Lane) : Type 0 where
   pub seat : Seated
   pub seat_is : lane.seat ≡ Some seat
   pub can : CanBegin log seat.pass
   pub shared : All IsShared lane.works
+  pub nothing_left : lane.left ≡ []
 
 -- the lane did its statements
 pub record HasDone (Past : Whole → Type 0) (log : Log) (old new : Lane) : Type 0 where
@@ -80,8 +82,9 @@ pub record HasDone (Past : Whole → Type 0) (log : Log) (old new : Lane) : Type
   pub after : Seated
   pub after_is : new.seat ≡ Some after
   pub can : CanBegin log after.pass
-  pub run : HasRun Past (view before.pass) (view after.pass) old.works new.items new.fault
-  pub plans : SayPlans (view before.pass) (view after.pass) old.works new.items
+  pub run : HasRun Past (view before.pass) (view after.pass) new.works new.items new.fault
+  pub plans : SayPlans (view before.pass) (view after.pass) new.works new.items
+  pub stops : StopsFull (view before.pass) (view after.pass) new
   pub answers : AllOf IsAnswer new.items
-  pub works : new.works ≡ old.works
+  pub works : old.works ≡ new.works ++ new.left
   pub number : new.number ≡ old.number

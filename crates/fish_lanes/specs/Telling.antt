@@ -10,7 +10,8 @@ use Rattle.fish_lanes.specs.Sizes.{IsEarlier, IsSizeOf}
 use Rattle.fish_lanes.specs.Spans.{Span, answers, behind}
 use Rattle.fish_lanes.specs.declared.work.Work.{Work}
 use Rattle.fish_lanes.specs.declared.work.Work.TheVariants as work
-use Rattle.fish_lines.specs.File.{accepted, outcomes, refused}
+use Rattle.fish_lines.specs.File.{accepted, refused}
+use Rattle.fish_lines.specs.Resuming.{outcomes_from}
 use Rattle.fish_report.specs.declared.item.Item.{Item}
 use Rattle.fish_report.specs.declared.item.Item.TheVariants as item
 use Rattle.fish_rule.specs.Views.{Among}
@@ -25,7 +26,7 @@ all_of form (p ∷ payloads) = (form, p) ∷ all_of form payloads
 
 -- what a statement is to store
 abbrev pub content_of : Work → List Content
-content_of (work.Ingest form header name file) = all_of form (accepted (outcomes form header file))
+content_of (work.Ingest form begin name file) = all_of form (accepted (outcomes_from form begin file))
 content_of w = []
 
 -- how much of it an item says is stored
@@ -91,8 +92,8 @@ pub record TellsCheckpoint (s : Span) (before : List LaneRow) (shown : List Show
 abbrev pub TellsItem : Whole → Span → List LaneRow → List Shown → Work → Item → Type 0
 TellsItem w s before shown (work.Register name def) x = IsRegisterItem name (definition_text (definition_of def)) x
 TellsItem w s before shown (work.Deregister name) x = IsDeregisterItem name x
-TellsItem w s before shown (work.Ingest form header name file) x = TellsStored (outcomes form header file) name file x
-    ⊎ (TellsFull w s shown form (outcomes form header file) name file x ⊎ TellsTooLong name file x)
+TellsItem w s before shown (work.Ingest form begin name file) x = TellsStored (outcomes_from form begin file) name file x
+    ⊎ (TellsFull w s shown form (outcomes_from form begin file) name file x ⊎ TellsTooLong name file x)
 TellsItem w s before shown (work.Scan ask) x = TellsScanned w s (IsSeen s.from before shown) ask x
     ⊎ TellsRefused w s ask item.ScanRefused x
 TellsItem w s before shown (work.Explain ask) x = TellsExplained w s (IsSeen s.from before shown) ask x

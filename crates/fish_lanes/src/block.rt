@@ -2,15 +2,16 @@
 
 ghost use Rattle.std.specs.Prelude.{◌≡◌, ◌≤◌, ◌<◌, ◌+◌, ◌∷◌, ℕ, length, slice_get, Some, [], All};
 ghost use Rattle.std.specs.Thread.{IsSync};
-ghost use Rattle.fish_lanes.specs.Advancing.{HasFinished, HasGone, IsShort};
-ghost use Rattle.fish_lanes.specs.Blocks.{At, AreEnded, AreGone, AreJoined, AreKept, AreLanes, AreReady, AreSeated, Both, CanGive};
+ghost use Rattle.fish_lanes.specs.Advancing.{HasGone};
+ghost use Rattle.fish_lanes.specs.Blocks.{At, AreEnded, AreGone, AreJoined, AreKept, AreLanes, AreReady, AreSeated, CanGive};
 ghost use Rattle.fish_lanes.specs.Blocks.{CanTake, HasGiven, HasRegistered, HasRunFirst, HasSeat, HasTaken, HasTakenAll, IsBlockSpan};
-ghost use Rattle.fish_lanes.specs.Blocks.{IsFirst, IsNewLane, NameMarks, TellsBlock, WasTaken, WereTaken};
+ghost use Rattle.fish_lanes.specs.Blocks.{IsFirst, IsKept, IsNewLane, NameMarks, TellsBlock, WasTaken, WereTaken};
 ghost use Rattle.fish_lanes.specs.Controlling.{CanControl, IsCommitted};
 ghost use Rattle.fish_lanes.specs.Course.{HasFoundEnd, HasRunLanes};
 ghost use Rattle.fish_lanes.specs.Ending.{HasEnd};
-ghost use Rattle.fish_lanes.specs.Outcome.{AreVacant, GoesAgain, LanesSayPlans, Stops, TellsAlone, TellsAloneBy, TellsShutBy};
-ghost use Rattle.fish_lanes.specs.Pasts.{WasHere};
+ghost use Rattle.fish_lanes.specs.Gains.{WasShut};
+ghost use Rattle.fish_lanes.specs.Outcome.{AreVacant, GoesAgain, HandsBack, LanesSayPlans, LeaveNone, Stops, TellFullLast};
+ghost use Rattle.fish_lanes.specs.Outcome.{TellsAlone, TellsAloneBy, TellsShutBy};
 ghost use Rattle.fish_lanes.specs.Plans.{KnowsRows};
 ghost use Rattle.fish_lanes.specs.Registering.{IsAcceptable, KnowsRegistry, registry_of};
 ghost use Rattle.fish_lanes.specs.Running.{IsReady};
@@ -22,15 +23,16 @@ ghost use Rattle.fish_rule.specs.Views.{AllOf};
 ghost use Rattle.fish_rule.specs.SeatSteps.{CanSplitPass, split_left, split_right};
 ghost use Rattle.fish_scan.specs.Colder.{IsBelow};
 ghost use Rattle.fish_store.specs.Points.{point_at, point_of};
-ghost use Rattle.fish_store.specs.Sound.{GoesOnHere, IsSoundBehind, MayGoOn, ReadsPages, RowsGoOn};
+ghost use Rattle.fish_store.specs.Sound.{GoesOnHere, IsSoundBehind, MayGoOn, RowsGoOn};
 ghost use Rattle.fish_whole.specs.Whole.{Later, Whole, Will};
 
 use crate::control::run_control;
-use crate::finishing::finish_works;
+use crate::finishing::finish_others;
 use crate::gate::Gate;
+use crate::handing::hand_back;
 use crate::lane::{Lane, Seated};
 use crate::registering::find_last;
-use crate::statements::run_works;
+use crate::statements::{is_full, run_works};
 use crate::work::LaneFault;
 use fish_disk::Disk;
 use fish_epoch::Defs;
@@ -128,7 +130,7 @@ fn run_first<D: Disk, G: Gate>(
         (D.content disk.new)) (D.faults disk.old) (D.faults disk.new) lane.new }
     ensures committed { AllOf (IsCommitted file.new.flusher.count) lane.new.items }
 {
-    lane.fault = run_control(
+    let fault = run_control(
         alloc,
         log,
         main,
@@ -139,6 +141,7 @@ fn run_first<D: Disk, G: Gate>(
         &mut lane.items,
         gate,
     );
+    lane.fault = hand_back(&mut lane.works, &mut lane.left, &lane.items, fault);
 }
 
 /// Gives a lane its pass.
@@ -240,71 +243,6 @@ fn run_all<R: Threads + Sync, D: Disk + Send, G: Gate + Sync>(
     );
 }
 
-/// Does what is left of the statements of a lane, with the store's file for its scans of older records.
-fn finish_lane<D: Disk, G: Gate>(
-    alloc: Global,
-    log: &Log,
-    file: &mut StoreFile,
-    disk: &mut D,
-    lane: &mut Lane,
-    gate: &G,
-)
-    requires ready { IsReady log.now lane.old }
-    requires below { IsBelow log.now.key file.old.cold }
-    ensures below { IsBelow log.now.key file.new.cold }
-    ensures flusher { file.new.flusher ≡ file.old.flusher }
-    ensures reads { ReadsPages D.content D.images D.since D.moment D.faults log.now.key file.old.cold file.new.cold disk.old
-        disk.new }
-    ensures finished { HasFinished (WasHere (D.content disk.old) log.now.key file.old.cold (D.content disk.new)) log.now lane.old
-        lane.new }
-    ensures stops { IsShort lane.old.fault → Stops (WasHere (D.content disk.old) log.now.key file.old.cold (D.content disk.new))
-        (D.faults disk.old) (D.faults disk.new) lane.new }
-{
-    let LaneFault::None = lane.fault else {
-        return;
-    };
-    let Some(Seated { mut pass }) = lane.seat.take() else {
-        unreachable!()
-    };
-    lane.fault = finish_works(
-        alloc,
-        log,
-        &mut pass,
-        file,
-        disk,
-        lane.works.as_slice(),
-        &mut lane.items,
-        gate,
-    );
-    lane.seat = Some(Seated { pass });
-}
-
-/// The same of each lane, one after the other.
-fn finish_others<D: Disk, G: Gate>(
-    alloc: Global,
-    log: &Log,
-    file: &mut StoreFile,
-    disk: &mut D,
-    lanes: &mut [Lane],
-    gate: &G,
-)
-    requires ready { AreReady log.now lanes.old }
-    requires below { IsBelow log.now.key file.old.cold }
-    requires memory { At (λ i x. IsShort x.fault) lanes.old }
-    ensures below { IsBelow log.now.key file.new.cold }
-    ensures flusher { file.new.flusher ≡ file.old.flusher }
-    ensures reads { ReadsPages D.content D.images D.since D.moment D.faults log.now.key file.old.cold file.new.cold disk.old
-        disk.new }
-    ensures finished { Both (λ i x y. HasFinished (WasHere (D.content disk.old) log.now.key file.old.cold (D.content disk.new)) log.now
-        x y) lanes.old lanes.new }
-    ensures stops { At (λ i x. Stops (WasHere (D.content disk.old) log.now.key file.old.cold (D.content disk.new)) (D.faults disk.old)
-        (D.faults disk.new) x) lanes.new }
-{
-    for i in 0..lanes.len() {
-        finish_lane(alloc, log, file, disk, &mut lanes[i], gate);
-    }
-}
-
 /// Gives the other lanes their passes, does the statements of all, and takes the passes back.
 fn run_by_passes<R: Threads + Sync, D: Disk + Send, G: Gate + Sync>(
     rt: &R,
@@ -336,11 +274,12 @@ fn run_by_passes<R: Threads + Sync, D: Disk + Send, G: Gate + Sync>(
         (D.content disk.new)) (D.faults disk.old) (D.faults disk.new) x) (first.new ∷ others.new) }
     ensures committed { AllOf (IsCommitted file.new.flusher.count) first.new.items }
 {
+    let full = is_full(main);
     give_all(log, main, others);
     run_all(
         rt, alloc, log, main, registrar, file, disk, first, others, gate,
     );
-    finish_others(alloc, log, file, disk, others, gate);
+    finish_others(alloc, log, file, disk, others, full, gate);
     take_all(log, main, others);
 }
 
@@ -386,7 +325,7 @@ fn run_lanes<R: Threads + Sync, D: Disk + Send, G: Gate + Sync>(
         → MayGoOn D.images (point_of disk.new file.new log.now main.new registrar.new) }
     ensures end { HasEnd (view main.new) result.to }
     ensures later { Later (view main.old) (view main.new) }
-    ensures first { (first.new.number ≡ first.old.number) × (first.new.works ≡ first.old.works) }
+    ensures first { IsKept first.old first.new }
     ensures first_seat { first.new.seat ≡ first.old.seat }
     ensures kept { AreKept others.old others.new }
     ensures vacant { AreVacant others.new }
@@ -399,6 +338,8 @@ fn run_lanes<R: Threads + Sync, D: Disk + Send, G: Gate + Sync>(
         first.new }
     ensures ended { AreEnded (first.new ∷ others.new) }
     ensures shuts { TellsShutBy (view main.old) (view main.new) (first.new ∷ others.new) }
+    ensures left { HandsBack (view main.old) (view main.new) (first.new ∷ others.new) }
+    ensures last { TellFullLast (view main.old) (first.new ∷ others.new) }
     ensures plans { (from : ℕ) → HasEnd (view main.old) from → LanesSayPlans (KnowsRows (view main.new))
         (registry_of (view main.old) registrar.old) registrar.new.catalog from (first.new ∷ others.new) }
     ensures marks { NameMarks (view main.new) (first.new ∷ others.new) }
@@ -424,10 +365,14 @@ fn run_lanes<R: Threads + Sync, D: Disk + Send, G: Gate + Sync>(
 /// have to follow. There are 1 to 16 lanes, numbered from 1 on and without items, and the first alone may register definitions, end
 /// them or commit.
 ///
-/// Afterwards each lane has an item for each statement, or a fault and fewer of them. Behind whatever stood before the table, as the
+/// A lane stops after the statement in which its pass finds the log full, unless it was so before the block, and hands back the
+/// statements that it hasn't begun. Without memory for that it stops at a fault, and keeps them.
+///
+/// Afterwards each lane has an item for each statement that it keeps, or a fault and fewer of them. Behind whatever stood before the table, as the
 /// disk tells it, these items are true of each whole log that the control pass may leave later: the lane's records between the
 /// old end and the new one are those that the items say are stored, in order, and scans, plans, checkpoints and refusals are so. The
-/// definitions are those that the items of the first lane tell. Numbers and statements stay. The store goes on: at each moment since, a
+/// definitions are those that the items of the first lane tell. Numbers stay, and the statements too, but for those that are handed
+/// back. The store goes on: at each moment since, a
 /// crash left a part of the log that has the last commit's entries.
 ///
 /// The gate is told where each lane is: in front of each statement and behind it, and behind each claim of a record.
@@ -468,6 +413,9 @@ pub fn run_block<R: Threads + Sync, D: Disk + Send, G: Gate + Sync>(
     ensures plans { (from : ℕ) → HasEnd (view store.old.pass) from → LanesSayPlans (KnowsRows (view store.new.pass))
         (registry_of (view store.old.pass) store.old.registrar) store.new.registrar.catalog from lanes.new }
     ensures shuts { TellsShutBy (view store.old.pass) (view store.new.pass) lanes.new }
+    ensures left { HandsBack (view store.old.pass) (view store.new.pass) lanes.new }
+    ensures last { TellFullLast (view store.old.pass) lanes.new }
+    ensures goes_on { WasShut (view store.old.pass) → LeaveNone lanes.new }
     ensures stops { At (λ i x. Stops (IsSoundBehind D.content D.images (point_at disk.old store.old) (D.content disk.new))
         (D.faults disk.old) (D.faults disk.new) x) lanes.new }
     ensures committed { (x : Lane) → slice_get lanes.new 0 ≡ Some x → AllOf (IsCommitted store.new.file.flusher.count) x.items }

@@ -1,12 +1,15 @@
 //! The statements of the first lane, done by the control pass: it may register definitions and end them, commits the log, and
 //! reads older records from the store's file.
 
-ghost use Rattle.std.specs.Prelude.{◌≡◌, ◌≢◌, ◌≤◌, [], All, IfErr, IfOk, IsErrOf};
+ghost use Rattle.std.specs.Prelude.{◌≡◌, ◌≢◌, ◌≤◌, ◌⊎◌, [], All, IfErr, IfOk, IsErrOf, None, length};
 ghost use Rattle.fish_epoch.specs.Definitions.{IsDefsOf};
 ghost use Rattle.fish_lanes.specs.Causes.{HasCause, IsUndamaged};
 ghost use Rattle.fish_lanes.specs.Controlling.{CanControl, HasControlled, IsCommitted, IsControlled, IsPartControlled};
 ghost use Rattle.fish_lanes.specs.Doing.{FitsCheckpoint};
+ghost use Rattle.fish_lanes.specs.Full.{TellsLast, done_of};
+ghost use Rattle.fish_lanes.specs.Gains.{WasShut};
 ghost use Rattle.fish_lanes.specs.Registering.{IsAcceptable, KnowsRegistry, registry_of};
+ghost use Rattle.fish_lanes.specs.Spans.{answers};
 ghost use Rattle.fish_lanes.specs.declared.work.LaneFault.TheVariants as cause;
 ghost use Rattle.fish_flush.specs.Carrying.{Reads};
 ghost use Rattle.fish_rule.specs.Passes.{view};
@@ -19,6 +22,7 @@ ghost use Rattle.fish_whole.specs.Whole.{Whole};
 use crate::finishing::run_shared;
 use crate::gate::{Gate, Point};
 use crate::registering::{deregister, find_boundary, register};
+use crate::statements::{finds_full, is_full};
 use crate::work::{LaneFault, Work, or_memory};
 use fish_disk::Disk;
 use fish_epoch::Defs;
@@ -29,7 +33,8 @@ use fish_rule::{Log, Pass, lane};
 use fish_store::StoreFile;
 use std::alloc::Global;
 
-/// Does statements in order, up to the first fault, with definitions that are read anew.
+/// Does statements in order, up to the first fault or until the pass has found the log full, unless it was so at the start,
+/// with definitions that are read anew.
 pub(crate) fn run_control<D: Disk, G: Gate>(
     alloc: Global,
     log: &Log,
@@ -53,7 +58,11 @@ pub(crate) fn run_control<D: Disk, G: Gate>(
         (point_of disk.new file.new log.now pass.new registrar.new) }
     ensures again { (result ≡ cause.Disk → ⊥) → MayGoOn D.images (point_of disk.new file.new log.now pass.new registrar.new) }
     ensures run { HasControlled (IsSoundBehind D.content D.images (point_of disk.old file.old log.now pass.old registrar.old)
-        (D.content disk.new)) (view pass.old) (view pass.new) registrar.old registrar.new works.now items.new result }
+        (D.content disk.new)) (view pass.old) (view pass.new) registrar.old registrar.new
+        (done_of result (length (answers items.new)) works.now) items.new result }
+    ensures all { result ≡ cause.None → (length works.now ≤ length (answers items.new))
+        ⊎ (((view pass.old).shut ≡ None) × WasShut (view pass.new)) }
+    ensures last { (view pass.old).shut ≡ None → TellsLast (view pass.new) items.new result }
     ensures committed { AllOf (IsCommitted file.new.flusher.count) items.new }
 
     ensures cause { HasCause (D.faults disk.old) (D.faults disk.new) result }
@@ -67,8 +76,8 @@ pub(crate) fn run_control<D: Disk, G: Gate>(
     )
 }
 
-/// Does statements in order, up to the first fault. In front of each it looks whether the index of the registration that
-/// waits begins.
+/// Does statements in order, up to the first fault or until the pass has found the log full, unless it was so at the start.
+/// Before each it looks whether the index of the registration that waits begins.
 fn run_statements<D: Disk, G: Gate>(
     alloc: Global,
     log: &Log,
@@ -94,15 +103,23 @@ fn run_statements<D: Disk, G: Gate>(
         (point_of disk.new file.new log.now pass.new registrar.new) }
     ensures again { (result ≡ cause.Disk → ⊥) → MayGoOn D.images (point_of disk.new file.new log.now pass.new registrar.new) }
     ensures run { HasControlled (IsSoundBehind D.content D.images (point_of disk.old file.old log.now pass.old registrar.old)
-        (D.content disk.new)) (view pass.old) (view pass.new) registrar.old registrar.new works.now items.new result }
+        (D.content disk.new)) (view pass.old) (view pass.new) registrar.old registrar.new
+        (done_of result (length (answers items.new)) works.now) items.new result }
+    ensures all { result ≡ cause.None → (length works.now ≤ length (answers items.new))
+        ⊎ (((view pass.old).shut ≡ None) × WasShut (view pass.new)) }
+    ensures last { (view pass.old).shut ≡ None → TellsLast (view pass.new) items.new result }
     ensures committed { AllOf (IsCommitted file.new.flusher.count) items.new }
     ensures cause { HasCause (D.faults disk.old) (D.faults disk.new) result }
     ensures later { D.faults disk.old ≤ D.faults disk.new }
     ensures whole { (past : Whole) → IsSoundBehind D.content D.images (point_of disk.old file.old log.now pass.old registrar.old)
         (D.content disk.new) past → IsUndamaged result }
 {
+    let full = is_full(pass);
     let mut place: u32 = 0;
     for work in works {
+        if finds_full(pass, full) {
+            return LaneFault::None;
+        }
         gate.reach(lane(pass), Point::Before(place));
         if find_boundary(log, pass, registrar, items).is_err() {
             return LaneFault::Memory;

@@ -1,14 +1,19 @@
-//! Statements that any lane may have, with the store's file at hand for scans of records that are older than the table.
+//! Statements that any lane may have, with the store's file at hand for scans of records that are older than the table; and what is left
+//! of those of the lanes after the first, once all have ended or stay.
 
-ghost use Rattle.std.specs.Prelude.{◌≡◌, ◌≢◌, ◌≤◌, All, IfErr, IfOk};
+ghost use Rattle.std.specs.Prelude.{◌≡◌, ◌≢◌, ◌≤◌, ◌⊎◌, All, IfErr, IfOk, false, length};
 ghost use Rattle.fish_cold.specs.Carries.{CarriesTable};
 ghost use Rattle.fish_epoch.specs.Definitions.{IsDefsOf};
 ghost use Rattle.fish_ingest.specs.Ingestion.{CanStart};
-ghost use Rattle.fish_lanes.specs.Advancing.{FinishesBy};
+ghost use Rattle.fish_lanes.specs.Advancing.{FinishesBy, HasFinished, IsShort};
+ghost use Rattle.fish_lanes.specs.Blocks.{AreReady, At, Both};
 ghost use Rattle.fish_lanes.specs.Causes.{HasCause, IsUndamaged};
 ghost use Rattle.fish_lanes.specs.Doing.{IsItem, IsPart};
+ghost use Rattle.fish_lanes.specs.Full.{HasFound, TellsLast};
+ghost use Rattle.fish_lanes.specs.Gains.{WasShut};
+ghost use Rattle.fish_lanes.specs.Outcome.{Stops};
 ghost use Rattle.fish_lanes.specs.Pasts.{IsHere, WasHere};
-ghost use Rattle.fish_lanes.specs.Running.{CanBegin, IsShared};
+ghost use Rattle.fish_lanes.specs.Running.{CanBegin, IsReady, IsShared};
 ghost use Rattle.fish_lanes.specs.Spans.{IsAnswer};
 ghost use Rattle.fish_lanes.specs.declared.work.LaneFault.TheVariants as cause;
 ghost use Rattle.fish_rule.specs.Passes.{IsPassOf, view};
@@ -18,9 +23,11 @@ ghost use Rattle.fish_store.specs.Sound.{ReadsPages};
 ghost use Rattle.fish_whole.specs.Whole.{Whole};
 
 use crate::gate::{Gate, Point};
+use crate::handing::hand_back;
 use crate::ingesting::ingest_file;
+use crate::lane::{Lane, Seated};
 use crate::scanning::{explain_range, scan_older};
-use crate::statements::place_of;
+use crate::statements::{finds_full, place_of};
 use crate::work::{LaneFault, Work, or_memory};
 use fish_disk::Disk;
 use fish_epoch::Defs;
@@ -29,8 +36,79 @@ use fish_rule::{Log, Pass, lane};
 use fish_store::StoreFile;
 use std::alloc::Global;
 
-/// Does the statements of a lane that have no item yet, in order, up to the first fault.
-pub(crate) fn finish_works<D: Disk, G: Gate>(
+/// Does what is left of the statements of a lane, with the store's file for its scans of older records, unless its pass has found
+/// the log full; then it hands back what is left.
+fn finish_lane<D: Disk, G: Gate>(
+    alloc: Global,
+    log: &Log,
+    file: &mut StoreFile,
+    disk: &mut D,
+    lane: &mut Lane,
+    full: bool,
+    gate: &G,
+)
+    requires ready { IsReady log.now lane.old }
+    requires below { IsBelow log.now.key file.old.cold }
+    ensures below { IsBelow log.now.key file.new.cold }
+    ensures flusher { file.new.flusher ≡ file.old.flusher }
+    ensures reads { ReadsPages D.content D.images D.since D.moment D.faults log.now.key file.old.cold file.new.cold disk.old
+        disk.new }
+    ensures finished { HasFinished (WasHere (D.content disk.old) log.now.key file.old.cold (D.content disk.new)) full log.now lane.old
+        lane.new }
+    ensures stops { IsShort lane.old.fault → Stops (WasHere (D.content disk.old) log.now.key file.old.cold (D.content disk.new))
+        (D.faults disk.old) (D.faults disk.new) lane.new }
+{
+    let LaneFault::None = lane.fault else {
+        return;
+    };
+    let Some(Seated { mut pass }) = lane.seat.take() else {
+        unreachable!()
+    };
+    let fault = finish_works(
+        alloc,
+        log,
+        &mut pass,
+        file,
+        disk,
+        lane.works.as_slice(),
+        &mut lane.items,
+        full,
+        gate,
+    );
+    lane.seat = Some(Seated { pass });
+    lane.fault = hand_back(&mut lane.works, &mut lane.left, &lane.items, fault);
+}
+
+/// The same of each lane, one after the other.
+pub(crate) fn finish_others<D: Disk, G: Gate>(
+    alloc: Global,
+    log: &Log,
+    file: &mut StoreFile,
+    disk: &mut D,
+    lanes: &mut [Lane],
+    full: bool,
+    gate: &G,
+)
+    requires ready { AreReady log.now lanes.old }
+    requires below { IsBelow log.now.key file.old.cold }
+    requires memory { At (λ i x. IsShort x.fault) lanes.old }
+    ensures below { IsBelow log.now.key file.new.cold }
+    ensures flusher { file.new.flusher ≡ file.old.flusher }
+    ensures reads { ReadsPages D.content D.images D.since D.moment D.faults log.now.key file.old.cold file.new.cold disk.old
+        disk.new }
+    ensures finished { Both (λ i x y. HasFinished (WasHere (D.content disk.old) log.now.key file.old.cold (D.content disk.new)) full
+        log.now x y) lanes.old lanes.new }
+    ensures stops { At (λ i x. Stops (WasHere (D.content disk.old) log.now.key file.old.cold (D.content disk.new)) (D.faults disk.old)
+        (D.faults disk.new) x) lanes.new }
+{
+    for i in 0..lanes.len() {
+        finish_lane(alloc, log, file, disk, &mut lanes[i], full, gate);
+    }
+}
+
+/// Does the statements of a lane that have no item yet, in order, up to the first fault, or until its pass has found the log
+/// full, unless it was so when the block began.
+fn finish_works<D: Disk, G: Gate>(
     alloc: Global,
     log: &Log,
     pass: &mut Pass,
@@ -38,6 +116,7 @@ pub(crate) fn finish_works<D: Disk, G: Gate>(
     disk: &mut D,
     works: &[Work],
     items: &mut Items,
+    full: bool,
     gate: &G,
 ) -> LaneFault
     requires pass { CanBegin log.now pass.old }
@@ -51,6 +130,8 @@ pub(crate) fn finish_works<D: Disk, G: Gate>(
     ensures goes { FinishesBy (WasHere (D.content disk.old) log.now.key file.old.cold (D.content disk.new)) (view pass.old)
         (view pass.new) works.now items.old items.new result }
     ensures answers { AllOf IsAnswer items.old → AllOf IsAnswer items.new }
+    ensures all { result ≡ cause.None → (length works.now ≤ length items.new) ⊎ ((full ≡ false) × WasShut (view pass.new)) }
+    ensures last { full ≡ false → HasFound (view pass.old) items.old → TellsLast (view pass.new) items.new result }
 
     ensures cause { HasCause (D.faults disk.old) (D.faults disk.new) result }
     ensures whole { (past : Whole) → WasHere (D.content disk.old) log.now.key file.old.cold (D.content disk.new) past
@@ -58,6 +139,9 @@ pub(crate) fn finish_works<D: Disk, G: Gate>(
 {
     let mut defs = Defs::new(alloc);
     for next in items.len()..works.len() {
+        if finds_full(pass, full) {
+            return LaneFault::None;
+        }
         let place = place_of(items);
         gate.reach(lane(pass), Point::Before(place));
         let item = match run_shared(alloc, log, pass, file, disk, &mut defs, &works[next], gate) {
@@ -107,7 +191,7 @@ pub(crate) fn run_shared<D: Disk, G: Gate>(
         Work::Register { .. } | Work::Deregister { .. } | Work::Checkpoint => unreachable!(),
         Work::Ingest {
             form,
-            header,
+            begin,
             name,
             file: bytes,
         } => or_memory(ingest_file(
@@ -116,7 +200,7 @@ pub(crate) fn run_shared<D: Disk, G: Gate>(
             pass,
             defs,
             *form,
-            *header,
+            *begin,
             name,
             bytes.as_bytes(),
             gate,

@@ -1,8 +1,7 @@
 //! The records of a file, stored by a lane's pass one after the other. Each line or row is read once.
 
-ghost use Rattle.std.specs.Prelude.{◌≡◌, ◌≤◌, ◌+◌, length, IfOk, IfErr, MatchOption, OnErr};
+ghost use Rattle.std.specs.Prelude.{◌≡◌, ◌≤◌, ◌+◌, length, map, IfOk, IfErr, MatchOption, OnErr};
 ghost use Rattle.fish_csv.specs.Left.{left};
-ghost use Rattle.fish_csv.specs.Rows as csv;
 ghost use Rattle.fish_epoch.specs.Definitions.{IsDefsOf};
 ghost use Rattle.fish_ingest.specs.Ingestion.{CanIngest, CanStart, HasIngested};
 ghost use Rattle.fish_ingest.specs.Refusal.{HasNotClaimed, HasRefused, IsCause};
@@ -11,7 +10,8 @@ ghost use Rattle.fish_lanes.specs.Doing.{IsItem, IsPart};
 ghost use Rattle.fish_lanes.specs.Pasts.{anywhere};
 ghost use Rattle.fish_lanes.specs.Storing.{EndsWith, FindsFull, IsPartStored, TakesLine, item_of, nothing};
 ghost use Rattle.fish_lanes.specs.declared.work.Work.TheVariants as work;
-ghost use Rattle.fish_lines.specs.File.{outcomes};
+ghost use Rattle.fish_lines.specs.Left.{left as lines_left};
+ghost use Rattle.fish_lines.specs.Resuming.{outcomes_from};
 ghost use Rattle.fish_rule.specs.Passes.{IsPassOf, view};
 ghost use Rattle.fish_value.specs.Limits.{longest_file};
 ghost use Rattle.fish_value.specs.declared.field.Form.TheVariants.{Csv, Json};
@@ -20,7 +20,7 @@ use crate::gate::{Gate, Point};
 use fish_csv::{CsvRefusal, MAX_FILE, RowTexts};
 use fish_epoch::Defs;
 use fish_ingest::{IngestRefusal, finish, start};
-use fish_lines::Lines;
+use fish_lines::{Begin, Lines};
 use fish_report::Item;
 use fish_rule::{Log, Pass, Shut, lane};
 use fish_value::{Form, Text};
@@ -40,7 +40,7 @@ pub(crate) fn ingest_file<G: Gate>(
     pass: &mut Pass,
     defs: &mut Defs,
     form: Form,
-    header: bool,
+    begin: Begin,
     name: &Text,
     file: &[u8],
     gate: &G,
@@ -50,8 +50,8 @@ pub(crate) fn ingest_file<G: Gate>(
     requires defs { IsDefsOf (view pass.old) defs.old }
     ensures pass { IsPassOf log.now pass.new }
     ensures defs { IsDefsOf (view pass.new) defs.new }
-    ensures item { IfOk result (IsItem anywhere (view pass.old) (view pass.new) (work.Ingest form header name.now file.now)) }
-    ensures part { IfErr result (λ _. IsPart (view pass.old) (view pass.new) (work.Ingest form header name.now file.now)) }
+    ensures item { IfOk result (IsItem anywhere (view pass.old) (view pass.new) (work.Ingest form begin name.now file.now)) }
+    ensures part { IfErr result (λ _. IsPart (view pass.old) (view pass.new) (work.Ingest form begin name.now file.now)) }
 {
     let name = name.again(alloc)?;
     if file.len() > MAX_FILE {
@@ -65,7 +65,7 @@ pub(crate) fn ingest_file<G: Gate>(
         stored: 0,
         refused: 0,
     };
-    match ingest_form(alloc, log, pass, defs, form, header, file, &mut tally, gate) {
+    match ingest_form(alloc, log, pass, defs, form, begin, file, &mut tally, gate) {
         Ok(end) => Ok(item_of(name, tally, end)),
         Err(error) => {
             drop(name);
@@ -75,14 +75,13 @@ pub(crate) fn ingest_file<G: Gate>(
 }
 
 /// Stores the lines or rows of a file that are records.
-#[tactic(auto, unfolding(fish_lines::specs::File::outcomes))]
 fn ingest_form<G: Gate>(
     alloc: Global,
     log: &Log,
     pass: &mut Pass,
     defs: &mut Defs,
     form: Form,
-    header: bool,
+    begin: Begin,
     file: &[u8],
     tally: &mut Tally,
     gate: &G,
@@ -94,22 +93,22 @@ fn ingest_form<G: Gate>(
     requires none { tally.old ≡ nothing }
     ensures pass { IsPassOf log.now pass.new }
     ensures defs { IsDefsOf (view pass.new) defs.new }
-    ensures ends { IfOk result (EndsWith (view pass.old) (view pass.new) form (outcomes form header file.now) tally.new) }
-    ensures part { IfErr result (λ _. IsPartStored (view pass.old) (view pass.new) form (outcomes form header file.now)) }
+    ensures ends { IfOk result (EndsWith (view pass.old) (view pass.new) form (outcomes_from form begin file.now) tally.new) }
+    ensures part { IfErr result (λ _. IsPartStored (view pass.old) (view pass.new) form (outcomes_from form begin file.now)) }
 {
     match form {
-        Form::Json => ingest_lines(alloc, log, pass, defs, file, tally, gate),
-        Form::Csv => ingest_csv(alloc, log, pass, defs, header, file, tally, gate),
+        Form::Json => ingest_lines(alloc, log, pass, defs, begin, file, tally, gate),
+        Form::Csv => ingest_csv(alloc, log, pass, defs, begin, file, tally, gate),
     }
 }
 
-/// Stores the rows of a file in CSV that are records, with `header` those behind the first.
+/// Stores the rows of a file in CSV that are records.
 fn ingest_csv<G: Gate>(
     alloc: Global,
     log: &Log,
     pass: &mut Pass,
     defs: &mut Defs,
-    header: bool,
+    begin: Begin,
     file: &[u8],
     tally: &mut Tally,
     gate: &G,
@@ -121,16 +120,31 @@ fn ingest_csv<G: Gate>(
     requires none { tally.old ≡ nothing }
     ensures pass { IsPassOf log.now pass.new }
     ensures defs { IsDefsOf (view pass.new) defs.new }
-    ensures ends { IfOk result (EndsWith (view pass.old) (view pass.new) Csv (csv.outcomes header file.now) tally.new) }
-    ensures part { IfErr result (λ _. IsPartStored (view pass.old) (view pass.new) Csv (csv.outcomes header file.now)) }
+    ensures ends { IfOk result (EndsWith (view pass.old) (view pass.new) Csv (outcomes_from Csv begin file.now) tally.new) }
+    ensures part { IfErr result (λ _. IsPartStored (view pass.old) (view pass.new) Csv (outcomes_from Csv begin file.now)) }
 {
-    let mut rows = match RowTexts::new(alloc, file, header) {
+    let mut rows = match rows_from(alloc, begin, file) {
         Ok(rows) => rows,
-        Err(CsvRefusal::FileTooLong | CsvRefusal::OutOfMemory) => return Err(AllocError),
+        Err(error) => return Err(error),
     };
     let ended = ingest_rows(alloc, log, pass, defs, &mut rows, tally, gate);
     drop(rows);
     ended
+}
+
+/// Stands before the first row of a file from where its reading begins.
+#[tactic(auto, unfolding(fish_lines::specs::Resuming::outcomes_from, fish_lines::specs::File::outcomes, fish_csv::specs::Left::left))]
+fn rows_from(alloc: Global, begin: Begin, file: &[u8]) -> Result<RowTexts<'_>, AllocError>
+    ensures rows { IfOk result (λ rows. left rows ≡ outcomes_from Csv begin file.now) }
+    ensures within { IfOk result (λ rows. length rows.rest.now ≤ length file.now) }
+{
+    match begin {
+        Begin::Start { header } => match RowTexts::new(alloc, file, header) {
+            Ok(rows) => Ok(rows),
+            Err(CsvRefusal::FileTooLong | CsvRefusal::OutOfMemory) => Err(AllocError),
+        },
+        Begin::After => Ok(RowTexts::after(alloc, file)),
+    }
 }
 
 /// What is told of a file of which so much was stored, up to its end or to a record that found the log full.
@@ -160,6 +174,7 @@ fn ingest_lines<G: Gate>(
     log: &Log,
     pass: &mut Pass,
     defs: &mut Defs,
+    begin: Begin,
     file: &[u8],
     tally: &mut Tally,
     gate: &G,
@@ -171,10 +186,10 @@ fn ingest_lines<G: Gate>(
     requires none { tally.old ≡ nothing }
     ensures pass { IsPassOf log.now pass.new }
     ensures defs { IsDefsOf (view pass.new) defs.new }
-    ensures ends { IfOk result (EndsWith (view pass.old) (view pass.new) Json (json.outcomes file.now) tally.new) }
-    ensures part { IfErr result (λ _. IsPartStored (view pass.old) (view pass.new) Json (json.outcomes file.now)) }
+    ensures ends { IfOk result (EndsWith (view pass.old) (view pass.new) Json (outcomes_from Json begin file.now) tally.new) }
+    ensures part { IfErr result (λ _. IsPartStored (view pass.old) (view pass.new) Json (outcomes_from Json begin file.now)) }
 {
-    let mut lines = Lines::new(file);
+    let mut lines = lines_from(begin, file);
     while let Some(line) = lines.next_line() {
         match ingest_line(alloc, log, pass, defs, Form::Json, line, tally, gate)? {
             Some(shut) => return Ok(Some(shut)),
@@ -184,7 +199,19 @@ fn ingest_lines<G: Gate>(
     Ok(None)
 }
 
-/// Stores the rows of a file in CSV that are records.
+/// Stands before the first line of a file from where its reading begins.
+#[tactic(auto, unfolding(fish_lines::specs::Resuming::outcomes_from, fish_lines::specs::File::outcomes, fish_lines::specs::Left::left, fish_json::specs::Lines::outcomes, fish_json::specs::Lines::outcomes_of))]
+fn lines_from(begin: Begin, file: &[u8]) -> Lines<'_>
+    ensures lines { map json.payload_of (lines_left result) ≡ outcomes_from Json begin file.now }
+    ensures within { length result.rest.now ≤ length file.now }
+{
+    match begin {
+        Begin::Start { .. } => Lines::new(file),
+        Begin::After => Lines::after(file),
+    }
+}
+
+/// Stores the rows that are left of a file in CSV and are records.
 fn ingest_rows<G: Gate>(
     alloc: Global,
     log: &Log,

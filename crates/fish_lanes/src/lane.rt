@@ -22,6 +22,8 @@ pub struct Lane {
     pub works: Works,
     pub items: Items,
     pub fault: LaneFault,
+    /// The statements that it handed back, since it found the log full before it began them.
+    pub left: Works,
     /// Its pass, while the block runs.
     pub seat: Option<Seated>,
 }
@@ -33,6 +35,7 @@ impl Lane {
         ensures works { result.works ≡ [] }
         ensures items { result.items ≡ [] }
         ensures fault { result.fault ≡ cause.None }
+        ensures left { result.left ≡ [] }
         ensures seat { result.seat ≡ None }
     {
         Lane {
@@ -40,6 +43,7 @@ impl Lane {
             works: Works::new(alloc),
             items: Items::new(alloc),
             fault: LaneFault::None,
+            left: Works::new(alloc),
             seat: None,
         }
     }

@@ -5,6 +5,7 @@ mod block;
 mod control;
 mod finishing;
 mod gate;
+mod handing;
 mod ingesting;
 mod lane;
 mod registering;

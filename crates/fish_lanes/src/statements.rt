@@ -1,11 +1,12 @@
 //! The statements of a lane behind the first, done by its pass.
 
-ghost use Rattle.std.specs.Prelude.{◌≡◌, ◌≤◌, All, IfErr, IfOk, length};
+ghost use Rattle.std.specs.Prelude.{◌≡◌, ◌≤◌, ◌&&◌, not, is_some, None, All, IfErr, IfOk, length};
 ghost use Rattle.fish_epoch.specs.Definitions.{IsDefsOf};
 ghost use Rattle.fish_ingest.specs.Ingestion.{CanStart};
 ghost use Rattle.fish_lanes.specs.Advancing.{GoesOnBy, HasNext, IsShort};
 ghost use Rattle.fish_lanes.specs.Causes.{or_stop};
 ghost use Rattle.fish_lanes.specs.Doing.{IsItem, IsStopped};
+ghost use Rattle.fish_lanes.specs.Full.{IsNotFull, TellsLast};
 ghost use Rattle.fish_lanes.specs.Pasts.{anywhere};
 ghost use Rattle.fish_lanes.specs.Running.{IsShared};
 ghost use Rattle.fish_lanes.specs.Spans.{IsAnswer};
@@ -18,7 +19,7 @@ use crate::scanning::{explain_range, scan_range};
 use crate::work::{LaneFault, Work};
 use fish_epoch::Defs;
 use fish_report::{Item, Items};
-use fish_rule::{Log, Pass, lane};
+use fish_rule::{Log, Pass, is_shut, lane};
 use std::alloc::{AllocError, Global};
 
 /// Why a statement has no item.
@@ -40,8 +41,8 @@ pub(crate) fn or_stop(item: Result<Item, AllocError>) -> Result<Item, Stop>
     }
 }
 
-/// Does the statements of a lane that have no item yet, in order, up to the first fault, or to the first scan of records that
-/// are older than the table, in front of which the lane stays.
+/// Does the statements of a lane that have no item yet, in order, up to the first fault, to the first scan of records that
+/// are older than the table, before which the lane stays, or until its pass finds the log full, unless it was so at the start.
 pub(crate) fn run_works<G: Gate>(
     alloc: Global,
     log: &Log,
@@ -58,11 +59,16 @@ pub(crate) fn run_works<G: Gate>(
     ensures pass { IsPassOf log.now pass.new }
     ensures start { CanStart (view pass.new) }
     ensures goes { GoesOnBy (view pass.old) (view pass.new) works.now items.old items.new result }
+    ensures last { (view pass.old).shut ≡ None → AllOf IsNotFull items.old → TellsLast (view pass.new) items.new result }
     ensures short { IsShort result }
     ensures more { length items.old ≤ length items.new }
     ensures answers { AllOf IsAnswer items.old → AllOf IsAnswer items.new }
 {
+    let full = is_full(pass);
     for next in items.len()..works.len() {
+        if finds_full(pass, full) {
+            return LaneFault::None;
+        }
         match run_next(alloc, log, pass, defs, &works[next], items, gate) {
             Ok(()) => {}
             Err(Stop::Memory) => return LaneFault::Memory,
@@ -70,6 +76,20 @@ pub(crate) fn run_works<G: Gate>(
         }
     }
     LaneFault::None
+}
+
+/// Whether the pass found the log full since it began its statements, where it is told whether it was so then.
+pub(crate) fn finds_full(pass: &Pass, full: bool) -> bool
+    ensures { result ≡ (not full && is_some (view pass.now).shut) }
+{
+    !full && is_full(pass)
+}
+
+/// Whether the pass found the log full.
+pub(crate) fn is_full(pass: &Pass) -> bool
+    ensures { result ≡ is_some (view pass.now).shut }
+{
+    is_shut(pass).is_some()
 }
 
 /// Does the next statement, and keeps its item.
@@ -131,7 +151,7 @@ fn run_work<G: Gate>(
         Work::Register { .. } | Work::Deregister { .. } | Work::Checkpoint => unreachable!(),
         Work::Ingest {
             form,
-            header,
+            begin,
             name,
             file,
         } => or_stop(ingest_file(
@@ -140,7 +160,7 @@ fn run_work<G: Gate>(
             pass,
             defs,
             *form,
-            *header,
+            *begin,
             name,
             file.as_bytes(),
             gate,

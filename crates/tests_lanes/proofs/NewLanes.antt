@@ -18,7 +18,7 @@ allowed_shared number w shared = record { acceptable = any w shared; shared = λ
     any : (w : Work) → IsShared w → IsAcceptable w
     any (work.Register name def) h = elim h [ ]
     any (work.Deregister name) h = elim h [ ]
-    any (work.Ingest form header name file) h = tt
+    any (work.Ingest form begin name file) h = tt
     any (work.Scan ask) h = tt
     any (work.Explain ask) h = tt
     any work.Checkpoint h = elim h [ ]

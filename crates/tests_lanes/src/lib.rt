@@ -11,6 +11,8 @@ mod contention;
 #[cfg(test)]
 mod expecting;
 #[cfg(test)]
+mod full;
+#[cfg(test)]
 mod reopened;
 #[cfg(test)]
 mod running;

@@ -6,6 +6,7 @@ ghost use Rattle.fish_lanes.specs.Running.{IsShared};
 ghost use Rattle.tests_lanes.specs.Blocks.{IsAllowed, IsMade};
 
 use fish_lanes::{Lane, Work, Works};
+use fish_lines::Begin;
 use fish_scan::How;
 use fish_value::{Bytes, Form, Text};
 use std::alloc::{AllocError, Global};
@@ -92,7 +93,9 @@ fn ingest_of(alloc: Global, form: Form, name: &str, file: Bytes) -> Result<Work,
     match Text::copy_of(alloc, name) {
         Ok(name) => Ok(Work::Ingest {
             form,
-            header: form == Form::Csv,
+            begin: Begin::Start {
+                header: form == Form::Csv,
+            },
             name,
             file,
         }),

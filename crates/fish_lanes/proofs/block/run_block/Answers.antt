@@ -1,11 +1,11 @@
 -- The first lane and the others.
 use Rattle.std.proofs.Common.{◌≡◌, ◌≤◌, ◌+◌, ◌∙◌, [], ◌∷◌, ◌++◌, All, List, Some, get_or, length, set, slice_get, refl, sym, subst}
-use Rattle.fish_lanes.proofs.Firsts.{alone_first, first_acceptable, first_new, first_there, lanes_again, others_many, others_new}
+use Rattle.fish_lanes.proofs.Firsts.{kept_both, alone_first, first_acceptable, first_new, first_there, lanes_again, others_many, others_new}
 use Rattle.fish_lanes.proofs.Firsts.{vacant_both}
-use Rattle.fish_lanes.specs.Blocks.{AreEnded, At, CanGive, HasRegistered, IsNewLane, NameMarks, TellsBlock}
+use Rattle.fish_lanes.proofs.Kept.{left_none}
+use Rattle.fish_lanes.specs.Blocks.{AreEnded, AreKept, At, CanGive, HasRegistered, IsKept, IsNewLane, NameMarks, TellsBlock}
 use Rattle.fish_lanes.specs.Controlling.{IsCommitted}
-use Rattle.fish_lanes.specs.Outcome.{AreVacant, Stops, TellsAloneBy}
-use Rattle.fish_lanes.specs.Outcome.{LanesSayPlans, TellsShutBy}
+use Rattle.fish_lanes.specs.Outcome.{AreVacant, HandsBack, LanesSayPlans, Stops, TellFullLast, TellsAloneBy, TellsShutBy}
 use Rattle.fish_lanes.specs.Plans.{KnowsRows}
 use Rattle.fish_lanes.specs.Registering.{IsAcceptable, registry_of}
 use Rattle.fish_lanes.specs.declared.lane.Lane.{Lane}
@@ -79,6 +79,30 @@ pub returns-clause-shuts : goal.returns-clause-shuts
 returns-clause-shuts g c = subst (TellsShutBy (view c.args.store.now.pass) (view c.run_lanes.new.main))
     (lanes_again c.split_at_mut-first.result.0.now c.args.lanes.now c.run_lanes.new.first c.run_lanes.new.others c.requires.lanes
     c.split_at_mut-first.ensures.front) c.run_lanes.ensures.shuts
+
+pub returns-clause-kept : goal.returns-clause-kept
+returns-clause-kept g c =
+    subst (λ (z : List Lane). AreKept c.args.lanes.now (set z 0 c.run_lanes.new.first ++ c.run_lanes.new.others))
+    (sym c.split_at_mut-first.ensures.front)
+    (kept_both c.run_lanes.new.first c.index-first-0.result c.args.lanes.now c.run_lanes.new.others c.requires.lanes
+    (subst (λ (z : List Lane). IsKept (get_or z 0 c.index-first-0.result) c.run_lanes.new.first) c.split_at_mut-first.ensures.front
+    c.run_lanes.ensures.first)
+    (subst (λ (z : List Lane). AreKept z c.run_lanes.new.others) c.split_at_mut-first.ensures.back c.run_lanes.ensures.kept))
+
+pub returns-clause-left : goal.returns-clause-left
+returns-clause-left g c = subst (HandsBack (view c.args.store.now.pass) (view c.run_lanes.new.main))
+    (lanes_again c.split_at_mut-first.result.0.now c.args.lanes.now c.run_lanes.new.first c.run_lanes.new.others c.requires.lanes
+    c.split_at_mut-first.ensures.front) c.run_lanes.ensures.left
+
+pub returns-clause-last : goal.returns-clause-last
+returns-clause-last g c = subst (TellFullLast (view c.args.store.now.pass))
+    (lanes_again c.split_at_mut-first.result.0.now c.args.lanes.now c.run_lanes.new.first c.run_lanes.new.others c.requires.lanes
+    c.split_at_mut-first.ensures.front) c.run_lanes.ensures.last
+
+pub returns-clause-goes_on : goal.returns-clause-goes_on
+returns-clause-goes_on g c was i x at =
+    left_none (view c.args.store.now.pass) x.left was
+    (λ some. (returns-clause-left g c i x at some).unshut)
 
 pub returns-clause-plans : goal.returns-clause-plans
 returns-clause-plans g c from end = subst (LanesSayPlans (KnowsRows (view c.run_lanes.new.main))

@@ -58,6 +58,7 @@ run_all-requires-clause-first g c κs bounds =
       known = given_known v m c.args.registrar.now given.about given.learned c.requires.first.known;
       acceptable = c.requires.first.acceptable;
       empty = c.requires.first.empty;
+      nothing_left = c.requires.first.nothing_left;
     }
 
 pub finish_others-requires-clause-ready : goal.finish_others-requires-clause-ready
@@ -99,10 +100,11 @@ take_all-requires-clause-can g c =
     c.finish_others.new.disk c.finish_others.new.file.flusher c.finish_others.new.file.cold c.run_all.ensures.can.of.about
     c.finish_others.ensures.flusher c.finish_others.ensures.reads in
     let reads = here_stays disk.content disk.images disk.since disk.moment did read stays in
-    may_join (all_ran disk.content disk.images disk.since disk.moment before gave did read gives c.run_all.ensures.goes reads c.args.log.now
-    c.args.registrar.now c.run_all.new.registrar c.args.first.now c.run_all.new.first c.args.others.now c.give_all.new.lanes
-    c.run_all.new.others c.finish_others.new.lanes c.run_all.ensures.can.of.about given c.requires.others c.give_all.auto.lanes
-    c.give_all.ensures.seated c.run_all.ensures.run c.run_all.ensures.can.of.stands c.run_all.ensures.can.knows
+    may_join (all_ran disk.content disk.images disk.since disk.moment before gave did read gives c.run_all.ensures.goes reads
+    c.is_full-full.result c.args.log.now c.args.registrar.now c.run_all.new.registrar c.args.first.now c.run_all.new.first
+    c.args.others.now c.give_all.new.lanes
+    c.run_all.new.others c.finish_others.new.lanes c.run_all.ensures.can.of.about c.is_full-full.ensures given c.requires.others
+    c.give_all.auto.lanes c.give_all.ensures.seated c.run_all.ensures.run c.run_all.ensures.can.of.stands c.run_all.ensures.can.knows
     c.run_all.auto.others c.run_all.ensures.gone c.finish_others.auto.lanes c.finish_others.ensures.finished)
 
 pub returns-clause-course : goal.returns-clause-course
@@ -125,10 +127,11 @@ returns-clause-course g c =
     record {
       ran = ran;
       done = c.finish_others.new.lanes;
-      run = all_ran disk.content disk.images disk.since disk.moment before gave did read gives c.run_all.ensures.goes reads c.args.log.now
-          c.args.registrar.now c.run_all.new.registrar c.args.first.now c.run_all.new.first c.args.others.now c.give_all.new.lanes
-          c.run_all.new.others c.finish_others.new.lanes c.run_all.ensures.can.of.about given c.requires.others c.give_all.auto.lanes
-          c.give_all.ensures.seated c.run_all.ensures.run c.run_all.ensures.can.of.stands c.run_all.ensures.can.knows
+      run = all_ran disk.content disk.images disk.since disk.moment before gave did read gives c.run_all.ensures.goes reads
+          c.is_full-full.result c.args.log.now c.args.registrar.now c.run_all.new.registrar c.args.first.now c.run_all.new.first
+          c.args.others.now c.give_all.new.lanes
+          c.run_all.new.others c.finish_others.new.lanes c.run_all.ensures.can.of.about c.is_full-full.ensures given c.requires.others
+          c.give_all.auto.lanes c.give_all.ensures.seated c.run_all.ensures.run c.run_all.ensures.can.of.stands c.run_all.ensures.can.knows
           c.run_all.auto.others c.run_all.ensures.gone c.finish_others.auto.lanes c.finish_others.ensures.finished;
       back = record { takes = c.take_all.ensures.taken; taken = c.take_all.ensures.lanes; size = c.take_all.auto.lanes };
     }

@@ -1,8 +1,8 @@
 -- The block from its start to its end.
-use Rattle.std.proofs.Common.{◌≡◌, ap, arith, length, subst, sym}
+use Rattle.std.proofs.Common.{◌≡◌, ap, arith, length, refl, subst, sym}
 use Rattle.fish_lanes.proofs.Course.{all_ended, all_marks, has_end, is_later, kept_at, tells_all, vacant_at, within}
 use Rattle.fish_lanes.proofs.Ends.{registered_end, taken_alone}
-use Rattle.fish_lanes.proofs.Leaving.{all_plans, all_shuts}
+use Rattle.fish_lanes.proofs.Leaving.{all_last, all_left, all_plans, all_shuts}
 use Rattle.fish_lanes.proofs.Moments.{counted_from, few_behind}
 use Rattle.fish_lanes.proofs.Single.{only_end}
 use Rattle.fish_lanes.proofs.Stepping.{stays_pass}
@@ -22,6 +22,7 @@ run_by_passes-requires-clause-first g c κs bounds = record {
   known = c.requires.known;
   acceptable = c.requires.acceptable;
   empty = c.requires.first.empty;
+  nothing_left = c.requires.first.nothing_left;
 }
 
 pub end_block-requires-clause-alone : goal.end_block-requires-clause-alone
@@ -41,7 +42,7 @@ returns-clause-later g c =
 
 pub returns-clause-first : goal.returns-clause-first
 returns-clause-first g c =
-    let did = c.run_by_passes.ensures.course.run.first_did in (did.number, did.works)
+    let did = c.run_by_passes.ensures.course.run.first_did in record { number = did.number; works = did.works }
 
 pub returns-clause-first_seat : goal.returns-clause-first_seat
 returns-clause-first_seat g c = c.run_by_passes.ensures.course.run.first_did.seat
@@ -70,8 +71,9 @@ returns-clause-alone g c none =
           (point_of c.args.disk.now c.args.file.now c.args.log.now c.args.main.now c.args.registrar.now)
           (g.D.Disk.content c.run_by_passes.new.disk)) (view c.args.main.now) course.run.main course.ran (view c.run_by_passes.new.main)
           ended.bound
-          (view c.end_block.new.main) c.args.registrar.now.catalog end c.args.first.now.works c.run_by_passes.new.first.works
-          c.run_by_passes.new.first.items given (course.back.takes.none (omega arith)) ended.changes ended.settles first.works
+          (view c.end_block.new.main) c.args.registrar.now.catalog end c.run_by_passes.new.first.works
+          c.run_by_passes.new.first.works c.run_by_passes.new.first.items given (course.back.takes.none (omega arith)) ended.changes
+          ended.settles refl
           (first.controlled.only end (subst (λ (z : View). HasEnd z end) (sym given) e) wait);
     }
 
@@ -100,6 +102,16 @@ pub returns-clause-shuts : goal.returns-clause-shuts
 returns-clause-shuts g c =
     let course = c.run_by_passes.ensures.course in
     all_shuts course.run course.back c.end_block.ensures.ended c.requires.end c.end_block.ensures.can.of.stands
+
+pub returns-clause-left : goal.returns-clause-left
+returns-clause-left g c =
+    let course = c.run_by_passes.ensures.course in
+    all_left course.run course.back c.end_block.ensures.ended c.requires.end c.end_block.ensures.can.of.stands
+
+pub returns-clause-last : goal.returns-clause-last
+returns-clause-last g c =
+    let course = c.run_by_passes.ensures.course in
+    all_last course.run course.back c.end_block.ensures.ended c.requires.end c.end_block.ensures.can.of.stands
 
 pub returns-clause-plans : goal.returns-clause-plans
 returns-clause-plans g c =

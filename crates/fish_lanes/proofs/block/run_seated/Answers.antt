@@ -20,8 +20,10 @@ returns g c =
         can = record { of = run.pass; start = run.start };
         works = refl;
         number = refl;
+        left = refl;
         on = subst (λ (z : List Work). GoesOnBy (view c.in-Some.field-0.pass) (view c.run_works-lane.new.pass) z
             c.args.lane.now.items c.run_works-lane.new.items c.run_works-lane.result) c.as_slice.ensures run.goes;
+        last = run.last;
         short = run.short;
         more = run.more;
         answers = run.answers;

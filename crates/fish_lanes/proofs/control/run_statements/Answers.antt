@@ -1,19 +1,24 @@
 -- A statement more, or the end.
-use Rattle.std.proofs.Common.{◌≡◌, ◌+◌, List, [], ◌∷◌, ◌++◌, take, drop, sym, ap, ◌∙◌, subst, arith}
+use Rattle.std.proofs.Common.{◌≡◌, ◌+◌, List, [], ◌∷◌, ◌++◌, length, take, drop, sym, ap, ◌∙◌, subst, arith, inl, inr}
+use Rattle.std.specs.Prelude.{is_some}
 use Rattle.std.proofs.lemmas.List.{take_all, take_more}
 use Rattle.fish_epoch.proofs.Reading.{defs_later}
 use Rattle.fish_ingest.proofs.IngestionStart.{idle_law}
 use Rattle.fish_lanes.proofs.Committing.{committed_on, committed_polled}
 use Rattle.fish_lanes.proofs.Controls.{Held, held_cut, held_done, held_ended, held_fewer, held_polled, held_self, take_nothing_first}
 use Rattle.fish_lanes.proofs.Finished.{cause_before}
+use Rattle.fish_lanes.proofs.Full.{fault_tells, found_more, found_none, found_tells, full_test, open_test, polled_found, unshut_test}
+use Rattle.fish_lanes.proofs.Kept.{done_fault, take_size}
 use Rattle.fish_lanes.proofs.Lists.{all_more}
 use Rattle.fish_lanes.proofs.Parts.{around, err_told, ok_told}
 use Rattle.fish_lanes.proofs.Pending.{found_next, found_polled}
 use Rattle.fish_lanes.proofs.SoFar.{controlled_fewer}
 use Rattle.fish_lanes.proofs.Stepping.{rows_self, stays_pass}
 use Rattle.fish_lanes.specs.Controlling.{HasControlled, HasPolled, IsCommitted}
+use Rattle.fish_lanes.specs.Full.{HasFound, IsNotFull, TellsLast}
 use Rattle.fish_lanes.specs.Pending.{AreFound}
 use Rattle.fish_lanes.specs.Registering.{registry_of}
+use Rattle.fish_lanes.specs.Spans.{answers}
 use Rattle.fish_lanes.specs.Telling.{count_of}
 use Rattle.fish_lanes.specs.declared.work.LaneFault.TheVariants as cause
 use Rattle.fish_lanes.specs.declared.work.Work.{Work}
@@ -46,6 +51,7 @@ loop-work-init g c =
           (held_self v r c.requires.can.start.outside (idle_law v c.requires.can.of.stands c.requires.can.start) c.requires.known);
       found = subst (AreFound v.clock v.clock (registry_of v r)) (sym c.requires.empty) (later_self v.clock);
       committed = subst (AllOf (IsCommitted c.args.file.now.flusher.count)) (sym c.requires.empty) tt;
+      last = λ unshut. inl (unshut, subst (AllOf IsNotFull) (sym c.requires.empty) tt);
       later = omega arith;
     }
 
@@ -169,7 +175,8 @@ returns-in-Err-clause-run g c =
     c.find_boundary.new.items inv.found inv.held.is c.find_boundary.ensures.gains.on.clock polled in
     let part = c.in-Err.ensures.part in
     subst (λ (z : List Work). HasControlled Past v t r q z c.find_boundary.new.items c.in-Err.fault)
-    (around works i w c.loop-work-test.true c.work-item.is)
+    (around works i w c.loop-work-test.true c.work-item.is
+    ∙ sym (done_fault c.in-Err.fault (length (answers c.find_boundary.new.items)) works c.in-Err.ensures.named))
     (held_cut v r u s t q (take i works) c.find_boundary.new.items w (drop (i + 1) works) part.rows part.count
     c.in-Err.fault c.in-Err.ensures.named held found part.gains part.first)
 
@@ -339,6 +346,13 @@ loop-work-preserved g c =
       committed = subst (AllOf (IsCommitted c.run_statement.new.file.flusher.count)) (sym c.in-Ok-push.ensures.ok)
           (all_more (IsCommitted c.run_statement.new.file.flusher.count) c.find_boundary.new.items c.in-Ok.item committed
           c.in-Ok.ensures.committed);
+      last = λ unshut.
+          let free = open_test (view c.loop-work.pass).shut c.is_full-full.result c.finds_full.result c.finds_full.ensures
+          c.if-finds_full.false (c.is_full-full.ensures ∙ ap is_some unshut) in
+          subst (HasFound t) (sym c.in-Ok-push.ensures.ok)
+          (found_more Looked u t w c.find_boundary.new.items c.in-Ok.item (c.find_boundary.ensures.shut ∙ free)
+          (polled_found (view c.loop-work.pass) c.loop-work.registrar u s c.loop-work.items c.find_boundary.new.items polled
+          (found_none (view c.loop-work.pass) c.loop-work.items (inv.last unshut) free)) done.fit done.shuts);
       later = (let a = inv.later in let b = c.run_statement.ensures.later in omega arith);
     }
 
@@ -346,11 +360,93 @@ pub returns-clause-run : goal.returns-clause-run
 returns-clause-run g c =
     let disk = g.D.Disk in
     let works = c.args.works.now in
+    let items = c.loop-work.items in
+    let held = c.loop-work.invariant.held in
     let before = point_of c.args.disk.now c.args.file.now c.args.log.now c.args.pass.now c.args.registrar.now in
     let Past : Whole → Type 0 = IsSoundBehind disk.content disk.images before (disk.content c.loop-work.disk) in
-    let all : take c.loop-work.work-index works ≡ works =
-    take_all c.loop-work.work-index works (let e = c.loop-work-test.false in omega arith) in
     subst (λ (z : List Work). HasControlled Past (view c.args.pass.now) (view c.loop-work.pass) c.args.registrar.now
-    c.loop-work.registrar z c.loop-work.items cause.None) all
+    c.loop-work.registrar z items cause.None)
+    (sym (take_size works c.loop-work.work-index (length (answers items)) held.told.size))
     (held_ended (view c.args.pass.now) c.args.registrar.now (view c.loop-work.pass) c.loop-work.registrar
-    (take c.loop-work.work-index works) c.loop-work.items c.loop-work.invariant.held c.loop-work.invariant.found)
+    (take c.loop-work.work-index works) items held c.loop-work.invariant.found)
+
+pub returns-then-finds_full-clause-run : goal.returns-then-finds_full-clause-run
+returns-then-finds_full-clause-run g c =
+    let disk = g.D.Disk in
+    let works = c.args.works.now in
+    let items = c.loop-work.items in
+    let held = c.loop-work.invariant.held in
+    let before = point_of c.args.disk.now c.args.file.now c.args.log.now c.args.pass.now c.args.registrar.now in
+    let Past : Whole → Type 0 = IsSoundBehind disk.content disk.images before (disk.content c.loop-work.disk) in
+    subst (λ (z : List Work). HasControlled Past (view c.args.pass.now) (view c.loop-work.pass) c.args.registrar.now
+    c.loop-work.registrar z items cause.None)
+    (sym (take_size works c.loop-work.work-index (length (answers items)) held.told.size))
+    (held_ended (view c.args.pass.now) c.args.registrar.now (view c.loop-work.pass) c.loop-work.registrar
+    (take c.loop-work.work-index works) items held c.loop-work.invariant.found)
+
+-- ---- a full log
+
+pub returns-clause-all : goal.returns-clause-all
+returns-clause-all g c none =
+    let works = c.args.works.now in
+    let size = c.loop-work.invariant.held.told.size in
+    let test = c.loop-work-test.false in
+    inl (let e = ap (λ (z : List Work). length z) (take_all c.loop-work.work-index works (omega arith)) in omega arith)
+
+pub returns-then-finds_full-clause-all : goal.returns-then-finds_full-clause-all
+returns-then-finds_full-clause-all g c none =
+    let full = full_test (view c.loop-work.pass).shut c.is_full-full.result c.finds_full.result c.finds_full.ensures
+    c.if-finds_full.true in
+    inr (unshut_test (view c.args.pass.now).shut (sym c.is_full-full.ensures ∙ full.0), full.1)
+
+pub returns-then-is_err-clause-all : goal.returns-then-is_err-clause-all
+returns-then-is_err-clause-all g c none = absurd cc
+
+pub returns-in-Err-clause-all : goal.returns-in-Err-clause-all
+returns-in-Err-clause-all g c none = absurd (c.in-Err.ensures.named none)
+
+pub returns-in-Err-push-clause-all : goal.returns-in-Err-push-clause-all
+returns-in-Err-push-clause-all g c none = absurd cc
+
+pub returns-clause-last : goal.returns-clause-last
+returns-clause-last g c unshut =
+    found_tells (view c.loop-work.pass) c.loop-work.items cause.None (c.loop-work.invariant.last unshut)
+
+pub returns-then-finds_full-clause-last : goal.returns-then-finds_full-clause-last
+returns-then-finds_full-clause-last g c unshut =
+    found_tells (view c.loop-work.pass) c.loop-work.items cause.None (c.loop-work.invariant.last unshut)
+
+pub returns-then-is_err-clause-last : goal.returns-then-is_err-clause-last
+returns-then-is_err-clause-last g c unshut =
+    let u = view c.loop-work.pass in
+    let free = open_test u.shut c.is_full-full.result c.finds_full.result c.finds_full.ensures c.if-finds_full.false
+    (c.is_full-full.ensures ∙ ap is_some unshut) in
+    subst (λ (z : List Item). TellsLast (view c.find_boundary.new.pass) z cause.Memory)
+    (sym (err_told c.find_boundary.result c.is_err.result c.is_err.ensures.value c.if-is_err.true c.find_boundary.ensures.refused))
+    (fault_tells (view c.find_boundary.new.pass) c.loop-work.items cause.Memory (λ e. absurd cc)
+    (found_none u c.loop-work.items (c.loop-work.invariant.last unshut) free))
+
+pub returns-in-Err-clause-last : goal.returns-in-Err-clause-last
+returns-in-Err-clause-last g c unshut =
+    let u = view c.loop-work.pass in
+    let free = open_test u.shut c.is_full-full.result c.finds_full.result c.finds_full.ensures c.if-finds_full.false
+    (c.is_full-full.ensures ∙ ap is_some unshut) in
+    let polled : HasPolled u c.loop-work.registrar (view c.find_boundary.new.pass) c.find_boundary.new.registrar c.loop-work.items
+    c.find_boundary.new.items =
+    ok_told c.find_boundary.result c.is_err.result c.is_err.ensures.value c.if-is_err.false c.find_boundary.ensures.polled in
+    fault_tells (view c.run_statement.new.pass) c.find_boundary.new.items c.in-Err.fault c.in-Err.ensures.named
+    (polled_found u c.loop-work.registrar (view c.find_boundary.new.pass) c.find_boundary.new.registrar c.loop-work.items
+    c.find_boundary.new.items polled (found_none u c.loop-work.items (c.loop-work.invariant.last unshut) free))
+
+pub returns-in-Err-push-clause-last : goal.returns-in-Err-push-clause-last
+returns-in-Err-push-clause-last g c unshut =
+    let u = view c.loop-work.pass in
+    let free = open_test u.shut c.is_full-full.result c.finds_full.result c.finds_full.ensures c.if-finds_full.false
+    (c.is_full-full.ensures ∙ ap is_some unshut) in
+    let polled : HasPolled u c.loop-work.registrar (view c.find_boundary.new.pass) c.find_boundary.new.registrar c.loop-work.items
+    c.find_boundary.new.items =
+    ok_told c.find_boundary.result c.is_err.result c.is_err.ensures.value c.if-is_err.false c.find_boundary.ensures.polled in
+    subst (λ (z : List Item). TellsLast (view c.run_statement.new.pass) z cause.Memory) (sym c.in-Err-push.ensures.err)
+    (fault_tells (view c.run_statement.new.pass) c.find_boundary.new.items cause.Memory (λ e. absurd cc)
+    (polled_found u c.loop-work.registrar (view c.find_boundary.new.pass) c.find_boundary.new.registrar c.loop-work.items
+    c.find_boundary.new.items polled (found_none u c.loop-work.items (c.loop-work.invariant.last unshut) free)))

@@ -1,9 +1,10 @@
 -- The statements so far are told behind what stood before the table, the definitions are those that their items tell, and the store goes
 -- on.
-use Rattle.std.proofs.Common.{◌≤◌, take}
+use Rattle.std.proofs.Common.{◌≡◌, ◌≤◌, None, take}
 use Rattle.fish_epoch.specs.Definitions.{IsDefsOf}
 use Rattle.fish_lanes.proofs.Controls.{Held}
 use Rattle.fish_lanes.specs.Controlling.{CanControl, IsCommitted}
+use Rattle.fish_lanes.specs.Full.{HasFound}
 use Rattle.fish_lanes.specs.Pending.{AreFound}
 use Rattle.fish_lanes.specs.Registering.{registry_of}
 use Rattle.fish_rule.specs.Passes.{view}
@@ -28,5 +29,6 @@ invariant-loop-work g l =
           l.registrar (take l.work-index l.works) l.items;
       found : AreFound (view l.fn.pass).clock (view l.pass).clock (registry_of (view l.fn.pass) l.fn.registrar) l.items;
       committed : AllOf (IsCommitted l.file.flusher.count) l.items;
+      last : (view l.fn.pass).shut ≡ None → HasFound (view l.pass) l.items;
       later : disk.faults l.fn.disk ≤ disk.faults l.disk;
     }

@@ -1,16 +1,18 @@
 -- A statement more, or the end, behind what the file had before the table all the while.
 use Rattle.std.proofs.Common.{◌≡◌, ◌∙◌, ◌+◌, ℕ, List, [], ◌∷◌, Option, get_or, length, length-append, refl, sym, ap, subst, arith, true}
-use Rattle.std.proofs.Common.{false}
+use Rattle.std.proofs.Common.{false, inl, inr}
 use Rattle.std.specs.Prelude.{IsSome}
-use Rattle.fish_lanes.proofs.Finished.{cause_before}
+use Rattle.fish_lanes.proofs.Finished.{cause_before, on_fault}
+use Rattle.fish_lanes.proofs.Full.{fault_tells, found_more, found_none, found_tells, full_test, open_test}
 use Rattle.fish_lanes.proofs.Gaining.{gains_start}
 use Rattle.fish_lanes.proofs.Lists.{all_more}
 use Rattle.fish_lanes.proofs.Pages.{here_on, here_same, pages_both, pages_none, pages_told}
 use Rattle.fish_lanes.proofs.Showing.{fit_answer}
-use Rattle.fish_lanes.proofs.SoFar.{far_ended, far_next, far_part, item_fewer}
-use Rattle.fish_lanes.specs.Advancing.{IsSoFar}
+use Rattle.fish_lanes.proofs.SoFar.{far_next, far_part, item_fewer}
+use Rattle.fish_lanes.specs.Advancing.{IsOn, IsSoFar}
+use Rattle.fish_lanes.specs.Full.{HasFound, TellsLast}
 use Rattle.fish_lanes.specs.Pasts.{IsHere, WasHere}
-use Rattle.fish_lanes.specs.Running.{HasRun, IsShared, SayPlans}
+use Rattle.fish_lanes.specs.Running.{IsShared}
 use Rattle.fish_lanes.specs.Spans.{IsAnswer}
 use Rattle.fish_lanes.specs.Telling.{count_of}
 use Rattle.fish_lanes.specs.declared.work.LaneFault.TheVariants as fault
@@ -33,6 +35,7 @@ loop-next-init g c =
           c.args.disk.now;
       place = sym c.len-next.ensures;
       far = λ start later told before. before;
+      last = λ unset found. found;
       answers = λ all. all;
     }
 
@@ -86,6 +89,10 @@ loop-next-preserved g c =
           (far_next start u t works old (inv.far start later (λ some. told (still some)) began) w (omega arith) at x shared
           c.run_shared.ensures.pass.stands
           (item_fewer (IsHere (disk.content now) k read) (Was later) u t w x (here later still) done));
+      last = λ unset found.
+          let free = open_test u.shut c.args.full c.finds_full.result c.finds_full.ensures c.if-finds_full.false unset in
+          subst (HasFound t) (sym pushed) (found_more (IsHere (disk.content now) k read) u t w old x free
+          (found_none u old (inv.last unset found) free) done.fit done.shuts);
       answers = λ all. subst (AllOf IsAnswer) (sym pushed) (all_more IsAnswer old x (inv.answers all)
           (fit_answer (IsHere (disk.content now) k read) u t w x done.fit));
     }
@@ -136,8 +143,9 @@ returns-in-Err-clause-goes g c start began =
     let after = c.run_shared.new.file.cold in
     let step = c.run_shared.ensures.reads in
     let told = pages_told disk.content disk.images disk.since disk.moment disk.faults k read after before now step in
-    far_part start u t works old w c.in-Err.fault (inv.far start (disk.content now) told began) (omega arith) at
-    c.in-Err.ensures.named c.in-Err.ensures.part
+    on_fault start t works old c.in-Err.fault c.in-Err.ensures.named
+    (far_part start u t works old w c.in-Err.fault (inv.far start (disk.content now) told began) (omega arith) at
+    c.in-Err.ensures.named c.in-Err.ensures.part)
 
 pub returns-in-Err-clause-cause : goal.returns-in-Err-clause-cause
 returns-in-Err-clause-cause g c =
@@ -216,8 +224,7 @@ returns-in-Err-push-clause-goes g c start began =
     let told = pages_told disk.content disk.images disk.since disk.moment disk.faults k read after before now step in
     let Was : Option (List ℕ) → Whole → Type 0 = λ later. WasHere (disk.content first) k cold later in
     let done = c.in-Ok.ensures.item in
-    subst (λ (z : List Item). HasRun (Was (disk.content now)) start t works z fault.Memory × SayPlans start t works z)
-    (sym c.in-Err-push.ensures.err)
+    subst (λ (z : List Item). IsOn (Was (disk.content now)) start t works z fault.Memory) (sym c.in-Err-push.ensures.err)
     (far_part start u t works old w fault.Memory (inv.far start (disk.content now) told began) (omega arith) at (λ e. absurd cc)
     (count_of c.in-Ok.item, done.gained))
 
@@ -227,9 +234,50 @@ returns-in-Err-push-clause-answers g c all =
 
 pub returns-clause-goes : goal.returns-clause-goes
 returns-clause-goes g c start began =
-    let inv = c.loop-next.invariant in
+    c.loop-next.invariant.far start (g.D.Disk.content c.loop-next.disk) (λ some. some) began
+
+pub returns-then-finds_full-clause-goes : goal.returns-then-finds_full-clause-goes
+returns-then-finds_full-clause-goes g c start began =
+    c.loop-next.invariant.far start (g.D.Disk.content c.loop-next.disk) (λ some. some) began
+
+-- ---- a full log
+
+pub returns-clause-all : goal.returns-clause-all
+returns-clause-all g c none =
     let test = c.loop-next-test.false in
     let end = c.loop-next.auto.next-end in
-    let place = inv.place in
-    far_ended start (view c.loop-next.pass) c.args.works.now c.loop-next.items
-    (inv.far start (g.D.Disk.content c.loop-next.disk) (λ some. some) began) (omega arith)
+    let place = c.loop-next.invariant.place in
+    inl (omega arith)
+
+pub returns-then-finds_full-clause-all : goal.returns-then-finds_full-clause-all
+returns-then-finds_full-clause-all g c none =
+    inr (full_test (view c.loop-next.pass).shut c.args.full c.finds_full.result c.finds_full.ensures c.if-finds_full.true)
+
+pub returns-in-Err-clause-all : goal.returns-in-Err-clause-all
+returns-in-Err-clause-all g c none = absurd (c.in-Err.ensures.named none)
+
+pub returns-in-Err-push-clause-all : goal.returns-in-Err-push-clause-all
+returns-in-Err-push-clause-all g c none = absurd cc
+
+pub returns-clause-last : goal.returns-clause-last
+returns-clause-last g c unset found =
+    found_tells (view c.loop-next.pass) c.loop-next.items fault.None (c.loop-next.invariant.last unset found)
+
+pub returns-then-finds_full-clause-last : goal.returns-then-finds_full-clause-last
+returns-then-finds_full-clause-last g c unset found =
+    found_tells (view c.loop-next.pass) c.loop-next.items fault.None (c.loop-next.invariant.last unset found)
+
+pub returns-in-Err-clause-last : goal.returns-in-Err-clause-last
+returns-in-Err-clause-last g c unset found =
+    let u = view c.loop-next.pass in
+    let free = open_test u.shut c.args.full c.finds_full.result c.finds_full.ensures c.if-finds_full.false unset in
+    fault_tells (view c.run_shared.new.pass) c.loop-next.items c.in-Err.fault c.in-Err.ensures.named
+    (found_none u c.loop-next.items (c.loop-next.invariant.last unset found) free)
+
+pub returns-in-Err-push-clause-last : goal.returns-in-Err-push-clause-last
+returns-in-Err-push-clause-last g c unset found =
+    let u = view c.loop-next.pass in
+    let free = open_test u.shut c.args.full c.finds_full.result c.finds_full.ensures c.if-finds_full.false unset in
+    subst (λ (z : List Item). TellsLast (view c.run_shared.new.pass) z fault.Memory) (sym c.in-Err-push.ensures.err)
+    (fault_tells (view c.run_shared.new.pass) c.loop-next.items fault.Memory (λ e. absurd cc)
+    (found_none u c.loop-next.items (c.loop-next.invariant.last unset found) free))

@@ -1,9 +1,10 @@
 -- The statements are done as far as there are items, whichever pass had begun them, with what was read of the file.
-use Rattle.std.proofs.Common.{◌≡◌, ℕ, List, Option, length}
+use Rattle.std.proofs.Common.{◌≡◌, ℕ, List, Option, false, length}
 use Rattle.std.specs.Prelude.{IsSome}
 use Rattle.fish_epoch.specs.Definitions.{IsDefsOf}
 use Rattle.fish_ingest.specs.Ingestion.{CanStart}
 use Rattle.fish_lanes.specs.Advancing.{IsSoFar}
+use Rattle.fish_lanes.specs.Full.{HasFound}
 use Rattle.fish_lanes.specs.Pasts.{WasHere}
 use Rattle.fish_lanes.specs.Spans.{IsAnswer}
 use Rattle.fish_rule.specs.Passes.{IsPassOf, view}
@@ -28,5 +29,6 @@ invariant-loop-next g l =
       far : (start : View) (later : Option (List ℕ)) → (IsSome later → IsSome (disk.content l.disk))
           → IsSoFar (WasHere (disk.content l.fn.disk) l.log.key l.fn.file.cold later) start (view l.fn.pass) l.works l.fn.items
           → IsSoFar (WasHere (disk.content l.fn.disk) l.log.key l.fn.file.cold later) start (view l.pass) l.works l.items;
+      last : l.full ≡ false → HasFound (view l.fn.pass) l.fn.items → HasFound (view l.pass) l.items;
       answers : AllOf IsAnswer l.fn.items → AllOf IsAnswer l.items;
     }

@@ -18,10 +18,10 @@ pub returns-in-Ingest-clause-item : goal.returns-in-Ingest-clause-item
 returns-in-Ingest-clause-item g c =
     let v = view c.args.pass.now in
     let u = view c.ingest_file.new.pass in
-    let w = work.Ingest c.in-Ingest.form c.in-Ingest.header c.in-Ingest.name c.as_bytes.result.now in
+    let w = work.Ingest c.in-Ingest.form c.in-Ingest.begin c.in-Ingest.name c.as_bytes.result.now in
     let here = IsHere (g.D.Disk.content c.args.disk.now) c.args.log.now.key c.args.file.now.cold in
     subst (λ (w : Work). IfOk c.or_memory.result (IsItem here v u w))
-    (ap (λ (z : List ℕ). work.Ingest c.in-Ingest.form c.in-Ingest.header c.in-Ingest.name z) c.as_bytes.ensures
+    (ap (λ (z : List ℕ). work.Ingest c.in-Ingest.form c.in-Ingest.begin c.in-Ingest.name z) c.as_bytes.ensures
     ∙ sym c.in-Ingest.is)
     (subst (λ (r : Result Item LaneFault). IfOk r (IsItem here v u w)) (sym c.or_memory.ensures)
     (memory_ok c.ingest_file.result (IsItem here v u w)
@@ -31,9 +31,9 @@ pub returns-in-Ingest-clause-part : goal.returns-in-Ingest-clause-part
 returns-in-Ingest-clause-part g c =
     let v = view c.args.pass.now in
     let u = view c.ingest_file.new.pass in
-    let w = work.Ingest c.in-Ingest.form c.in-Ingest.header c.in-Ingest.name c.as_bytes.result.now in
+    let w = work.Ingest c.in-Ingest.form c.in-Ingest.begin c.in-Ingest.name c.as_bytes.result.now in
     subst (λ (w : Work). IfErr c.or_memory.result (λ _. IsPart v u w))
-    (ap (λ (z : List ℕ). work.Ingest c.in-Ingest.form c.in-Ingest.header c.in-Ingest.name z) c.as_bytes.ensures
+    (ap (λ (z : List ℕ). work.Ingest c.in-Ingest.form c.in-Ingest.begin c.in-Ingest.name z) c.as_bytes.ensures
     ∙ sym c.in-Ingest.is)
     (subst (λ (r : Result Item LaneFault). IfErr r (λ _. IsPart v u w)) (sym c.or_memory.ensures)
     (memory_part c.ingest_file.result (IsPart v u w) c.ingest_file.ensures.part))

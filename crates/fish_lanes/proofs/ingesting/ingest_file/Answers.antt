@@ -16,7 +16,7 @@ use Rattle.fish_lanes.proofs.ingesting.ingest_file.Goals as goal
 pub returns-in_err-name-clause-part : goal.returns-in_err-name-clause-part
 returns-in_err-name-clause-part g c =
     let v = view c.args.pass.now in
-    let w = work.Ingest c.args.form c.args.header c.args.name.now c.args.file.now in
+    let w = work.Ingest c.args.form c.args.begin c.args.name.now c.args.file.now in
     err_any c.from_residual.result (IsPart v v w)
     (nothing_part v w c.requires.start.outside (idle_law v c.requires.pass.stands c.requires.start))
 
@@ -41,13 +41,13 @@ pub returns-in-Ok-clause-item : goal.returns-in-Ok-clause-item
 returns-in-Ok-clause-item g c =
     let v = view c.args.pass.now in
     let u = view c.ingest_form.new.pass in
-    let w = work.Ingest c.args.form c.args.header c.args.name.now c.args.file.now in
+    let w = work.Ingest c.args.form c.args.begin c.args.name.now c.args.file.now in
     let tally = c.ingest_form.new.tally in
     subst (IsItem anywhere v u w)
     (sym (c.item_of.ensures ∙ ap (λ (z : List ℕ). item_of z tally c.in-Ok.end) c.in_ok-name.ensures))
-    (file_item v u c.args.form c.args.header c.args.name.now c.args.file.now tally c.in-Ok.end
+    (file_item v u c.args.form c.args.begin c.args.name.now c.args.file.now tally c.in-Ok.end
     (let short = c.if-file-gt-MAX_FILE.false in omega arith) c.in-Ok.ensures.ends)
 
 pub returns-in-Err-clause-part : goal.returns-in-Err-clause-part
-returns-in-Err-clause-part g c = file_part (view c.args.pass.now) (view c.ingest_form.new.pass) c.args.form c.args.header
+returns-in-Err-clause-part g c = file_part (view c.args.pass.now) (view c.ingest_form.new.pass) c.args.form c.args.begin
     c.args.name.now c.args.file.now c.in-Err.ensures.part

@@ -5,6 +5,7 @@ use Rattle.fish_ingest.specs.Ingestion.{CanStart}
 use Rattle.fish_json.specs.Lines as json
 use Rattle.fish_lanes.specs.Storing.{IsStoredUpTo}
 use Rattle.fish_lines.specs.Left.{left}
+use Rattle.fish_lines.specs.Resuming.{outcomes_from}
 use Rattle.fish_rule.specs.Passes.{IsPassOf, view}
 use Rattle.fish_value.specs.Limits.{longest_file}
 use Rattle.fish_value.specs.declared.field.Form.TheVariants.{Json}
@@ -15,7 +16,8 @@ invariant-loop-line g l = record {
   of : IsPassOf l.log l.pass;
   start : CanStart (view l.pass);
   read : IsDefsOf (view l.pass) l.defs;
-  stored : IsStoredUpTo (view l.fn.pass) (view l.pass) Json (json.outcomes l.fn.file) (map json.payload_of (left l.lines)) l.tally;
+  stored : IsStoredUpTo (view l.fn.pass) (view l.pass) Json (outcomes_from Json l.fn.begin l.fn.file)
+      (map json.payload_of (left l.lines)) l.tally;
   shut : (view l.pass).shut ≡ (view l.fn.pass).shut;
   room : l.tally.stored + l.tally.refused + length l.lines.rest.now ≤ longest_file;
 }

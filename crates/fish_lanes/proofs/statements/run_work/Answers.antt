@@ -17,9 +17,9 @@ pub returns-in-Ingest-clause-part : goal.returns-in-Ingest-clause-part
 returns-in-Ingest-clause-part g c =
     let v = view c.args.pass.now in
     let u = view c.ingest_file.new.pass in
-    let w = work.Ingest c.in-Ingest.form c.in-Ingest.header c.in-Ingest.name c.as_bytes.result.now in
+    let w = work.Ingest c.in-Ingest.form c.in-Ingest.begin c.in-Ingest.name c.as_bytes.result.now in
     subst (λ (w : Work). IfErr c.or_stop.result (IsStopped v u w))
-    (ap (λ (z : List ℕ). work.Ingest c.in-Ingest.form c.in-Ingest.header c.in-Ingest.name z) c.as_bytes.ensures
+    (ap (λ (z : List ℕ). work.Ingest c.in-Ingest.form c.in-Ingest.begin c.in-Ingest.name z) c.as_bytes.ensures
     ∙ sym c.in-Ingest.is)
     (subst (λ (r : Result Item Stop). IfErr r (IsStopped v u w)) (sym c.or_stop.ensures)
     (stop_part v u w c.ingest_file.result c.ingest_file.ensures.part))

@@ -1,11 +1,14 @@
 -- A statement more, or the end, or the first scan of older records.
 use Rattle.std.proofs.Common.{Ok, Err, ◌≡◌, ◌∙◌, ◌+◌, ℕ, List, [], ◌∷◌, get_or, length, length-append, sym, ap, subst}
-use Rattle.std.proofs.Common.{arith}
+use Rattle.std.proofs.Common.{arith, inl}
+use Rattle.std.specs.Prelude.{is_some}
 use Rattle.fish_ingest.proofs.IngestionStart.{idle_law}
+use Rattle.fish_lanes.proofs.Full.{found_none, found_tells, memory_found, next_found, older_found, open_test}
 use Rattle.fish_lanes.proofs.SoFar.{next_answers, next_done, next_memory, next_more, next_older, next_start}
 use Rattle.fish_lanes.specs.Advancing.{HasNext}
 use Rattle.fish_lanes.specs.Running.{IsShared}
 use Rattle.fish_lanes.specs.declared.statements.Stop.{Stop}
+use Rattle.fish_lanes.specs.declared.work.LaneFault.TheVariants as fault
 use Rattle.fish_report.specs.declared.item.Item.{Item}
 use Rattle.fish_rule.specs.Passes.{view}
 use Rattle.fish_lanes.proofs.statements.run_works.Goals as goal
@@ -17,6 +20,7 @@ loop-next-init g c = record {
   read = c.requires.defs;
   place = sym c.len-next.ensures;
   far = λ start content k cold later far. far;
+  last = λ unshut none. inl (unshut, none);
   more = omega arith;
   answers = λ all. all;
 }
@@ -50,6 +54,10 @@ loop-next-preserved g c =
       place = ap (λ (z : List Item). length z) n.1 ∙ length-append old (n.0 ∷ []) ∙ ap (λ (z : ℕ). z + 1) place;
       far = λ start content k cold later before. next_done start u t works old new w (inv.far start content k cold later before)
           (omega arith) at tt shared c.run_next.ensures.pass.stands n;
+      last = λ unshut none.
+          let free = open_test u.shut c.is_full-full.result c.finds_full.result c.finds_full.ensures c.if-finds_full.false
+          (c.is_full-full.ensures ∙ ap is_some unshut) in
+          next_found u t w old new free (found_none u old (inv.last unshut none) free) tt n;
       more = (let grown = next_more u t w old new (Ok tt) n in let before = inv.more in omega arith);
       answers = λ all. next_answers u t w old new (Ok tt) n (inv.answers all);
     }
@@ -127,6 +135,44 @@ pub returns-in-Err-Older-clause-answers : goal.returns-in-Err-Older-clause-answe
 returns-in-Err-Older-clause-answers g c all =
     next_answers (view c.loop-next.pass) (view c.run_next.new.pass) c.index-works-next.result c.loop-next.items
     c.run_next.new.items (Err c.in-Err-Older.field-0) c.in-Err-Older.ensures.next (c.loop-next.invariant.answers all)
+
+pub returns-in-Err-Memory-clause-last : goal.returns-in-Err-Memory-clause-last
+returns-in-Err-Memory-clause-last g c unshut none =
+    let inv = c.loop-next.invariant in
+    let old = c.loop-next.items in
+    let new = c.run_next.new.items in
+    let w = c.index-works-next.result in
+    let u = view c.loop-next.pass in
+    let t = view c.run_next.new.pass in
+    let free = open_test u.shut c.is_full-full.result c.finds_full.result c.finds_full.ensures c.if-finds_full.false
+    (c.is_full-full.ensures ∙ ap is_some unshut) in
+    memory_found u t w old new free (found_none u old (inv.last unshut none) free)
+    (subst (λ (z : Stop). HasNext u t w old new (Err z)) c.in-Err-Memory.field-0-is c.in-Err-Memory.ensures.next)
+
+pub returns-in-Err-Older-clause-last : goal.returns-in-Err-Older-clause-last
+returns-in-Err-Older-clause-last g c unshut none =
+    let inv = c.loop-next.invariant in
+    let old = c.loop-next.items in
+    let new = c.run_next.new.items in
+    let w = c.index-works-next.result in
+    let u = view c.loop-next.pass in
+    let t = view c.run_next.new.pass in
+    let free = open_test u.shut c.is_full-full.result c.finds_full.result c.finds_full.ensures c.if-finds_full.false
+    (c.is_full-full.ensures ∙ ap is_some unshut) in
+    found_tells t new fault.None (older_found u t w old new free (found_none u old (inv.last unshut none) free)
+    (subst (λ (z : Stop). HasNext u t w old new (Err z)) c.in-Err-Older.field-0-is c.in-Err-Older.ensures.next))
+
+pub returns-then-finds_full-clause-goes : goal.returns-then-finds_full-clause-goes
+returns-then-finds_full-clause-goes g c start content k cold later before =
+    c.loop-next.invariant.far start content k cold later before
+
+pub returns-then-finds_full-clause-last : goal.returns-then-finds_full-clause-last
+returns-then-finds_full-clause-last g c unshut none =
+    found_tells (view c.loop-next.pass) c.loop-next.items fault.None (c.loop-next.invariant.last unshut none)
+
+pub returns-clause-last : goal.returns-clause-last
+returns-clause-last g c unshut none =
+    found_tells (view c.loop-next.pass) c.loop-next.items fault.None (c.loop-next.invariant.last unshut none)
 
 pub returns-clause-goes : goal.returns-clause-goes
 returns-clause-goes g c start content k cold later before = c.loop-next.invariant.far start content k cold later before

@@ -1,9 +1,10 @@
 -- The statements are done as far as there are items, whichever pass had begun them.
-use Rattle.std.proofs.Common.{◌≡◌, ◌≤◌, ℕ, List, Option, length}
+use Rattle.std.proofs.Common.{◌≡◌, ◌≤◌, ℕ, List, Option, None, length}
 use Rattle.fish_cold.specs.declared.cold.Cold.{Cold}
 use Rattle.fish_epoch.specs.Definitions.{IsDefsOf}
 use Rattle.fish_ingest.specs.Ingestion.{CanStart}
 use Rattle.fish_lanes.specs.Advancing.{IsSoFar}
+use Rattle.fish_lanes.specs.Full.{HasFound, IsNotFull}
 use Rattle.fish_lanes.specs.Pasts.{WasHere}
 use Rattle.fish_lanes.specs.Spans.{IsAnswer}
 use Rattle.fish_rule.specs.Passes.{IsPassOf, view}
@@ -21,6 +22,7 @@ invariant-loop-next g l = record {
   far : (start : View) (content : Option (List ℕ)) (k : Key) (cold : Cold) (later : Option (List ℕ))
       → IsSoFar (WasHere content k cold later) start (view l.fn.pass) l.works l.fn.items
       → IsSoFar (WasHere content k cold later) start (view l.pass) l.works l.items;
+  last : (view l.fn.pass).shut ≡ None → AllOf IsNotFull l.fn.items → HasFound (view l.pass) l.items;
   more : length l.fn.items ≤ length l.items;
   answers : AllOf IsAnswer l.fn.items → AllOf IsAnswer l.items;
 }

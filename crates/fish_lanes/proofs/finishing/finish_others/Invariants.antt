@@ -6,7 +6,7 @@ use Rattle.fish_lanes.specs.Pasts.{WasHere}
 use Rattle.fish_lanes.specs.declared.lane.Lane.{Lane}
 use Rattle.fish_scan.specs.Colder.{IsBelow}
 use Rattle.fish_store.specs.Sound.{ReadsPages}
-use Rattle.fish_lanes.proofs.block.finish_others.Given as goal
+use Rattle.fish_lanes.proofs.finishing.finish_others.Given as goal
 
 abbrev pub invariant-loop-i : goal.invariant-loop-i
 invariant-loop-i g l =
@@ -16,7 +16,7 @@ invariant-loop-i g l =
       flusher : l.file.flusher ≡ l.fn.file.flusher;
       reads : ReadsPages disk.content disk.images disk.since disk.moment disk.faults l.log.key l.fn.file.cold l.file.cold l.fn.disk l.disk;
       each : (j : ℕ) (x y : Lane) → j < l.i → slice_get l.fn.lanes j ≡ Some x → slice_get l.lanes j ≡ Some y
-          → HasFinished (WasHere (disk.content l.fn.disk) l.log.key l.fn.file.cold (disk.content l.disk)) l.log x y
+          → HasFinished (WasHere (disk.content l.fn.disk) l.log.key l.fn.file.cold (disk.content l.disk)) l.full l.log x y
           × Stops (WasHere (disk.content l.fn.disk) l.log.key l.fn.file.cold (disk.content l.disk)) (disk.faults l.fn.disk)
           (disk.faults l.disk) y;
       rest : (j : ℕ) → l.i ≤ j → slice_get l.fn.lanes j ≡ slice_get l.lanes j;

@@ -12,7 +12,7 @@ use Rattle.fish_lanes.specs.Pasts.{WasHere}
 use Rattle.fish_lanes.specs.Running.{IsReady}
 use Rattle.fish_lanes.specs.declared.lane.Lane.{Lane}
 use Rattle.fish_whole.specs.Whole.{Whole}
-use Rattle.fish_lanes.proofs.block.finish_others.Goals as goal
+use Rattle.fish_lanes.proofs.finishing.finish_others.Goals as goal
 
 pub loop-i-init : goal.loop-i-init
 loop-i-init g c =
@@ -83,11 +83,11 @@ loop-i-preserved g c =
           (told was.told) was.here;
       told = was.told;
     } in
-    let Is : Lane → Lane → Type 0 = λ x z. HasFinished Was c.args.log.now x z
+    let Is : Lane → Lane → Type 0 = λ x z. HasFinished Was c.args.full c.args.log.now x z
     × Stops Was (disk.faults first) (disk.faults now) z in
     let mine : Is r y = (
-      finished_fewer (WasHere (disk.content before) k read (disk.content now)) Was c.args.log.now r y here
-          (subst (λ (z : Lane). HasFinished (WasHere (disk.content before) k read (disk.content now)) c.args.log.now z y)
+      finished_fewer (WasHere (disk.content before) k read (disk.content now)) Was c.args.full c.args.log.now r y here
+          (subst (λ (z : Lane). HasFinished (WasHere (disk.content before) k read (disk.content now)) c.args.full c.args.log.now z y)
           (sym c.index-lanes-i.is) c.finish_lane.ensures.finished),
       stops_before Was (disk.faults first) (disk.faults before) (disk.faults now) y inv.reads.cold.later
           (stops_later (WasHere (disk.content before) k read (disk.content now)) Was (disk.faults before) (disk.faults now)
@@ -101,7 +101,7 @@ loop-i-preserved g c =
       reads = pages_both disk.content disk.images disk.since disk.moment disk.faults k cold read after first before now inv.reads step;
       each = each_more Is c.args.lanes.now c.loop-i.lanes i r y (omega arith) at_fn
           (λ j x z less at_x at_z. (let e = inv.each j x z less at_x at_z in (
-            finished_fewer (WasHere (disk.content first) k cold (disk.content before)) Was c.args.log.now x z so_far e.0,
+            finished_fewer (WasHere (disk.content first) k cold (disk.content before)) Was c.args.full c.args.log.now x z so_far e.0,
             stops_later (WasHere (disk.content first) k cold (disk.content before)) Was (disk.faults first) (disk.faults before)
                 (disk.faults now) z step.cold.later so_far e.1,
           ))) mine;
