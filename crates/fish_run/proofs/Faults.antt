@@ -1,7 +1,5 @@
 -- Why a run stops, case by case.
-use Rattle.std.proofs.Common.{◌≡◌, ◌≢◌, ℕ, ◌≤◌, arith, refl, sym, ap, ◌∙◌, subst, ⊎_elim, List, [], Option, Result, Ok, Err}
-use Rattle.std.specs.Prelude.{IfErr}
-use Rattle.std.specs.Result.{IsErrAnd}
+use Rattle.std.proofs.Common.{◌≡◌, ◌≢◌, ℕ, List, refl, sym, ◌∙◌, subst}
 use Rattle.fish_flush.specs.declared.refusal.FlushRefusal.{FlushRefusal}
 use Rattle.fish_flush.specs.declared.refusal.FlushRefusal.TheVariants as flush
 use Rattle.fish_lanes.specs.Blocks.{At}
@@ -10,19 +8,14 @@ use Rattle.fish_lanes.specs.Outcome.{Stops}
 use Rattle.fish_lanes.specs.declared.lane.Lane.{Lane}
 use Rattle.fish_lanes.specs.declared.work.LaneFault.{LaneFault}
 use Rattle.fish_lanes.specs.declared.work.LaneFault.TheVariants as cause
-use Rattle.fish_outside.proofs.CauseLemmas.{Rose_earlier}
 use Rattle.fish_outside.specs.Causes.{Rose}
 use Rattle.fish_outside.specs.declared.fault.FeedRefusal.{FeedRefusal}
 use Rattle.fish_outside.specs.declared.fault.FeedRefusal.TheVariants as feed
-use Rattle.fish_outside.specs.Told.{Gained, GainedPart}
-use Rattle.fish_report.specs.ReportText.{report_text}
-use Rattle.fish_report.specs.declared.item.Item.{Item}
 use Rattle.fish_report.specs.declared.writing.WriteRefusal.{WriteRefusal}
 use Rattle.fish_report.specs.declared.writing.WriteRefusal.TheVariants as write
 use Rattle.fish_run.specs.Blocks.{IsFirstFault}
-use Rattle.fish_run.specs.Faults.{HasDiskCause, HasRunCause, IsCommitFault, IsUndamaged, IsWriteFault, feed_fault, flush_fault}
+use Rattle.fish_run.specs.Faults.{IsCommitFault, IsUndamaged, feed_fault, flush_fault}
 use Rattle.fish_run.specs.Faults.{lane_fault, write_fault}
-use Rattle.fish_run.specs.Steps.{AreWhole, StopsTelling}
 use Rattle.fish_run.specs.declared.fault.RunFault.{RunFault}
 use Rattle.fish_run.specs.declared.fault.RunFault.TheVariants as fault
 use Rattle.fish_whole.specs.Whole.{Whole}
@@ -107,35 +100,6 @@ lane_disk before now cause.Memory is h = absurd cc
 lane_disk before now cause.Disk is h = h
 lane_disk before now (cause.Damaged n) is h = absurd cc
 
--- ---- what the disk's count tells
-
--- the fault of a result
-abbrev fault_in : {T : Type 0} → Result T RunFault → RunFault
-fault_in (Ok x) = fault.None
-fault_in (Err e) = e
-
-module _ {U : Type 0} (Past : Whole → Type 0) (before now : ℕ) where
-  -- a fault of something else
-  pub disk_other : (r : Result U RunFault) (why : RunFault) → IsErrAnd r (λ e. e ≡ why) → why ≢ fault.Disk → IsUndamaged why → before ≤ now
-      → HasDiskCause Past before now r
-  disk_other (Ok x) why is other well later = elim is [ ]
-  disk_other (Err e) why is other well later = record {
-    later = later;
-    disk = λ k. absurd (other (sym is ∙ ap fault_in k));
-    whole = λ past p. subst IsUndamaged (sym is) well;
-  }
-
-  -- a fault that came later
-  pub disk_later : {T : Type 0} (One : Whole → Type 0) (mid : ℕ) (r : Result U RunFault) (why : RunFault)
-      → ((past : Whole) → Past past → One past) → before ≤ mid → IsErrAnd r (λ e. e ≡ why) → HasDiskCause {T = T} One mid now (Err why)
-      → HasDiskCause Past before now r
-  disk_later One mid (Ok x) why near earlier is h = elim is [ ]
-  disk_later One mid (Err e) why near earlier is h = record {
-    later = (let a = h.later in omega arith);
-    disk = λ k. Rose_earlier before mid now earlier (h.disk (λ i. Err ((sym is ∙ ap fault_in k) i)));
-    whole = λ past p. subst IsUndamaged (sym is) (h.whole past (near past p));
-  }
-
 -- ---- the first lane that stopped
 
 -- it is none of the input
@@ -143,26 +107,21 @@ pub first_no_input : (lanes : List Lane) (why : RunFault) → IsFirstFault lanes
 first_no_input lanes why h is = lane_other h.lane.fault (sym h.is ∙ is)
 
 -- that of a lane is the disk's only where its count rose, and no damage behind a past that it has whole
-lane_cause : {T : Type 0} (Past : Whole → Type 0) (before now : ℕ) (lanes : List Lane) (why : RunFault)
-    → At (λ i x. Stops Past before now x) lanes
-    → IsFirstFault lanes why → before ≤ now → HasDiskCause {T = T} Past before now (Err why)
-lane_cause Past before now lanes why stops h later =
-    let s = stops h.at h.lane h.lane_is in
-    record {
-      later = later;
-      disk = λ k. lane_disk before now h.lane.fault (sym h.is ∙ ap fault_in k) s.cause;
-      whole = λ past p. subst IsUndamaged (sym h.is) (lane_well h.lane.fault (s.whole past p));
-    }
+pub lane_rose : (Past : Whole → Type 0) (before now : ℕ) (lanes : List Lane) (why : RunFault)
+    → At (λ i x. Stops Past before now x) lanes → IsFirstFault lanes why → why ≡ fault.Disk → Rose before now
+lane_rose Past before now lanes why stops h is =
+    lane_disk before now h.lane.fault (sym h.is ∙ is) (stops h.at h.lane h.lane_is).cause
 
--- what is told of lanes that ran
-pub disk_told : {T : Type 0} (Past : Whole → Type 0) (before now : ℕ) (lanes : List Lane) (items : List Item)
-    (old new : Option (List ℕ)) → At (λ i x. Stops Past before now x) lanes → before ≤ now → (r : Result T RunFault)
-    → IfErr r (StopsTelling lanes items old new) → HasDiskCause Past before now r
-disk_told Past before now lanes items old new stops later (Ok x) h = record { later = later; disk = λ k. absurd cc; whole = λ past p. tt }
-disk_told Past before now lanes items old new stops later (Err why) h = ⊎_elim
-    (λ (lane : IsFirstFault lanes why × Gained old new []). lane_cause Past before now lanes why stops lane.0 later)
-    (λ (told : AreWhole lanes × IsWriteFault why × GainedPart old new (report_text items)).
-    disk_other Past before now (Err why) (write_fault told.1.0) told.1.1 (write_no_disk told.1.0) (write_well told.1.0) later) h.2
+pub lane_whole : (Past : Whole → Type 0) (before now : ℕ) (lanes : List Lane) (why : RunFault)
+    → At (λ i x. Stops Past before now x) lanes → IsFirstFault lanes why → (past : Whole) → Past past → IsUndamaged why
+lane_whole Past before now lanes why stops h past p =
+    subst IsUndamaged (sym h.is) (lane_well h.lane.fault ((stops h.at h.lane h.lane_is).whole past p))
+
+pub first_named : (lanes : List Lane) (why : RunFault) → IsFirstFault lanes why → why ≢ fault.None
+first_named lanes why h is = lane_named h.lane.fault h.stopped (sym h.is ∙ is)
+
+pub first_no_output : (lanes : List Lane) (why : RunFault) → IsFirstFault lanes why → why ≢ fault.Output
+first_no_output lanes why h is = lane_no_output h.lane.fault (sym h.is ∙ is)
 
 -- ---- the last checkpoint
 
@@ -178,39 +137,6 @@ commit_no_output why h is = flush_no_output h.0 (sym h.1 ∙ is)
 pub commit_well : (why : RunFault) → IsCommitFault why → IsUndamaged why
 commit_well why h = subst IsUndamaged (sym h.1) (flush_well h.0)
 
--- a fault that is none of the input or the output
-pub cause_other : {T : Type 0} (before now old new : ℕ) (r : Result T RunFault) (why : RunFault) → IsErrAnd r (λ e. e ≡ why)
-    → why ≢ fault.Input → why ≢ fault.Output → before ≤ now → old ≤ new → HasRunCause before now old new r
-cause_other before now old new (Ok x) why is other no_output later output_later = elim is [ ]
-cause_other before now old new (Err e) why is other no_output later output_later = record {
-  input_later = later;
-  output_later = output_later;
-  input = λ k. absurd (other (sym is ∙ ap fault_in k));
-  output = λ k. absurd (no_output (sym is ∙ ap fault_in k));
-}
-
--- one that came later
-pub cause_later : {T U : Type 0} (before mid now old between new : ℕ) (r : Result U RunFault) (why : RunFault) → IsErrAnd r (λ e. e ≡ why)
-    → before ≤ mid → old ≤ between → HasRunCause {T = T} mid now between new (Err why) → HasRunCause before now old new r
-cause_later before mid now old between new (Ok x) why is earlier output_earlier h = elim is [ ]
-cause_later before mid now old between new (Err e) why is earlier output_earlier h = record {
-  input_later = (let a = h.input_later in omega arith);
-  output_later = (let a = h.output_later in omega arith);
-  input = λ k. Rose_earlier before mid now earlier (h.input (λ i. Err ((sym is ∙ ap fault_in k) i)));
-  output = λ k. Rose_earlier old between new output_earlier (h.output (λ i. Err ((sym is ∙ ap fault_in k) i)));
-}
-
--- one of the disk came where its count rose
-pub disk_commit : {T : Type 0} (Past : Whole → Type 0) (before now mid : ℕ) (r : Result T RunFault) (why : RunFault)
-    → IsErrAnd r (λ e. e ≡ why) → (why ≡ fault.Disk → Rose mid now) → IsUndamaged why → before ≤ mid → mid ≤ now
-    → HasDiskCause Past before now r
-disk_commit Past before now mid (Ok x) why is rose well earlier later = elim is [ ]
-disk_commit Past before now mid (Err e) why is rose well earlier later = record {
-  later = omega arith;
-  disk = λ k. Rose_earlier before mid now earlier (rose (sym is ∙ ap fault_in k));
-  whole = λ past p. subst IsUndamaged (sym is) well;
-}
-
 -- ---- the end
 
 -- a fault that names no number is no damage
@@ -221,7 +147,3 @@ well_of fault.Output h = tt
 well_of fault.Memory h = tt
 well_of fault.Disk h = tt
 well_of (fault.Damaged n) h = h n refl
-
--- and an error that is none isn't one that names a number
-pub not_damaged : {T : Type 0} (r : Result T RunFault) (n : ℕ) → IfErr r IsUndamaged → r ≡ Err (fault.Damaged n) → ⊥
-not_damaged r n h is = subst (λ (z : Result _ RunFault). IfErr z IsUndamaged) is h

@@ -1,6 +1,7 @@
 -- The control pass from block to block.
-use Rattle.std.proofs.Common.{◌≡◌, ℕ, ◌+◌, ◌*◌, ◌/◌, ◌%◌, ◌<◌, ◌≤◌, List, [], ◌∷◌, ◌++◌, length, map, refl}
-use Rattle.std.proofs.Common.{sym, ap, ◌∙◌, subst, inl, arith}
+use Rattle.std.proofs.Common.{◌≡◌, ℕ, ◌+◌, ◌*◌, ◌/◌, ◌%◌, ◌^◌, ◌<◌, ◌≤◌, List, [], ◌∷◌, ◌++◌, length, map, refl}
+use Rattle.std.proofs.Common.{sym, ap, ◌∙◌, subst, inl, ⊎_elim, true, arith}
+use Rattle.std.proofs.Math.Decide.{dec_lt}
 use Rattle.std.proofs.Common.{All, None, Option, Some, Result, Ok, Err, slice_get, append-nil, drop, take}
 use Rattle.std.proofs.lemmas.List.{drop_all, take_all}
 use Rattle.std.proofs.lemmas.Nat.{div-mul-add, mod-mul-add}
@@ -15,7 +16,9 @@ use Rattle.fish_catalog.specs.declared.row.CatRow.{CatRow}
 use Rattle.fish_flush.specs.Carrying.{Carries, HasSettled, Reads}
 use Rattle.fish_flush.specs.Rows.{HoldsRows}
 use Rattle.fish_ingest.specs.Ingestion.{CanStart}
+use Rattle.fish_lanes.proofs.Committing.{reads_control}
 use Rattle.fish_lanes.proofs.Controls.{each_last}
+use Rattle.fish_lanes.proofs.Versions.{same_version}
 use Rattle.fish_lanes.specs.Blocks.{HasRegistered, control_items}
 use Rattle.fish_lanes.specs.Controlling.{CanControl}
 use Rattle.fish_lanes.specs.Ending.{HasEnd}
@@ -33,24 +36,29 @@ use Rattle.fish_rule.proofs.laws.Learning.{learns_self}
 use Rattle.fish_rule.proofs.laws.Versions.{definitions_first}
 use Rattle.fish_rule.specs.LoadSteps.{IsAlone}
 use Rattle.fish_rule.specs.Parts.{Rests}
-use Rattle.fish_rule.specs.Passes.{view}
+use Rattle.fish_rule.specs.Passes.{IsPassOf, view}
+use Rattle.fish_rule.specs.Start.{table_lines}
 use Rattle.fish_rule.specs.Table.{Stands, first_view}
 use Rattle.fish_rule.specs.Views.{Among}
 use Rattle.fish_rule.specs.World.{high, last_line, low}
+use Rattle.fish_rule.specs.declared.table.Log.{Log}
+use Rattle.fish_rule.specs.declared.table.Shape.{Shape}
 use Rattle.fish_rule.specs.declared.view.Key.{Key}
 use Rattle.fish_rule.specs.declared.view.View.{View}
-use Rattle.fish_run.specs.Blocks.{first_registry}
-use Rattle.fish_run.specs.Runs.{CanClose, CanGoOn, IsNewStore}
+use Rattle.fish_run.specs.Blocks.{begun, first_registry}
+use Rattle.fish_run.specs.Runs.{CanClose, CanGoOn, IsNewStore, IsTable}
 use Rattle.fish_run.specs.Steps.{AreWhole}
 use Rattle.fish_scan.specs.Colder.{IsBelow}
 use Rattle.fish_store.proofs.Running.{behind_on}
 use Rattle.fish_store.specs.Opened.{opened_point}
 use Rattle.fish_store.specs.Points.{point_at}
+use Rattle.fish_store.specs.Rolling.{HasRolled, MayRoll}
 use Rattle.fish_store.specs.Sound.{GoesOnHere, IsSoundBehind, MayGoOn, Point}
 use Rattle.fish_store.specs.declared.store.Store.{Store}
 use Rattle.fish_walk.proofs.Looking.{ends_later}
 use Rattle.fish_walk.specs.Looks.{IsTailCount}
 use Rattle.fish_walk.specs.Settling.{EndsAt}
+use Rattle.fish_rule.specs.Logs.{TellsMark}
 use Rattle.fish_whole.specs.Whole.{Later, Whole}
 
 -- ---- in front of the first block
@@ -141,6 +149,10 @@ module _ {D : Type 0} (content : D → Option (List ℕ)) (images : D → List �
         are = λ g read. definitions_first o.log.key g o.log.key.version (omega arith) ∙ ap (map listed_of) (h.rows ∙ sym rows);
       });
       settled = none_waits o.log.key r knows;
+      table = record {
+        buckets = h.buckets ∙ ap (λ (n : ℕ). 2 ^ n) h.carries.bits;
+        end = lines;
+      };
     };
     version = ap (λ (z : View). z.learned.version) h.first ∙ h.version;
     unshut = ap (λ (z : View). z.shut) h.first;
@@ -148,6 +160,9 @@ module _ {D : Type 0} (content : D → Option (List ℕ)) (images : D → List �
     where
       r : Registrar
       r = s.registrar
+
+      lines : o.log.key.end ≡ o.log.key.line + table_lines o.log.shape.pages o.log.key.number o.log.key.line
+      lines = h.end ∙ (λ i. sym h.line i + table_lines (h.carries.pages i) (sym h.number i) (sym h.line i))
 
       knows : Knows (first_view o.log.key) r
       knows = knows_opened r first rows
@@ -253,6 +268,111 @@ end_settled v u n from h s e settled =
       marks = f.marks;
     }
 
+-- the log has one end
+not_less : (v : View) (a b : ℕ) → Stands v → HasEnd v a → HasEnd v b → a < b → ⊥
+not_less v a b s h k less =
+    let r = s.rule in
+    let floor : v.learned.settled ≤ s.moment.settled = r.floors s.seat v s.at in
+    let within = r.settling.within in
+    let settled = k.settled in
+    let above = h.above in
+    let t = h.tail in
+    let rests : Rests s.moment.count s.moment.line (Some (record { number = high t.0; line = low t.0 }))
+    = subst (Rests s.moment.count s.moment.line) t.1 (r.tails s.seat v s.at h.alone.main h.alone.all) in
+    let here : high t.0 ≡ s.moment.count = rests.0 in
+    let count : high t.0 ≡ h.count = t.2 in
+    ⊎_elim (λ (e : a ≡ h.count). (let bad : ⊥ = omega arith in bad))
+    (λ (m : (a < h.count) × TellsMark v a).
+    (r.settling.below a (let same : v.about.number ≤ a = above in omega arith) (omega arith)).unmarked
+    (m.1 v (learns_self v) s.moment r s.seat s.at)) h.ends
+
+pub one_end : (v : View) (a b : ℕ) → Stands v → HasEnd v a → HasEnd v b → a ≡ b
+one_end v a b s h k = by (dec_lt a b) (dec_lt b a)
+  where
+    by : Dec (a < b) → Dec (b < a) → a ≡ b
+    by (yes less) d = absurd (not_less v a b s h k less)
+    by (no one) (yes less) = absurd (not_less v b a s k h less)
+    by (no one) (no other) = omega arith
+
+-- ---- a new table
+
+module _
+    {D : Type 0}
+    (content : D → Option (List ℕ))
+    (images : D → List ℕ → Type 0)
+    (since : D → ℕ → List ℕ → Type 0)
+    (moment : D → ℕ)
+    (disk : D) (s t : Store) (h : HasRolled content images since moment disk s t) where
+  rolled_lines : t.log.key.line < 68719476736
+  rolled_lines =
+      let fits = h.pass.stands.rule.key_fits in
+      let about : (view t.pass).about ≡ t.log.key = h.pass.about in
+      let some = subst (λ (k : Key). k.line ≤ k.end) about fits.some_lines in
+      let most = subst (λ (k : Key). k.end ≤ last_line) about fits.low_end in
+      omega arith
+
+  rolled_knows : Knows (first_view t.log.key) t.registrar
+  rolled_knows = h.knows t.log.key h.rows
+      (subst (λ (l : List CatRow). All (HasBegunBy t.log.key.number) l) (sym h.catalog)
+      (subst (λ (n : ℕ). All (HasBegunBy n) (map (clamped s.file.flusher.count) s.registrar.catalog)) (sym h.number)
+      (begun_all s.file.flusher.count s.registrar.catalog)))
+
+  -- the store may go on where the new table begins
+  pub rolled_go : (from : ℕ) → s.file.flusher.count ≡ from → CanGoOn images disk t from
+  rolled_go from same = record {
+    can = record {
+      of = h.pass;
+      start = subst CanStart (sym h.first) (record { live = omega arith; outside = refl });
+      knows = subst (λ (z : View). Knows z t.registrar) (sym h.first) rolled_knows;
+    };
+    commit = h.commit;
+    below = h.below;
+    end = subst (HasEnd (view t.pass)) (h.number ∙ same) (first_end (view t.pass) t.log.key h.first rolled_lines);
+    known = subst (λ (z : View). KnowsRegistry z (registry_of z t.registrar)) (sym h.first) (record {
+      from = omega arith;
+      reached = omega arith;
+      are = λ g read. definitions_first t.log.key g t.log.key.version (omega arith) ∙ ap (map listed_of) h.rows;
+    });
+    settled = none_waits t.log.key t.registrar rolled_knows;
+    table = record {
+      buckets = h.buckets ∙ ap (λ (z : Shape). 2 ^ z.bucket_bits) (sym h.shape);
+      end = h.end ∙ (λ i. sym h.line i + table_lines (sym h.shape i).pages (sym h.number i) (sym h.line i));
+    };
+  }
+
+  -- with the registry of before, but for indices that begin or end past the log
+  pub rolled_registry : (from : ℕ) → s.file.flusher.count ≡ from → s.registrar.waiting ≡ None
+      → registry_of (view t.pass) t.registrar ≡ begun true from (registry_of (view s.pass) s.registrar)
+  rolled_registry from same settled i = record {
+    rows = (h.catalog ∙ ap (λ (n : ℕ). map (clamped n) s.registrar.catalog) same) i;
+    waiting = ap waiting_id (none_waits t.log.key t.registrar rolled_knows ∙ sym settled) i;
+    version = (ap (λ (z : View). z.learned.version) h.first ∙ h.version) i;
+  }
+
+-- what a commit leaves is what another table may take the place of
+pub may_roll : {D : Type 0} (images : D → List ℕ → Type 0) (disk : D) (s m : Store) (from : ℕ) → CanControl s.log s.pass s.registrar
+    → m.log ≡ s.log → m.registrar ≡ s.registrar → CanClose m → Reads (view s.pass) (view m.pass) → MayGoOn images (point_at disk m)
+    → HasEnd (view m.pass) m.file.flusher.count → MayRoll images disk m
+may_roll images disk s m from can log registrar close reads commit ends = record {
+  pass = close.of;
+  alone = close.alone;
+  rows = holds_rows (view m.pass) m.registrar
+      (subst (Knows (view m.pass)) (sym registrar)
+      (reads_control s.log s.pass m.pass s.registrar can (subst (λ (l : Log). IsPassOf l m.pass) log close.of) reads).knows);
+  commit = commit;
+  count = ends.count;
+  tail = ends.tail;
+  ends = ends.ends;
+}
+
+-- the registry is the one of before
+pub registry_reads : (s m : Store) → m.registrar ≡ s.registrar → Stands (view s.pass) → Stands (view m.pass) → IsAlone (view s.pass)
+    → Reads (view s.pass) (view m.pass) → registry_of (view m.pass) m.registrar ≡ registry_of (view s.pass) s.registrar
+registry_reads s m same before now alone reads i =
+    let version = same_version (view s.pass) (view m.pass) before now alone.main (ap (λ (z : View). z.lane) reads.frame ∙ alone.main)
+    reads.learns.about (ap (λ (z : View). z.rows) reads.frame) in
+    record { rows = (same i).catalog; waiting = waiting_id (same i).waiting; version = version i }
+
 -- ---- moments
 
 -- where nothing was done the store is where it was
@@ -285,7 +405,11 @@ module _
 
 -- the control pass may close the log where it may go on
 pub close_of : {D : Type 0} (images : D → List ℕ → Type 0) (disk : D) (s : Store) (from : ℕ) → CanGoOn images disk s from → CanClose s
-close_of images disk s from go = record { of = go.can.of; alone = go.end.alone }
+close_of images disk s from go = record { of = go.can.of; alone = go.end.alone; table = go.table }
+
+-- a table stays the one that it is
+pub table_same : (s t : Store) → t.log ≡ s.log → IsTable s.log → IsTable t.log
+table_same s t same h = subst IsTable (sym same) h
 
 -- ---- behind a block
 
@@ -304,9 +428,9 @@ first_there (x ∷ xs) less = (x, refl)
 -- the first lane had no fault, so the definitions that its items tell are known, and a checkpoint may follow
 pub go_next : {D : Type 0} (images : D → List ℕ → Type 0) (disk : D) (s : Store) (v : View) (r : Registrar) (x : Lane) (end : BlockEnd)
     → CanControl s.log s.pass s.registrar → MayGoOn images (point_at disk s) → IsBelow s.log.key s.file.cold
-    → HasEnd (view s.pass) end.to → HasRegistered v (view s.pass) r s.registrar x end → x.fault ≡ cause.None
+    → HasEnd (view s.pass) end.to → HasRegistered v (view s.pass) r s.registrar x end → x.fault ≡ cause.None → IsTable s.log
     → CanGoOn images disk s end.to
-go_next images disk s v r x end can commit below ends has whole = record {
+go_next images disk s v r x end can commit below ends has whole table = record {
   can = can;
   commit = commit;
   below = below;
@@ -314,6 +438,7 @@ go_next images disk s v r x end can commit below ends has whole = record {
   known = subst (KnowsRegistry (view s.pass)) (sym (has.is whole))
       (each_last (KnowsRegistry (view s.pass)) (registry_of v r) (control_items x end) (has.each whole));
   settled = has.settled;
+  table = table;
 }
 
 -- so it may where no lane had one
@@ -321,15 +446,19 @@ pub go_whole : {D : Type 0} (images : D → List ℕ → Type 0) (disk : D) (s :
     (end : BlockEnd) → AreWhole lanes → CanControl s.log s.pass s.registrar
     → (((x : Lane) → slice_get lanes 0 ≡ Some x → x.fault ≡ cause.Disk → ⊥) → MayGoOn images (point_at disk s))
     → IsBelow s.log.key s.file.cold → HasEnd (view s.pass) end.to
-    → ((x : Lane) → slice_get lanes 0 ≡ Some x → HasRegistered v (view s.pass) r s.registrar x end) → 0 < length lanes
+    → ((x : Lane) → slice_get lanes 0 ≡ Some x → HasRegistered v (view s.pass) r s.registrar x end) → 0 < length lanes → IsTable s.log
     → CanGoOn images disk s end.to
-go_whole images disk s v r lanes end whole can again below ends has some =
+go_whole images disk s v r lanes end whole can again below ends has some table =
     let first = first_there lanes some in
     go_next images disk s v r first.0 end can
     (again (λ x at is. (let bad : cause.None ≡ cause.Disk = sym (whole 0 x at) ∙ is in absurd cc))) below ends (has first.0 first.1)
-    (whole 0 first.0 first.1)
+    (whole 0 first.0 first.1) table
 
 -- ---- results
+
+-- an answer is no error
+pub no_err : {A E : Type 0} (r : Result A E) (x : A) (e : E) → r ≡ Ok x → r ≡ Err e → ⊥
+no_err r x e a b = (let bad : Ok x ≡ Err e = sym a ∙ b in cc)
 
 -- what three clauses say where there is an answer
 pub ok_all : {A E P Q S T : Type 0} (r : Result A E) → (P → Q → S → T) → OnOk r P → OnOk r Q → OnOk r S → OnOk r T

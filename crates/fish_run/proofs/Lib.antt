@@ -1,8 +1,17 @@
 pub mod Blocks
+pub mod Caused
+pub mod Closing
 pub mod Ends
 pub mod Faults
 pub mod Going
 pub mod Keeping
 pub mod Lists
+pub mod One
+mod Rounding
+mod SaidLemmas
+pub mod Shown
+pub mod Stepping
+pub mod Tables
+pub mod Turns
 pub mod Works
 pub mod Written

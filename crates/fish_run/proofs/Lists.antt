@@ -49,6 +49,17 @@ pairs_map R S f [] (y ∷ ys) h = elim h [ ]
 pairs_map R S f (x ∷ xs) [] h = elim h [ ]
 pairs_map R S f (x ∷ xs) (y ∷ ys) h = (f x y h.0, pairs_map R S f xs ys h.1)
 
+-- what is so of each two and each next two is so of the first and the last
+pub pairs_both : {A B C : Type 0} (R : A → B → Type 0) (S : B → C → Type 0) (T : A → C → Type 0)
+    → ((x : A) (y : B) (z : C) → R x y → S y z → T x z) → (xs : List A) (ys : List B) (zs : List C) → Pairs R xs ys → Pairs S ys zs
+    → Pairs T xs zs
+pairs_both R S T f [] [] [] h k = tt
+pairs_both R S T f [] [] (z ∷ zs) h k = elim k [ ]
+pairs_both R S T f [] (y ∷ ys) zs h k = elim h [ ]
+pairs_both R S T f (x ∷ xs) [] zs h k = elim h [ ]
+pairs_both R S T f (x ∷ xs) (y ∷ ys) [] h k = elim k [ ]
+pairs_both R S T f (x ∷ xs) (y ∷ ys) (z ∷ zs) h k = (f x y z h.0 k.0, pairs_both R S T f xs ys zs h.1 k.1)
+
 -- an element that was read is at its place
 pub get_at : {A : Type 0} (xs : List A) (i : ℕ) (x : A) → i < length xs → x ≡ get_or xs i x → slice_get xs i ≡ Some x
 get_at xs i x less is = slice_get_read xs (length xs) i x refl less is

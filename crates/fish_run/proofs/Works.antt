@@ -11,7 +11,7 @@ use Rattle.fish_lanes.specs.declared.lane.Lane.{Lane}
 use Rattle.fish_lanes.specs.declared.work.Work.{Work}
 use Rattle.fish_outside.specs.Told.{Files, StillTold}
 use Rattle.fish_run.proofs.Lists.{pairs_at, pairs_length, pairs_map}
-use Rattle.fish_run.specs.Works.{AreLanesOf, IsLaneOf, IsWorkOf, Pairs}
+use Rattle.fish_run.specs.Works.{AreLanesOf, HadToDo, IsLaneOf, IsWorkOf, Pairs, to_do}
 use Rattle.fish_script.specs.Runnable.{IsRunnable, IsRunnableBlock}
 use Rattle.fish_script.specs.Script.{AreFree, is_control}
 use Rattle.fish_script.specs.declared.script.Block.{Block}
@@ -45,6 +45,11 @@ work_later old new still does.Checkpoint w h = h
 pub works_later : (old new : Option Files) → StillTold old new → (ss : List Statement) (ws : List Work)
     → Pairs (IsWorkOf old) ss ws → Pairs (IsWorkOf new) ss ws
 works_later old new still ss ws h = pairs_map (IsWorkOf old) (IsWorkOf new) (work_later old new still) ss ws h
+
+pub had_later : (old new : Option Files) → StillTold old new → (texts : List (List Statement)) (lanes : List Lane)
+    → Pairs (HadToDo old) texts lanes → Pairs (HadToDo new) texts lanes
+had_later old new still texts lanes h =
+    pairs_map (HadToDo old) (HadToDo new) (λ ss x p. works_later old new still ss (to_do x) p) texts lanes h
 
 pub lanes_later : (old new : Option Files) → StillTold old new → (texts : List (List Statement)) (lanes : List Lane)
     → Pairs (IsLaneOf old) texts lanes → Pairs (IsLaneOf new) texts lanes

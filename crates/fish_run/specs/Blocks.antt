@@ -1,5 +1,6 @@
--- What the blocks of a run tell of the whole log.
-use Rattle.std.specs.Prelude.{ℕ, ◌≡◌, ◌≢◌, ◌<◌, ◌≤◌, ◌+◌, List, [], ◌∷◌, ◌++◌, length, slice_get, Bool, IfSome, Option, Some, None, ⊤}
+-- What a run tells of the whole log, by the rounds of its blocks.
+use Rattle.std.specs.Prelude.{ℕ, ◌≡◌, ◌≢◌, ◌<◌, ◌≤◌, ◌+◌, List, [], ◌∷◌, ◌++◌, length, map, slice_get, Bool, true, false, Option, Some, None, ⊤}
+use Rattle.fish_catalog.specs.Clamps.{clamped}
 use Rattle.fish_catalog.specs.declared.row.CatRow.{CatRow}
 use Rattle.fish_lanes.specs.Blocks.{AreEnded, At, NameMarks, TellsBlock, control_items}
 use Rattle.fish_lanes.specs.Controlling.{IsCommitted}
@@ -21,13 +22,22 @@ use Rattle.fish_run.specs.Faults.{lane_fault}
 use Rattle.fish_run.specs.declared.fault.RunFault.{RunFault}
 use Rattle.fish_whole.specs.Whole.{Whole}
 
--- a block that has run: whether it stood between `lanes` and `end`, where it lies, its lanes with their items, and what was
--- found once they had ended
-pub record Block : Type 0 where
-  pub several : Bool
+-- what ran at once in one table: whether that table was begun for it, since the one before was full; where it lies, its lanes with
+-- their items, and what was found once they had ended
+pub record Round : Type 0 where
+  pub fresh : Bool
   pub span : Span
   pub lanes : List Lane
   pub end : BlockEnd
+
+-- a block that has run: whether it stood between `lanes` and `end`, and its rounds
+pub record Block : Type 0 where
+  pub several : Bool
+  pub rounds : List Round
+
+abbrev pub rounds_of : List Block → List Round
+rounds_of [] = []
+rounds_of (b ∷ blocks) = b.rounds ++ rounds_of blocks
 
 -- ---- definitions
 
@@ -44,50 +54,70 @@ abbrev pub lanes_controls : List Lane → BlockEnd → List Item
 lanes_controls [] end = []
 lanes_controls (x ∷ lanes) end = control_items x end
 
-abbrev pub block_controls : Block → List Item
-block_controls b = lanes_controls b.lanes b.end
+abbrev pub round_controls : Round → List Item
+round_controls b = lanes_controls b.lanes b.end
 
--- the registry behind a block, and behind blocks
-abbrev pub behind_block : Registry → Block → Registry
-behind_block r b = after_all r (block_controls b)
+-- the registry with which a round begins: in a table of its own no index begins or ends past the log
+abbrev pub begun : Bool → ℕ → Registry → Registry
+begun false n r = r
+begun true n r = record r { rows = map (clamped n) r.rows }
 
-abbrev pub behind_blocks : Registry → List Block → Registry
-behind_blocks r [] = r
-behind_blocks r (b ∷ blocks) = behind_blocks (behind_block r b) blocks
+abbrev pub begun_for : Round → Registry → Registry
+begun_for b r = begun b.fresh b.span.from r
+
+-- the registry after a round, and after rounds
+abbrev pub after_round : Registry → Round → Registry
+after_round r b = after_all r (round_controls b)
+
+abbrev pub after_rounds : Registry → List Round → Registry
+after_rounds r [] = r
+after_rounds r (b ∷ rounds) = after_rounds (after_round (begun_for b r) b) rounds
 
 -- ---- a full log
 
--- an item of some block was refused by this claim
-abbrev pub IsFullOf : List Block → ℕ → ℕ → ℕ → Type 0
-IsFullOf blocks line lines end = (b : Block) × Among b blocks × IsFullIn b.lanes line lines end
+-- an item of some round was refused by this claim
+abbrev pub IsFullOf : List Round → ℕ → ℕ → ℕ → Type 0
+IsFullOf rounds line lines end = (b : Round) × Among b rounds × IsFullIn b.lanes line lines end
 
--- what found the log full, if anything did, is a claim that an item of these blocks tells of; and something did where an item tells so
-pub record HasFoundFull (blocks : List Block) (full : Option Shut) : Type 0 where
-  pub told : (c : Shut) → full ≡ Some c → IsFullOf blocks c.line c.lines c.end
-  pub some : (line lines end : ℕ) → IsFullOf blocks line lines end → (c : Shut) × (full ≡ Some c)
+-- what found the table full, if anything did, is a claim that an item of these rounds tells of; and something did where an item tells so
+pub record HasFoundFull (rounds : List Round) (full : Option Shut) : Type 0 where
+  pub told : (c : Shut) → full ≡ Some c → IsFullOf rounds c.line c.lines c.end
+  pub some : (line lines end : ℕ) → IsFullOf rounds line lines end → (c : Shut) × (full ≡ Some c)
 
--- so it is of what had found it full before a block, and the earlier blocks
-abbrev pub IsFullSince : List Block → Block → Type 0
-IsFullSince earlier b = HasFoundFull earlier b.span.full
+-- of the rounds before one those in its table
+abbrev pub in_table : Bool → List Round → List Round
+in_table false before = before
+in_table true before = []
 
--- so it is of each of these blocks, behind those
-abbrev pub AreFullSince : List Block → List Block → Type 0
-AreFullSince earlier [] = ⊤
-AreFullSince earlier (b ∷ blocks) = IsFullSince earlier b × AreFullSince (earlier ++ b ∷ []) blocks
+-- the rounds in the last table, where those before them in the first one are these
+abbrev pub last_table : List Round → List Round → List Round
+last_table before [] = before
+last_table before (b ∷ rounds) = last_table (in_table b.fresh before ++ b ∷ []) rounds
 
--- ---- what blocks tell
+-- no table was begun for one of these rounds
+abbrev pub AreInOne : List Round → Type 0
+AreInOne [] = ⊤
+AreInOne (b ∷ rounds) = (b.fresh ≡ false) × AreInOne rounds
 
--- what a block of one lane tells besides, where the log has so many numbers before it, the rows are these, and this claim had found the
+-- what had found the table full before each of these rounds, the ones before it in that table tell
+abbrev pub AreFullSince : List Round → List Round → Type 0
+AreFullSince before [] = ⊤
+AreFullSince before (b ∷ rounds) = HasFoundFull (in_table b.fresh before) b.span.full
+    × AreFullSince (in_table b.fresh before ++ b ∷ []) rounds
+
+-- ---- what rounds tell
+
+-- what a round of one lane tells besides, where the log has so many numbers before it, the rows are these, and this claim had found the
 -- log full, if any: its items name no open number, and no lane for which a registration waits; and where one statement is all of the
--- block, its range is all that was asked for of that log, and planned by the rows; or its boundary is the log's end
+-- round, its range is all that was asked for of that log, and planned by the rows; or its boundary is the log's end
 pub record TellsOneLane (rows : List CatRow) (full : Option Shut) (from : ℕ) (x : Lane) : Type 0 where
   pub none : AllOf NamesNone x.items
   pub whole : (w : Work) → x.works ≡ w ∷ [] → AllOf (TellsWhole rows full from w) (answers x.items)
 
--- what a block tells that begins where the log has so many numbers and the registry is this, even one in which a lane stopped at a fault:
+-- what a round tells that begins where the log has so many numbers and the registry is this, even one in which a lane stopped at a fault:
 -- its lanes' items are so of the log, and those of its first lane of the definitions; where a statement has no item, neither have those
--- behind it; and of the items of a lane that a full log refused all name one claim, that of before the block if there was one
-pub record TellsPart (w : Whole) (from : ℕ) (r : Registry) (b : Block) : Type 0 where
+-- behind it; and of the items of a lane that a full log refused all name one claim, that of before the round if there was one
+pub record TellsPart (w : Whole) (from : ℕ) (r : Registry) (b : Round) : Type 0 where
   pub begins : b.span.from ≡ from
   pub ends : b.end.to ≡ b.span.to
   pub rises : b.span.from ≤ b.span.to
@@ -102,58 +132,67 @@ pub record TellsPart (w : Whole) (from : ℕ) (r : Registry) (b : Block) : Type 
 
 -- what one tells in which a lane did: by the definitions behind it, which are those that its first lane's items tell unless it was that
 -- lane, pieces by an index lie where the index is complete, and no number is read one by one that was known to be so
-pub record TellsCut (w : Whole) (from : ℕ) (r : Registry) (b : Block) : Type 0 where
+pub record TellsCut (w : Whole) (from : ℕ) (r : Registry) (b : Round) : Type 0 where
   pub part : TellsPart w from r b
   pub behind : Registry
   pub last : b.span.last ≡ behind.version
   pub plans : LanesSayPlans (RowsAre w) r behind.rows from b.lanes
-  pub behind_is : (x : Lane) → slice_get b.lanes 0 ≡ Some x → x.fault ≡ cause.None → behind ≡ behind_block r b
+  pub behind_is : (x : Lane) → slice_get b.lanes 0 ≡ Some x → x.fault ≡ cause.None → behind ≡ after_round r b
 
 -- what one tells in which none did: every statement has its item; the definitions at each version are those that its first lane's items
 -- tell, with the boundary that was found behind them; and the same of plans, by these definitions
-pub record TellsOne (w : Whole) (from : ℕ) (r : Registry) (b : Block) : Type 0 where
+pub record TellsOne (w : Whole) (from : ℕ) (r : Registry) (b : Round) : Type 0 where
   pub part : TellsPart w from r b
   pub whole : At (λ i x. x.fault ≡ cause.None) b.lanes
-  pub registers : AreSo b.span.from (b.span.to + 16) r (block_controls b)
-  pub definitions : HasEach w r (block_controls b)
-  pub last : b.span.last ≡ (behind_block r b).version
-  pub plans : LanesSayPlans (RowsAre w) r (behind_block r b).rows from b.lanes
+  pub registers : AreSo b.span.from (b.span.to + 16) r (round_controls b)
+  pub definitions : HasEach w r (round_controls b)
+  pub last : b.span.last ≡ (after_round r b).version
+  pub plans : LanesSayPlans (RowsAre w) r (after_round r b).rows from b.lanes
 
--- what blocks tell: each begins where the one in front of it ended, with the definitions that it left; the last one ends here
-abbrev pub TellsBlocks : Whole → ℕ → Registry → List Block → ℕ → Type 0
-TellsBlocks w from r [] end = from ≡ end
-TellsBlocks w from r (b ∷ blocks) end = TellsOne w from r b × TellsBlocks w b.span.to (behind_block r b) blocks end
+-- what rounds tell: each begins where the one before it ended, with the definitions that it left; the last one ends here
+abbrev pub TellsRounds : Whole → ℕ → Registry → List Round → ℕ → Type 0
+TellsRounds w from r [] end = from ≡ end
+TellsRounds w from r (b ∷ rounds) end =
+    TellsOne w from (begun_for b r) b × TellsRounds w b.span.to (after_round (begun_for b r) b) rounds end
 
--- what a block tells that a lane's fault cut, and with which the log ends
-abbrev pub TellsRest : Whole → ℕ → Registry → Option Block → ℕ → Type 0
+-- what a round tells that a lane's fault cut, and with which the log ends
+abbrev pub TellsRest : Whole → ℕ → Registry → Option Round → ℕ → Type 0
 TellsRest w from r None end = from ≡ end
-TellsRest w from r (Some b) end = TellsCut w from r b × (b.span.to ≡ end)
+TellsRest w from r (Some b) end = TellsCut w from (begun_for b r) b × (b.span.to ≡ end)
 
--- what all blocks of a run tell, from the number on at which the table begins, with these rows, and where no claim had found the log full
-pub record TellsRun (w : Whole) (first : ℕ) (rows : List CatRow) (blocks : List Block) (cut : Option Block) (end : ℕ) : Type 0 where
+-- what rounds tell, and after them the one that was cut
+pub record TellsFirst (w : Whole) (from : ℕ) (r : Registry) (rounds : List Round) (cut : Option Round) (end : ℕ) : Type 0 where
   pub to : ℕ
-  pub whole : TellsBlocks w first (first_registry rows) blocks to
-  pub rest : TellsRest w to (behind_blocks (first_registry rows) blocks) cut end
-  pub fulls : AreFullSince [] blocks
-  pub rest_full : IfSome cut (IsFullSince blocks)
+  pub whole : TellsRounds w from r rounds to
+  pub rest : TellsRest w to (after_rounds r rounds) cut end
+
+-- the rounds, and the one after them that was cut
+abbrev pub with_cut : List Round → Option Round → List Round
+with_cut rounds None = rounds
+with_cut rounds (Some b) = rounds ++ b ∷ []
+
+-- what all rounds of a run tell, from the number on at which the first table begins, with these rows, and where no claim had found it full
+pub record TellsRun (w : Whole) (first : ℕ) (rows : List CatRow) (rounds : List Round) (cut : Option Round) (end : ℕ) : Type 0 where
+  pub tells : TellsFirst w first (first_registry rows) rounds cut end
+  pub fulls : AreFullSince [] (with_cut rounds cut)
 
 -- ---- refusals of a full log
 
--- the blocks, and the one behind them that was cut
-abbrev pub with_cut : List Block → Option Block → List Block
-with_cut blocks None = blocks
-with_cut blocks (Some b) = blocks ++ b ∷ []
+-- the rounds in the table that is left, where it may be a new one
+abbrev pub left_table : Bool → List Round → List Round → Option Round → List Round
+left_table fresh before rounds None = in_table fresh (last_table before rounds)
+left_table fresh before rounds (Some b) = last_table before (rounds ++ b ∷ [])
 
--- all such items name the log's end, and those with the same line have the same lines
-pub record FullsAgree (blocks : List Block) (end : ℕ) : Type 0 where
-  pub ends : (line lines e : ℕ) → IsFullOf blocks line lines e → e ≡ end
-  pub same : (line a b e f : ℕ) → IsFullOf blocks line a e → IsFullOf blocks line b f → a ≡ b
+-- all such items name the table's end, and those with the same line have the same lines
+pub record FullsAgree (rounds : List Round) (end : ℕ) : Type 0 where
+  pub ends : (line lines e : ℕ) → IsFullOf rounds line lines e → e ≡ end
+  pub same : (line a b e f : ℕ) → IsFullOf rounds line a e → IsFullOf rounds line b f → a ≡ b
 
 -- ---- checkpoints
 
--- no checkpoint that an item of these blocks tells has more entries than so many
-abbrev pub AreAcknowledged : ℕ → List Block → Type 0
-AreAcknowledged count blocks = (b : Block) → Among b blocks → AllOf (IsCommitted count) (first_items b.lanes)
+-- no checkpoint that an item of these rounds tells has more entries than so many
+abbrev pub AreAcknowledged : ℕ → List Round → Type 0
+AreAcknowledged count rounds = (b : Round) → Among b rounds → AllOf (IsCommitted count) (first_items b.lanes)
 
 -- ---- faults
 
@@ -169,5 +208,5 @@ pub record IsFirstFault (lanes : List Lane) (why : RunFault) : Type 0 where
 -- ---- marks
 
 -- all refusals by a full log name marks
-abbrev pub AreMarked : View → List Block → Type 0
-AreMarked u blocks = (b : Block) → Among b blocks → NameMarks u b.lanes
+abbrev pub AreMarked : View → List Round → Type 0
+AreMarked u rounds = (b : Round) → Among b rounds → NameMarks u b.lanes

@@ -1,8 +1,13 @@
 pub mod Blocks
 pub mod Faults
+pub mod Going
 pub mod Ran
 pub mod Reading
 pub mod Reports
+pub mod Rolls
+pub mod Rounds
+pub mod Running
 pub mod Runs
+pub mod Saying
 pub mod Steps
 pub mod Works

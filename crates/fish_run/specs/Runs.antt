@@ -1,10 +1,12 @@
 -- What a run of a script asks for and leaves between two blocks.
-use Rattle.std.specs.Prelude.{ℕ, ◌≡◌, List, None, Option, Some, slice_get}
+use Rattle.std.specs.Prelude.{ℕ, ◌≡◌, ◌+◌, ◌^◌, List, None, Option, Some, slice_get}
 use Rattle.fish_lanes.specs.Controlling.{CanControl}
 use Rattle.fish_lanes.specs.Ending.{HasEnd}
 use Rattle.fish_lanes.specs.Registering.{KnowsRegistry, registry_of}
 use Rattle.fish_rule.specs.LoadSteps.{IsAlone}
 use Rattle.fish_rule.specs.Passes.{IsPassOf, view}
+use Rattle.fish_rule.specs.Start.{table_lines}
+use Rattle.fish_rule.specs.declared.table.Log.{Log}
 use Rattle.fish_scan.specs.Colder.{IsBelow}
 use Rattle.fish_script.specs.Runnable.{AreRunnable}
 use Rattle.fish_script.specs.declared.script.Statement.{Statement}
@@ -17,10 +19,16 @@ use Rattle.fish_whole.specs.Whole.{Whole}
 abbrev pub AllRunnable : List (List Statement) → Type 0
 AllRunnable texts = (i : ℕ) (ss : List Statement) → slice_get texts i ≡ Some ss → AreRunnable ss
 
+-- the table has the buckets of its shape, and as many lines as a table of that shape has which begins there
+pub record IsTable (log : Log) : Type 0 where
+  pub buckets : log.key.buckets ≡ 2 ^ log.shape.bucket_bits
+  pub end : log.key.end ≡ log.key.line + table_lines log.shape.pages log.key.number log.key.line
+
 -- the control pass may close the log
 pub record CanClose (s : Store) : Type 0 where
   pub of : IsPassOf s.log s.pass
   pub alone : IsAlone (view s.pass)
+  pub table : IsTable s.log
 
 -- it may run a block behind so many numbers, and a checkpoint may follow
 pub record CanGoOn {D : Type 0} (images : D → List ℕ → Type 0) (disk : D) (s : Store) (from : ℕ) : Type 0 where
@@ -30,6 +38,7 @@ pub record CanGoOn {D : Type 0} (images : D → List ℕ → Type 0) (disk : D) 
   pub end : HasEnd (view s.pass) from
   pub known : KnowsRegistry (view s.pass) (registry_of (view s.pass) s.registrar)
   pub settled : s.registrar.waiting ≡ None
+  pub table : IsTable s.log
 
 -- the store was just opened: it may go on where its table begins, whose definitions were not changed, and no claim had found the log full
 pub record IsNewStore {D : Type 0} (images : D → List ℕ → Type 0) (disk : D) (s : Store) : Type 0 where

@@ -1,7 +1,6 @@
 -- What the steps of a run leave. Private clauses speak of it.
-use Rattle.std.specs.Prelude.{ℕ, ◌≡◌, ◌≢◌, ◌⊎◌, ◌||◌, ◌<◌, ◌≤◌, List, [], ◌∷◌, Bool, Option, Some, None, Result, Ok, Err, IfSome, length}
-use Rattle.std.specs.Prelude.{slice_get}
-use Rattle.fish_catalog.specs.declared.row.CatRow.{CatRow}
+use Rattle.std.specs.Prelude.{ℕ, ◌≡◌, ◌≢◌, ◌⊎◌, ◌<◌, ◌≤◌, List, [], ◌∷◌, ◌++◌, Bool, false, Option, Some, None}
+use Rattle.std.specs.Prelude.{Result, Ok, Err, IfSome, length, slice_get}
 use Rattle.fish_lanes.specs.Blocks.{AreEnded, HasRegistered, IsBlockSpan, NameMarks, TellsBlock}
 use Rattle.fish_lanes.specs.Controlling.{IsCommitted}
 use Rattle.fish_lanes.specs.Outcome.{IsFullIn, LanesSayPlans, TellsShutBy}
@@ -13,6 +12,7 @@ use Rattle.fish_lanes.specs.Spans.{Span}
 use Rattle.fish_lanes.specs.declared.block.BlockEnd.{BlockEnd}
 use Rattle.fish_lanes.specs.declared.lane.Lane.{Lane}
 use Rattle.fish_lanes.specs.declared.work.LaneFault.TheVariants as cause
+use Rattle.fish_outside.specs.Causes.{Rose}
 use Rattle.fish_outside.specs.Told.{Files, Gained, GainedPart}
 use Rattle.fish_registry.specs.declared.registrar.Registrar.{Registrar}
 use Rattle.fish_report.specs.ReportText.{report_text}
@@ -21,59 +21,56 @@ use Rattle.fish_report.specs.declared.item.Item.TheVariants as item
 use Rattle.fish_rule.specs.Views.{AllOf}
 use Rattle.fish_rule.specs.declared.view.Shut.{Shut}
 use Rattle.fish_rule.specs.declared.view.View.{View}
-use Rattle.fish_run.specs.Blocks.{AreAcknowledged, AreFullSince, AreMarked, Block, HasFoundFull, IsFirstFault, TellsBlocks, TellsCut}
-use Rattle.fish_run.specs.Blocks.{TellsOne, TellsOneLane, TellsRun, behind_block, behind_blocks, first_items, first_registry, with_cut}
-use Rattle.fish_run.specs.Faults.{IsWriteFault}
-use Rattle.fish_run.specs.Ran.{AreFirst, IsBlockOf, IsNextOf}
-use Rattle.fish_run.specs.Reports.{are_refused, block_items, lanes_refused, report_of}
-use Rattle.fish_run.specs.Works.{AreNumbered, IsLaneOf, Pairs}
+use Rattle.fish_run.specs.Blocks.{AreAcknowledged, AreFullSince, AreInOne, AreMarked, Block, HasFoundFull, IsFirstFault, Round, TellsCut, TellsFirst}
+use Rattle.fish_run.specs.Blocks.{TellsOne, TellsOneLane, TellsRounds, after_round, after_rounds, begun, first_items}
+use Rattle.fish_run.specs.Blocks.{in_table, last_table, left_table, rounds_of, with_cut}
+use Rattle.fish_run.specs.Faults.{IsUndamaged}
+use Rattle.fish_run.specs.Ran.{AreFirst, AreNextOf, IsBlockOf}
+use Rattle.fish_run.specs.Reports.{are_refused, report_of}
+use Rattle.fish_run.specs.Runs.{CanClose}
+use Rattle.fish_run.specs.Works.{Pairs}
 use Rattle.fish_run.specs.declared.fault.RunFault.{RunFault}
 use Rattle.fish_run.specs.declared.fault.RunFault.TheVariants as fault
+use Rattle.fish_run.specs.declared.lasting.Stopped.{Stopped}
 use Rattle.fish_script.specs.declared.script.Block as script
+use Rattle.fish_store.specs.Points.{point_at}
+use Rattle.fish_store.specs.Sound.{IsSoundBehind, Point, Runs}
 use Rattle.fish_whole.specs.Whole.{Whole, Will}
 
--- ---- one block
+-- ---- one round
 
--- a block ran, and no lane stopped at a fault: behind it the log has so many numbers, and the registry is this; what shuts the
--- pass had shut it before, and then still does, or an item of the block tells of it; an item that tells of a claim leaves it shut; and
+-- a round ran, and no lane stopped at a fault: after it the log has so many numbers, and the registry is this; what shuts the
+-- pass had shut it before, and then still does, or an item of the round tells of it; an item that tells of a claim leaves it shut; and
 -- no checkpoint that it tells has more entries than the last commit
-pub record HasRunOne (Past : Whole → Type 0) (count : ℕ) (told : Option Files) (s : script.Block) (full : Option Shut) (u : View)
-    (r t : Registry) (from to : ℕ) (b : Block) : Type 0 where
-  pub is : IsBlockOf told s b
+pub record HasRunOne (Past : Whole → Type 0) (count : ℕ) (fresh : Bool) (full : Option Shut) (u : View) (r t : Registry) (from to : ℕ)
+    (b : Round) : Type 0 where
+  pub fresh_is : b.fresh ≡ fresh
   pub full_is : b.span.full ≡ full
   pub shut : (c : Shut) → u.shut ≡ Some c → (full ≡ Some c) ⊎ IsFullIn b.lanes c.line c.lines c.end
   pub keeps : (c : Shut) → full ≡ Some c → u.shut ≡ Some c
   pub shuts : (line lines end : ℕ) → IsFullIn b.lanes line lines end → WasShut u
+  pub begins : b.span.from ≡ from
   pub ends : b.span.to ≡ to
   pub tells : (past : Whole) → Past past → Will past u (λ w. TellsOne w from r b)
   pub marks : NameMarks u b.lanes
   pub committed : AllOf (IsCommitted count) (first_items b.lanes)
-  pub behind : t ≡ behind_block r b
+  pub after : t ≡ after_round r b
 
--- a block ran, and a lane stopped at a fault
-pub record HasCutOne (Past : Whole → Type 0) (count : ℕ) (told : Option Files) (s : script.Block) (full : Option Shut) (u : View)
-    (r : Registry) (from to : ℕ) (b : Block) : Type 0 where
-  pub is : IsBlockOf told s b
+-- a round ran, and a lane stopped at a fault
+pub record HasCutOne (Past : Whole → Type 0) (count : ℕ) (fresh : Bool) (full : Option Shut) (u : View) (r : Registry) (from to : ℕ)
+    (b : Round) : Type 0 where
+  pub fresh_is : b.fresh ≡ fresh
   pub full_is : b.span.full ≡ full
+  pub begins : b.span.from ≡ from
   pub ends : b.span.to ≡ to
   pub tells : (past : Whole) → Past past → Will past u (λ w. TellsCut w from r b)
   pub marks : NameMarks u b.lanes
   pub committed : AllOf (IsCommitted count) (first_items b.lanes)
 
--- a block ran and its items were written
-pub record WritesOne (Past : Whole → Type 0) (count : ℕ) (told : Option Files) (s : script.Block) (full : Option Shut) (u : View)
-    (r t : Registry) (from to : ℕ) (old new : Option (List ℕ)) (before now : Bool) : Type 0 where
-  pub block : Block
-  pub ran : HasRunOne Past count told s full u r t from to block
-  pub written : Gained old new (report_text (block_items block))
-  pub refused : now ≡ before || lanes_refused block.lanes
-
--- what a block left behind a number of the log: its lanes have the script's statements, and what they tell is so of each
--- whole that the control pass may leave later, behind such a past
-pub record Leaves (Past : Whole → Type 0) (count : ℕ) (told : Option Files) (text : script.Block) (v u : View) (r s : Registrar)
-    (from : ℕ) (lanes : List Lane) (end : BlockEnd) : Type 0 where
-  pub works : Pairs (IsLaneOf told) text.lanes lanes
-  pub numbers : AreNumbered lanes
+-- what a round left after a number of the log: what its lanes tell is so of each whole that the control pass may leave later, behind
+-- such a past
+pub record Leaves (Past : Whole → Type 0) (count : ℕ) (v u : View) (r s : Registrar) (from : ℕ) (lanes : List Lane) (end : BlockEnd)
+    : Type 0 where
   pub some : 0 < length lanes
   pub begins : HasEnd v from
   pub tells : (past : Whole) → Past past → (k : Span) → IsBlockSpan v u end.to k → k.lanes ≡ length lanes
@@ -90,77 +87,146 @@ pub record Leaves (Past : Whole → Type 0) (count : ℕ) (told : Option Files) 
 abbrev pub AreWhole : List Lane → Type 0
 AreWhole lanes = (i : ℕ) (x : Lane) → slice_get lanes i ≡ Some x → x.fault ≡ cause.None
 
--- a fault that is no file's: the first lane that stopped had stopped at it, and nothing was written, or a first part of the items was
-abbrev pub StopsTelling : List Lane → List Item → Option (List ℕ) → Option (List ℕ) → RunFault → Type 0
-StopsTelling lanes items old new why = (why ≢ fault.None) × (why ≢ fault.Input)
-    × ((IsFirstFault lanes why × Gained old new []) ⊎ (AreWhole lanes × IsWriteFault why × GainedPart old new (report_text items)))
+-- ---- rounds
 
--- a fault came before a block ran, in it, or as its items were written
-abbrev pub StopsOne : (Whole → Type 0) → ℕ → Option Files → script.Block → Option Shut → View → Registry → Registry → ℕ → ℕ
-    → Option (List ℕ) → Option (List ℕ) → RunFault → Type 0
-StopsOne Past count told s full u r t from to old new why = (why ≢ fault.None)
-    × (((from ≡ to) × Gained old new [])
-    ⊎ ((why ≢ fault.Input)
-    × (((b : Block) × HasCutOne Past count told s full u r from to b × IsFirstFault b.lanes why × Gained old new [])
-    ⊎ ((b : Block) × HasRunOne Past count told s full u r t from to b × GainedPart old new (report_text (block_items b))))))
+-- no table begins at a lower number after these rounds; where it begins at the same one, it is the same table, and none was begun for one
+-- of them nor after them
+pub record IsTableAfter (v u : View) (rounds : List Round) (fresh : Bool) : Type 0 where
+  pub rises : v.about.number ≤ u.about.number
+  pub same : u.about.number ≡ v.about.number → (u.about ≡ v.about) × AreInOne rounds × (fresh ≡ false)
+
+-- from one moment of the store to a later one these rounds ran, each of them without a fault, where the log had so many numbers and the
+-- registry was this; then it has so many, and this one; and perhaps a new table was begun since
+pub record HasRounds
+    {D : Type 0}
+    (content : D → Option (List ℕ))
+    (images : D → List ℕ → Type 0)
+    (since : D → ℕ → List ℕ → Type 0)
+    (moment : D → ℕ)
+    (p q : Point D) (from : ℕ) (r : Registry) (rounds : List Round) (fresh : Bool) (to : ℕ) (t : Registry) : Type 0 where
+  pub runs : Runs content images since moment p q (λ w. TellsRounds w from r rounds to)
+  pub after : t ≡ begun fresh to (after_rounds r rounds)
+  pub committed : AreAcknowledged q.flusher.count rounds
+  pub fulls : (before : List Round) → HasFoundFull before p.view.shut → AreFullSince before rounds
+  pub full : (before : List Round) → HasFoundFull before p.view.shut → HasFoundFull (in_table fresh (last_table before rounds)) q.view.shut
+  pub marks : (before : List Round) → AreMarked p.view before → AreMarked q.view (in_table fresh (last_table before rounds))
+  pub shape : q.shape ≡ p.shape
+  pub table : IsTableAfter p.view q.view rounds fresh
+
+-- the same, and perhaps one more ran, which was cut; after them the log has so many numbers
+pub record HasRunFirst
+    {D : Type 0}
+    (content : D → Option (List ℕ))
+    (images : D → List ℕ → Type 0)
+    (since : D → ℕ → List ℕ → Type 0)
+    (moment : D → ℕ)
+    (p q : Point D) (from : ℕ) (r : Registry) (rounds : List Round) (fresh : Bool) (cut : Option Round) (end : ℕ) : Type 0 where
+  pub runs : Runs content images since moment p q (λ w. TellsFirst w from r rounds cut end)
+  pub committed : AreAcknowledged q.flusher.count (with_cut rounds cut)
+  pub fulls : (before : List Round) → HasFoundFull before p.view.shut → AreFullSince before (with_cut rounds cut)
+  pub marks : (before : List Round) → AreMarked p.view before → AreMarked q.view (left_table fresh before rounds cut)
+  pub ends : HasEnd q.view end
+  pub shape : q.shape ≡ p.shape
+  pub table : IsTableAfter p.view q.view (with_cut rounds cut) fresh
+
+-- ---- why a run stops
+
+-- counts of faults that didn't fall, of the host, the output and the disk
+pub record Counts : Type 0 where
+  pub host : ℕ
+  pub out : ℕ
+  pub disk : ℕ
+
+abbrev pub AreLater : Counts → Counts → Type 0
+AreLater a b = (a.host ≤ b.host) × ((a.out ≤ b.out) × (a.disk ≤ b.disk))
+
+-- where the run stopped at one of them, its count rose
+pub record IsCausedBy (a b : Counts) (why : RunFault) : Type 0 where
+  pub input : why ≡ fault.Input → Rose a.host b.host
+  pub output : why ≡ fault.Output → Rose a.out b.out
+  pub disk : why ≡ fault.Disk → Rose a.disk b.disk
+
+-- a fault stopped rounds of a block, before a next one or in it, when the store was at a moment: it is there still, and may be closed,
+-- unless memory ran out for its table
+pub record StopsRounds
+    {D : Type 0}
+    (content : D → Option (List ℕ))
+    (images : D → List ℕ → Type 0)
+    (since : D → ℕ → List ℕ → Type 0)
+    (moment : D → ℕ)
+    (p : Point D) (disk : D) (from : ℕ) (r : Registry) (rounds : List Round) (cut : Option Round) (s : Stopped) : Type 0 where
+  pub named : s.why ≢ fault.None
+  pub at : Point D
+  pub disk_is : at.disk ≡ disk
+  pub store : IfSome s.store (λ x. (at ≡ point_at disk x) × CanClose x)
+  pub lost : s.store ≡ None → s.why ≡ fault.Memory
+  pub fresh : Bool
+  pub end : ℕ
+  pub cut_by : IfSome cut (λ b. IsFirstFault b.lanes s.why)
+  pub ran : HasRunFirst content images since moment p at from r rounds fresh cut end
+  pub whole : (past : Whole) → IsSoundBehind content images p (content disk) past → IsUndamaged s.why
 
 -- ---- blocks
 
--- these blocks ran, each of them without a fault, from a number on, with these rows
-pub record HasRunBlocks (Past : Whole → Type 0) (count first : ℕ) (rows : List CatRow) (told : Option Files) (text : List script.Block)
-    (u : View) (r : Registry) (to : ℕ) (blocks : List Block) : Type 0 where
-  pub are : Pairs (IsBlockOf told) text blocks
-  pub tells : (past : Whole) → Past past → Will past u (λ w. TellsBlocks w first (first_registry rows) blocks to)
-  pub marks : AreMarked u blocks
-  pub committed : AreAcknowledged count blocks
-  pub behind : r ≡ behind_blocks (first_registry rows) blocks
-  pub fulls : AreFullSince [] blocks
-
--- they were written; what shuts the pass is a claim that one of their items tells of
-pub record WritesBlocks (Past : Whole → Type 0) (count first : ℕ) (rows : List CatRow) (begin : Item) (told : Option Files)
-    (text : List script.Block) (u : View) (r : Registry) (to : ℕ) (old new : Option (List ℕ)) (refused : Bool) : Type 0 where
+-- these blocks ran, each of them without a fault, and were written
+pub record WritesBlocks
+    {D : Type 0}
+    (content : D → Option (List ℕ))
+    (images : D → List ℕ → Type 0)
+    (since : D → ℕ → List ℕ → Type 0)
+    (moment : D → ℕ)
+    (p q : Point D) (from : ℕ) (r : Registry) (begin : Item) (told : Option Files) (text : List script.Block) (to : ℕ) (t : Registry)
+    (old new : Option (List ℕ)) (refused : Bool) : Type 0 where
   pub blocks : List Block
-  pub ran : HasRunBlocks Past count first rows told text u r to blocks
-  pub full : HasFoundFull blocks u.shut
+  pub are : Pairs (IsBlockOf told) text blocks
+  pub ran : HasRounds content images since moment p q from r (rounds_of blocks) false to t
   pub written : Gained old new (report_text (report_of begin blocks))
   pub refused_is : refused ≡ are_refused blocks
 
--- the first blocks of a script ran, and perhaps one more, which was cut; behind them the log has so many numbers
-pub record HasRunFirst (Past : Whole → Type 0) (count first : ℕ) (rows : List CatRow) (told : Option Files) (text : List script.Block)
-    (u : View) (blocks : List Block) (cut : Option Block) (end : ℕ) : Type 0 where
-  pub are : AreFirst told text blocks
-  pub cut_is : IfSome cut (IsNextOf told text (length blocks))
-  pub ends : HasEnd u end
-  pub tells : (past : Whole) → Past past → Will past u (λ w. TellsRun w first rows blocks cut end)
-  pub marks : AreMarked u (with_cut blocks cut)
-  pub committed : AreAcknowledged count (with_cut blocks cut)
-
 -- all blocks ran, and their items were written
-pub record RunsAll (Past : Whole → Type 0) (count first : ℕ) (rows : List CatRow) (begin : Item) (told : Option Files)
-    (text : List script.Block) (u : View) (old new : Option (List ℕ)) (refused : Bool) (end : ℕ) : Type 0 where
+pub record RunsAll
+    {D : Type 0}
+    (content : D → Option (List ℕ))
+    (images : D → List ℕ → Type 0)
+    (since : D → ℕ → List ℕ → Type 0)
+    (moment : D → ℕ)
+    (p q : Point D) (from : ℕ) (r : Registry) (begin : Item) (told : Option Files) (text : List script.Block)
+    (old new : Option (List ℕ)) (refused : Bool) (end : ℕ) : Type 0 where
   pub blocks : List Block
   pub all : Pairs (IsBlockOf told) text blocks
-  pub ran : HasRunFirst Past count first rows told text u blocks None end
+  pub ran : HasRunFirst content images since moment p q from r (rounds_of blocks) false None end
   pub written : Gained old new (report_text (report_of begin blocks))
   pub refused_is : refused ≡ are_refused blocks
 
 -- a fault stopped them
-pub record RunsSome (Past : Whole → Type 0) (count first : ℕ) (rows : List CatRow) (begin : Item) (told : Option Files)
-    (text : List script.Block) (u : View) (old new : Option (List ℕ)) (why : RunFault) : Type 0 where
-  pub named : why ≢ fault.None
+pub record RunsSome
+    {D : Type 0}
+    (content : D → Option (List ℕ))
+    (images : D → List ℕ → Type 0)
+    (since : D → ℕ → List ℕ → Type 0)
+    (moment : D → ℕ)
+    (p : Point D) (disk : D) (from : ℕ) (r : Registry) (begin : Item) (told : Option Files) (text : List script.Block)
+    (old new : Option (List ℕ)) (s : Stopped) : Type 0 where
   pub blocks : List Block
-  pub cut : Option Block
-  pub cut_by : IfSome cut (λ b. IsFirstFault b.lanes why)
-  pub end : ℕ
-  pub ran : HasRunFirst Past count first rows told text u blocks cut end
+  pub part : List Round
+  pub cut : Option Round
+  pub are : AreFirst told text blocks
+  pub next : AreNextOf told text (length blocks) (with_cut part cut)
+  pub stops : StopsRounds content images since moment p disk from r (rounds_of blocks ++ part) cut s
   pub written : GainedPart old new (report_text (report_of begin blocks))
-  pub input : why ≡ fault.Input → (cut ≡ None) × Gained old new (report_text (report_of begin blocks))
+  pub input : s.why ≡ fault.Input → (with_cut part cut ≡ []) × Gained old new (report_text (report_of begin blocks))
 
 -- all blocks ran, and all of the log was committed
-pub record CommitsAll (Past : Whole → Type 0) (count first : ℕ) (rows : List CatRow) (begin : Item) (told : Option Files)
-    (text : List script.Block) (u : View) (old new : Option (List ℕ)) (refused : Bool) (end : ℕ) : Type 0 where
-  pub runs : RunsAll Past count first rows begin told text u old new refused end
-  pub committed : HasEnd u count
+pub record CommitsAll
+    {D : Type 0}
+    (content : D → Option (List ℕ))
+    (images : D → List ℕ → Type 0)
+    (since : D → ℕ → List ℕ → Type 0)
+    (moment : D → ℕ)
+    (p q : Point D) (from : ℕ) (r : Registry) (begin : Item) (told : Option Files) (text : List script.Block)
+    (old new : Option (List ℕ)) (refused : Bool) (end : ℕ) : Type 0 where
+  pub runs : RunsAll content images since moment p q from r begin told text old new refused end
+  pub committed : HasEnd q.view q.flusher.count
 
 -- ---- the end
 

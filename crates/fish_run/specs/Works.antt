@@ -1,11 +1,12 @@
 -- The lanes of a block as a script's statements have them, over files that are told.
-use Rattle.std.specs.Prelude.{ℕ, ◌≡◌, ◌+◌, List, [], ◌∷◌, take, Option, Some, IfSome, slice_get}
+use Rattle.std.specs.Prelude.{ℕ, ◌≡◌, ◌+◌, List, [], ◌∷◌, ◌++◌, take, Option, Some, IfSome, slice_get}
 use Rattle.fish_lang.specs.Definition.{definition_of}
 use Rattle.fish_lang.specs.declared.definition.Def.{Def}
 use Rattle.fish_lanes.specs.Blocks.{IsNewLane}
 use Rattle.fish_lanes.specs.declared.lane.Lane.{Lane}
 use Rattle.fish_lanes.specs.declared.work.Work.{Work}
 use Rattle.fish_lanes.specs.declared.work.Work.TheVariants as work
+use Rattle.fish_lines.specs.declared.resuming.Begin.TheVariants.{Start}
 use Rattle.fish_outside.specs.Told.{Files}
 use Rattle.fish_scan.specs.declared.ask.Ask.{Ask}
 use Rattle.fish_scan.specs.declared.ask.How.{How}
@@ -47,14 +48,22 @@ IsWorkOf told (does.Register name def) w =
     (other : Def) × (w ≡ work.Register name other) × (definition_of other ≡ definition_of def)
 IsWorkOf told (does.Deregister name) w = w ≡ work.Deregister name
 IsWorkOf told (does.Ingest form header file) w =
-    (bytes : List ℕ) × (w ≡ work.Ingest form header file bytes) × IfSome told (λ files. IsFileOf files file bytes)
+    (bytes : List ℕ) × (w ≡ work.Ingest form (Start header) file bytes) × IfSome told (λ files. IsFileOf files file bytes)
 IsWorkOf told (does.Scan name value from to way) w = w ≡ work.Scan (ask_of name value from to way)
 IsWorkOf told (does.Explain name value from to way) w = w ≡ work.Explain (ask_of name value from to way)
 IsWorkOf told does.Checkpoint w = w ≡ work.Checkpoint
 
+-- what a lane was to do: what it did, and what it hands back
+abbrev pub to_do : Lane → List Work
+to_do x = x.works ++ x.left
+
 -- a lane has these statements
 abbrev pub IsLaneOf : Option Files → List Statement → Lane → Type 0
 IsLaneOf told ss x = Pairs (IsWorkOf told) ss x.works
+
+-- or had them to do
+abbrev pub HadToDo : Option Files → List Statement → Lane → Type 0
+HadToDo told ss x = Pairs (IsWorkOf told) ss (to_do x)
 
 -- lanes have the numbers from 1 on
 abbrev pub AreNumbered : List Lane → Type 0

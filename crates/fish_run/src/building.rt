@@ -13,6 +13,7 @@ ghost use Rattle.fish_script.specs.Runnable.{AreRunnable, IsRunnable};
 use crate::file::read_file;
 use fish_lanes::{Lane, Work, Works};
 use fish_lang::{Def, parse_def, print_def};
+use fish_lines::Begin;
 use fish_outside::{FeedRefusal, Host};
 use fish_scan::{Ask, How};
 use fish_script::{By, Statement, Statements};
@@ -126,7 +127,7 @@ fn work_of<H: Host>(alloc: Global, host: &mut H, statement: &Statement) -> Resul
             let file = read_file(alloc, host, file, LONGEST_READ)?;
             Ok(Work::Ingest {
                 form: *form,
-                header: *header,
+                begin: Begin::Start { header: *header },
                 name,
                 file,
             })

@@ -4,7 +4,10 @@
 mod building;
 mod fault;
 mod file;
+mod lasting;
+mod rounds;
 mod running;
+mod saying;
 mod telling;
 
 pub use fault::RunFault;

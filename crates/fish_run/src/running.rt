@@ -1,40 +1,36 @@
 //! A run: the blocks of a script are run over an open store, one after the other, and the log is committed and closed.
 
 ghost use Rattle.std.specs.Prelude.{◌≡◌, ◌≢◌, ◌≤◌, ◌⊎◌, ◌||◌, ℕ, List, Err, IfErr, IfOk, IsErrOf, IsSome};
-ghost use Rattle.std.specs.Prelude.{MatchResult, None, OnOk, Some, false};
+ghost use Rattle.std.specs.Prelude.{IfSome, None, OnErr, OnOk, Some, false, true};
 ghost use Rattle.fish_catalog.specs.declared.commit.Commit.{Commit};
 ghost use Rattle.fish_catalog.specs.declared.entry.Entry.{Entry};
-ghost use Rattle.fish_lanes.specs.Blocks.{At};
-ghost use Rattle.fish_lanes.specs.Ending.{HasEnd};
-ghost use Rattle.fish_lanes.specs.Outcome.{Stops};
-ghost use Rattle.fish_lanes.specs.Registering.{registry_of};
 ghost use Rattle.fish_outside.specs.Causes.{Rose};
-ghost use Rattle.fish_outside.specs.Told.{Gained, StillTold};
+ghost use Rattle.fish_outside.specs.Told.{Gained, GainedPart, StillTold};
 ghost use Rattle.fish_recover.specs.Stores.{IsOpened};
 ghost use Rattle.fish_report.specs.ReportText.{report_text};
+ghost use Rattle.fish_report.specs.Writing.{HasWriteCause};
+ghost use Rattle.fish_rule.specs.ClosedLog.{IsClosed};
 ghost use Rattle.fish_rule.specs.Passes.{view};
 ghost use Rattle.fish_rule.specs.declared.close.Remains.{Remains};
-ghost use Rattle.fish_run.specs.Faults.{HasDiskCause, HasRunCause, IsCommitFault, IsUndamaged, WritesCause};
+ghost use Rattle.fish_run.specs.Faults.{IsUndamaged};
 ghost use Rattle.fish_run.specs.Ran.{IsLost, IsStopped, IsWhole};
-ghost use Rattle.fish_run.specs.Reading.{HasReadCause};
-ghost use Rattle.fish_run.specs.Reports.{first_item, lanes_items, lanes_refused};
-ghost use Rattle.fish_run.specs.Runs.{Behind, CanClose, CanGoOn, IsNewStore};
-ghost use Rattle.fish_run.specs.Steps.{AreWhole, CommitsAll, Finishes, Leaves, RunsAll, RunsSome, StopsOne};
-ghost use Rattle.fish_run.specs.Steps.{StopsTelling};
-ghost use Rattle.fish_run.specs.Steps.{WritesOne};
+ghost use Rattle.fish_run.specs.Reports.{first_item, said_items, said_refused};
+ghost use Rattle.fish_run.specs.Running.{EndsOne, EndsRun, StopsOne, StopsRun, counts_of};
+ghost use Rattle.fish_run.specs.Runs.{CanClose, CanGoOn, IsNewStore};
+ghost use Rattle.fish_run.specs.Steps.{AreLater, Finishes, IsCausedBy};
 ghost use Rattle.fish_script.specs.Runnable.{CanRun, IsRunnableBlock};
-ghost use Rattle.fish_store.specs.Points.{point_at};
-ghost use Rattle.fish_store.specs.Sound.{GoesOnHere};
-ghost use Rattle.fish_whole.specs.Whole.{Later};
 
 use crate::building::lanes_of;
 use crate::fault::RunFault;
-use crate::telling::{fault_of, has_refusal, write_block, write_opened};
+use crate::lasting::{Stopped, commit};
+use crate::rounds::{Ended, run_rounds};
+use crate::saying::Said;
+use crate::telling::{has_refusal, write_block, write_opened};
 use fish_disk::Disk;
-use fish_lanes::{BlockEnd, Gate, Lane, run_block};
-use fish_outside::{FeedRefusal, Host, Sink};
+use fish_lanes::{BlockEnd, Gate};
+use fish_outside::{Host, Sink};
 use fish_recover::Opened;
-use fish_report::{Item, write_items};
+use fish_report::{Item, WriteRefusal, write_items};
 use fish_rule::{Remains, close_log};
 use fish_script::Block;
 use fish_store::Store;
@@ -51,25 +47,26 @@ pub struct Ran {
     pub remains: Option<Remains>,
 }
 
-/// The lanes of a block that has run, and what stands behind it.
+/// A store after the blocks of a run, and how many entries its log has.
 #[derive(Drop)]
-struct Done {
-    lanes: Vec<Lane>,
-    end: BlockEnd,
+struct Lasts {
+    store: Store,
+    count: u32,
 }
 
 /// Runs the blocks of a script, one after the other, over a store that was opened, and writes what they tell as each
 /// ends.
 ///
 /// The script's statements have to be such as can be run, as those of every script that was read are. A fault stops
-/// the run behind its block. Where none came, the log is committed behind the last block; it is closed in any case.
+/// the run after its block. Where none came, the log is committed after the last block; it is closed in any case.
 /// The gate is told where each lane of a block is.
 ///
-/// What was written is the text of the blocks' items: all of it where no fault came, all of it in front of the block
-/// whose file couldn't be read, and else a first part. Where the disk's content is told in the end, these items are
-/// true of a whole log: it begins with that for which the disk stood as the store was opened, and ends with what is
-/// left. Then a crash leaves all of it behind a run without a fault, and else a part that has all that a checkpoint
-/// told.
+/// What was written is the text of the blocks' items: all of it where no fault came, all of it before the block whose
+/// file couldn't be read, and else a first part. Where the disk's content is told in the end, these items are true of a
+/// whole log: it begins with that for which the disk stood as the store was opened, and ends with what is left. A block
+/// runs in one round, and in one more for each table that its lanes found full, as long as something of it can be
+/// committed: then a new table is begun, and the file that was cut goes on there. A crash leaves all of the log after a
+/// run without a fault, and else a part that has all that a checkpoint told.
 pub fn run_script<R: Threads + Sync, H: Host, D: Disk + Send, W: Sink, G: Gate + Sync>(
     rt: &R,
     alloc: Global,
@@ -101,12 +98,12 @@ pub fn run_script<R: Threads + Sync, H: Host, D: Disk + Send, W: Sink, G: Gate +
 {
     let made = opened.made;
     let count = opened.count;
-    let mut store = Store::of_opened(opened);
+    let store = Store::of_opened(opened);
     let mut refused = false;
-    let ended = run_store(
+    match run_store(
         rt,
         alloc,
-        &mut store,
+        store,
         made,
         count,
         script,
@@ -115,7 +112,40 @@ pub fn run_script<R: Threads + Sync, H: Host, D: Disk + Send, W: Sink, G: Gate +
         out,
         &mut refused,
         gate,
-    );
+    ) {
+        Ok(Lasts { store, count }) => close(alloc, store, out, Ok(count), refused),
+        Err(Stopped { store, why }) => match store {
+            Some(store) => close(alloc, store, out, Err(why), refused),
+            None => Ran {
+                fault: why,
+                refused,
+                remains: None,
+            },
+        },
+    }
+}
+
+/// Closes the log, and writes how long it is where no fault came before.
+fn close<W: Sink>(
+    alloc: Global,
+    store: Store,
+    out: &mut W,
+    ended: Result<u32, RunFault>,
+    refused: bool,
+) -> Ran
+    requires close { CanClose store }
+    requires named { IfErr ended (λ why. why ≢ RunFault.None) }
+    ensures refused { result.refused ≡ refused }
+    ensures shown { IfSome result.remains (λ r. IsClosed (view store.pass) r
+        × Finishes ended result.fault (W.written out.old) (W.written out.new)) }
+    ensures lost { result.remains ≡ None → (result.fault ≡ RunFault.Memory) × (out.new ≡ out.old) }
+    ensures input { result.fault ≡ RunFault.Input → ended ≡ Err RunFault.Input }
+    ensures output { result.fault ≡ RunFault.Output → (ended ≡ Err RunFault.Output)
+        ⊎ Rose (W.faults out.old) (W.faults out.new) }
+    ensures disk { result.fault ≡ RunFault.Disk → ended ≡ Err RunFault.Disk }
+    ensures damaged { (n : ℕ) → result.fault ≡ RunFault.Damaged n → ended ≡ Err (RunFault.Damaged n) }
+    ensures later { W.faults out.old ≤ W.faults out.new }
+{
     let Store {
         log,
         pass,
@@ -147,8 +177,8 @@ pub fn run_script<R: Threads + Sync, H: Host, D: Disk + Send, W: Sink, G: Gate +
 fn finish<W: Sink>(alloc: Global, out: &mut W, ended: Result<u32, RunFault>) -> RunFault
     ensures ends { Finishes ended result (W.written out.old) (W.written out.new) }
     ensures input { result ≡ RunFault.Input → ended ≡ Err RunFault.Input }
-    ensures output { result ≡ RunFault.Output → (ended ≡ Err RunFault.Output) ⊎ Rose (W.faults out.old) (W.faults
-        out.new) }
+    ensures output { result ≡ RunFault.Output → (ended ≡ Err RunFault.Output)
+        ⊎ Rose (W.faults out.old) (W.faults out.new) }
     ensures disk { result ≡ RunFault.Disk → ended ≡ Err RunFault.Disk }
     ensures damaged { (n : ℕ) → result ≡ RunFault.Damaged n → ended ≡ Err (RunFault.Damaged n) }
     ensures later { W.faults out.old ≤ W.faults out.new }
@@ -162,12 +192,11 @@ fn finish<W: Sink>(alloc: Global, out: &mut W, ended: Result<u32, RunFault>) -> 
     }
 }
 
-/// Runs blocks over a store that was just opened, and commits the log where no fault came. How many entries the log
-/// then has.
+/// Runs blocks over a store that was just opened, and commits the log where no fault came.
 fn run_store<R: Threads + Sync, H: Host, D: Disk + Send, W: Sink, G: Gate + Sync>(
     rt: &R,
     alloc: Global,
-    store: &mut Store,
+    store: Store,
     made: bool,
     count: u32,
     script: &[Block],
@@ -176,61 +205,40 @@ fn run_store<R: Threads + Sync, H: Host, D: Disk + Send, W: Sink, G: Gate + Sync
     out: &mut W,
     refused: &mut bool,
     gate: &G,
-) -> Result<u32, RunFault>
-    requires new { IsNewStore D.images disk.old store.old }
-    requires count { count ≡ store.old.log.key.number }
+) -> Result<Lasts, Stopped>
+    requires new { IsNewStore D.images disk.old store }
+    requires count { count ≡ store.log.key.number }
     requires script { CanRun script.now }
     requires accepted { refused.old ≡ false }
-    ensures log { store.new.log ≡ store.old.log }
-    ensures close { CanClose store.new }
-    ensures later { Later (view store.old.pass) (view store.new.pass) }
-    ensures goes { GoesOnHere D.content D.images D.since D.moment (point_at disk.old store.old) (point_at disk.new
-        store.new) }
-    ensures all { IfOk result (CommitsAll (Behind D.content D.images disk.old store.old disk.new)
-        store.new.file.flusher.count count store.old.registrar.catalog (first_item made count) (H.files host.new)
-        script.now (view store.new.pass) (W.written out.old) (W.written out.new) refused.new) }
-    ensures some { IfErr result (RunsSome (Behind D.content D.images disk.old store.old disk.new)
-        store.new.file.flusher.count count store.old.registrar.catalog (first_item made count) (H.files host.new)
-        script.now (view store.new.pass) (W.written out.old) (W.written out.new)) }
+    ensures all { IfOk result (EndsRun D.content D.images D.since D.moment disk.old disk.new store count
+        (first_item made count) (H.files host.new) script.now (W.written out.old) (W.written out.new) refused.new
+        true) }
+    ensures some { IfErr result (StopsRun D.content D.images D.since D.moment disk.old disk.new store count
+        (first_item made count) (H.files host.new) script.now (W.written out.old) (W.written out.new)) }
     ensures told { StillTold (H.files host.old) (H.files host.new) }
-    ensures cause { HasRunCause (H.faults host.old) (H.faults host.new) (W.faults out.old) (W.faults out.new) result }
-    ensures disk { HasDiskCause (Behind D.content D.images disk.old store.old disk.new) (D.faults disk.old) (D.faults
-        disk.new) result }
+    ensures later { AreLater (counts_of H.faults W.faults D.faults host.old out.old disk.old)
+        (counts_of H.faults W.faults D.faults host.new out.new disk.new) }
+    ensures cause { IfErr result (λ s. IsCausedBy (counts_of H.faults W.faults D.faults host.old out.old disk.old)
+        (counts_of H.faults W.faults D.faults host.new out.new disk.new) s.why) }
 {
-    let end = run_blocks(
+    let Lasts { store, count } = run_blocks(
         rt, alloc, store, made, count, script, host, disk, out, refused, gate,
     )?;
-    commit(alloc, store, disk)?;
-    Ok(end)
+    let mut store = store;
+    match commit(alloc, &mut store, disk) {
+        Ok(()) => Ok(Lasts { store, count }),
+        Err(why) => Err(Stopped {
+            store: Some(store),
+            why,
+        }),
+    }
 }
 
-/// Commits all of the log.
-fn commit<D: Disk>(alloc: Global, store: &mut Store, disk: &mut D) -> Result<(), RunFault>
-    requires go { (from : ℕ) × CanGoOn D.images disk.old store.old from }
-    ensures log { store.new.log ≡ store.old.log }
-    ensures close { CanClose store.new }
-    ensures later { Later (view store.old.pass) (view store.new.pass) }
-    ensures goes { GoesOnHere D.content D.images D.since D.moment (point_at disk.old store.old) (point_at disk.new
-        store.new) }
-    ensures end { (to : ℕ) → HasEnd (view store.old.pass) to → HasEnd (view store.new.pass) to }
-    ensures all { OnOk result (HasEnd (view store.new.pass) store.new.file.flusher.count) }
-
-    ensures named { IfErr result IsCommitFault }
-    ensures rises { D.faults disk.old ≤ D.faults disk.new }
-    ensures fault { IsErrOf result RunFault.Disk → Rose (D.faults disk.old) (D.faults disk.new) }
-{
-    store
-        .file
-        .checkpoint(alloc, &store.log, &mut store.pass, &store.registrar, disk)?;
-    Ok(())
-}
-
-/// Runs blocks over a store that was just opened, one after the other, up to the first fault. How many entries the
-/// log then has.
+/// Runs blocks over a store that was just opened, one after the other, up to the first fault.
 fn run_blocks<R: Threads + Sync, H: Host, D: Disk + Send, W: Sink, G: Gate + Sync>(
     rt: &R,
     alloc: Global,
-    store: &mut Store,
+    store: Store,
     made: bool,
     count: u32,
     script: &[Block],
@@ -239,147 +247,112 @@ fn run_blocks<R: Threads + Sync, H: Host, D: Disk + Send, W: Sink, G: Gate + Syn
     out: &mut W,
     refused: &mut bool,
     gate: &G,
-) -> Result<u32, RunFault>
-    requires new { IsNewStore D.images disk.old store.old }
-    requires count { count ≡ store.old.log.key.number }
+) -> Result<Lasts, Stopped>
+    requires new { IsNewStore D.images disk.old store }
+    requires count { count ≡ store.log.key.number }
     requires script { CanRun script.now }
     requires accepted { refused.old ≡ false }
-    ensures log { store.new.log ≡ store.old.log }
-    ensures close { CanClose store.new }
-    ensures later { Later (view store.old.pass) (view store.new.pass) }
-    ensures goes { GoesOnHere D.content D.images D.since D.moment (point_at disk.old store.old) (point_at disk.new
-        store.new) }
-    ensures go { IfOk result (CanGoOn D.images disk.new store.new) }
-    ensures all { IfOk result (RunsAll (Behind D.content D.images disk.old store.old disk.new)
-        store.new.file.flusher.count count store.old.registrar.catalog (first_item made count) (H.files host.new)
-        script.now (view store.new.pass) (W.written out.old) (W.written out.new) refused.new) }
-    ensures some { IfErr result (RunsSome (Behind D.content D.images disk.old store.old disk.new)
-        store.new.file.flusher.count count store.old.registrar.catalog (first_item made count) (H.files host.new)
-        script.now (view store.new.pass) (W.written out.old) (W.written out.new)) }
+    ensures all { IfOk result (EndsRun D.content D.images D.since D.moment disk.old disk.new store count
+        (first_item made count) (H.files host.new) script.now (W.written out.old) (W.written out.new) refused.new
+        false) }
+    ensures some { IfErr result (StopsRun D.content D.images D.since D.moment disk.old disk.new store count
+        (first_item made count) (H.files host.new) script.now (W.written out.old) (W.written out.new)) }
     ensures told { StillTold (H.files host.old) (H.files host.new) }
-    ensures cause { HasRunCause (H.faults host.old) (H.faults host.new) (W.faults out.old) (W.faults out.new) result }
-    ensures disk { HasDiskCause (Behind D.content D.images disk.old store.old disk.new) (D.faults disk.old) (D.faults
-        disk.new) result }
+    ensures later { AreLater (counts_of H.faults W.faults D.faults host.old out.old disk.old)
+        (counts_of H.faults W.faults D.faults host.new out.new disk.new) }
+    ensures cause { IfErr result (λ s. IsCausedBy (counts_of H.faults W.faults D.faults host.old out.old disk.old)
+        (counts_of H.faults W.faults D.faults host.new out.new disk.new) s.why) }
 {
-    write_opened(alloc, out, made, count)?;
-    let mut from = count;
-    for block in script {
-        run_one(
-            rt, alloc, store, block, &mut from, host, disk, out, refused, gate,
-        )?;
+    match write_opened(alloc, out, made, count) {
+        Ok(()) => {}
+        Err(refusal) => return Err(stopped(store, RunFault::from(refusal))),
     }
-    Ok(from)
+    let mut lasts = Lasts { store, count };
+    for block in script {
+        lasts = run_one(rt, alloc, lasts, block, host, disk, out, refused, gate)?;
+    }
+    Ok(lasts)
 }
 
-/// Runs one block behind a log of so many entries, and writes what it tells.
+/// A store with which the run stops.
+fn stopped(store: Store, why: RunFault) -> Stopped
+    ensures store { result.store ≡ Some store }
+    ensures why { result.why ≡ why }
+{
+    Stopped {
+        store: Some(store),
+        why,
+    }
+}
+
+/// Runs one block, and writes what it tells.
 fn run_one<R: Threads + Sync, H: Host, D: Disk + Send, W: Sink, G: Gate + Sync>(
     rt: &R,
     alloc: Global,
-    store: &mut Store,
+    lasts: Lasts,
     block: &Block,
-    from: &mut u32,
     host: &mut H,
     disk: &mut D,
     out: &mut W,
     refused: &mut bool,
     gate: &G,
-) -> Result<(), RunFault>
-    requires go { CanGoOn D.images disk.old store.old from.old }
+) -> Result<Lasts, Stopped>
+    requires go { CanGoOn D.images disk.old lasts.store lasts.count }
     requires block { IsRunnableBlock block.now }
-    ensures log { store.new.log ≡ store.old.log }
-    ensures close { CanClose store.new }
-    ensures end { HasEnd (view store.new.pass) from.new }
-    ensures later { Later (view store.old.pass) (view store.new.pass) }
-    ensures goes { GoesOnHere D.content D.images D.since D.moment (point_at disk.old store.old) (point_at disk.new
-        store.new) }
-    ensures go { OnOk result (CanGoOn D.images disk.new store.new from.new) }
-    ensures writes { OnOk result (WritesOne (Behind D.content D.images disk.old store.old disk.new)
-        store.new.file.flusher.count (H.files host.new) block.now (view store.old.pass).shut (view store.new.pass)
-        (registry_of (view store.old.pass) store.old.registrar) (registry_of (view store.new.pass)
-        store.new.registrar) from.old from.new (W.written out.old) (W.written out.new) refused.old refused.new) }
-    ensures stops { IfErr result (StopsOne (Behind D.content D.images disk.old store.old disk.new)
-        store.new.file.flusher.count (H.files host.new) block.now (view store.old.pass).shut (view store.new.pass)
-        (registry_of (view store.old.pass) store.old.registrar) (registry_of (view store.new.pass)
-        store.new.registrar) from.old from.new (W.written out.old) (W.written out.new)) }
+    ensures ended { IfOk result (EndsOne D.content D.images D.since D.moment disk.old disk.new lasts (H.files host.new)
+        block.now (W.written out.old) (W.written out.new) refused.old refused.new) }
+    ensures stopped { IfErr result (StopsOne D.content D.images D.since D.moment disk.old disk.new lasts
+        (H.files host.new) block.now (W.written out.old) (W.written out.new)) }
     ensures told { StillTold (H.files host.old) (H.files host.new) }
-    ensures cause { HasRunCause (H.faults host.old) (H.faults host.new) (W.faults out.old) (W.faults out.new) result }
-    ensures disk { HasDiskCause (Behind D.content D.images disk.old store.old disk.new) (D.faults disk.old) (D.faults
-        disk.new) result }
+    ensures later { AreLater (counts_of H.faults W.faults D.faults host.old out.old disk.old)
+        (counts_of H.faults W.faults D.faults host.new out.new disk.new) }
+    ensures cause { IfErr result (λ s. IsCausedBy (counts_of H.faults W.faults D.faults host.old out.old disk.old)
+        (counts_of H.faults W.faults D.faults host.new out.new disk.new) s.why) }
 {
-    let done = do_block(rt, alloc, store, block, *from, host, disk, gate)?;
-    let told = tell_lanes(
+    let Lasts { store, count: from } = lasts;
+    let lanes = match lanes_of(alloc, host, block.lanes.as_slice()) {
+        Ok(lanes) => lanes,
+        Err(refusal) => return Err(stopped(store, RunFault::from(refusal))),
+    };
+    let Ended { store, said, end } = run_rounds(rt, alloc, store, from, lanes, disk, gate)?;
+    let told = tell(
         alloc,
         out,
         block.several,
-        *from,
-        done.end,
-        done.lanes.as_slice(),
+        from,
+        end,
+        said.as_slice(),
         refused,
     );
-    *from = done.end.to;
-    drop(done);
-    told
+    drop(said);
+    match told {
+        Ok(()) => Ok(Lasts {
+            store,
+            count: end.to,
+        }),
+        Err(refusal) => Err(stopped(store, RunFault::from(refusal))),
+    }
 }
 
-/// Runs one block behind a log of so many entries.
-fn do_block<R: Threads + Sync, H: Host, D: Disk + Send, G: Gate + Sync>(
-    rt: &R,
-    alloc: Global,
-    store: &mut Store,
-    block: &Block,
-    from: u32,
-    host: &mut H,
-    disk: &mut D,
-    gate: &G,
-) -> Result<Done, FeedRefusal>
-    requires go { CanGoOn D.images disk.old store.old from }
-    requires block { IsRunnableBlock block.now }
-    ensures log { store.new.log ≡ store.old.log }
-    ensures close { CanClose store.new }
-    ensures end { MatchResult result (λ done. HasEnd (view store.new.pass) done.end.to) (λ _. HasEnd (view
-        store.new.pass) from) }
-    ensures later { Later (view store.old.pass) (view store.new.pass) }
-    ensures goes { GoesOnHere D.content D.images D.since D.moment (point_at disk.old store.old) (point_at disk.new
-        store.new) }
-    ensures go { IfOk result (λ done. AreWhole done.lanes.items → CanGoOn D.images disk.new store.new done.end.to) }
-    ensures leaves { IfOk result (λ done. Leaves (Behind D.content D.images disk.old store.old disk.new)
-        store.new.file.flusher.count (H.files host.new) block.now (view store.old.pass) (view store.new.pass)
-        store.old.registrar store.new.registrar from done.lanes.items done.end) }
-    ensures stops { IfOk result (λ done. At (λ i x. Stops (Behind D.content D.images disk.old store.old disk.new)
-        (D.faults disk.old) (D.faults disk.new) x) done.lanes.items) }
-    ensures told { StillTold (H.files host.old) (H.files host.new) }
-    ensures cause { HasReadCause (H.faults host.old) (H.faults host.new) result }
-    ensures rises { D.faults disk.old ≤ D.faults disk.new }
-{
-    let mut lanes = lanes_of(alloc, host, block.lanes.as_slice())?;
-    let end = run_block(rt, alloc, store, disk, lanes.as_mut_slice(), gate);
-    Ok(Done { lanes, end })
-}
-
-/// Writes what the lanes of a block tell, unless one of them stopped at a fault.
-fn tell_lanes<W: Sink>(
+/// Writes what the lanes of a block said.
+fn tell<W: Sink>(
     alloc: Global,
     out: &mut W,
     several: bool,
     from: u32,
     end: BlockEnd,
-    lanes: &[Lane],
+    said: &[Said],
     refused: &mut bool,
-) -> Result<(), RunFault>
-    ensures whole { OnOk result (AreWhole lanes.now) }
+) -> Result<(), WriteRefusal>
     ensures written { OnOk result (Gained (W.written out.old) (W.written out.new)
-        (report_text (lanes_items several from end lanes.now))) }
-    ensures refused { OnOk result (refused.new ≡ refused.old || lanes_refused lanes.now) }
-    ensures stops { IfErr result (StopsTelling lanes.now (lanes_items several from end lanes.now) (W.written out.old)
-        (W.written out.new)) }
-    ensures cause { WritesCause (W.faults out.old) (W.faults out.new) result }
+        (report_text (said_items several from end said.now))) }
+    ensures part { OnErr result (GainedPart (W.written out.old) (W.written out.new)
+        (report_text (said_items several from end said.now))) }
+    ensures refused { OnOk result (refused.new ≡ refused.old || said_refused said.now) }
+    ensures cause { HasWriteCause (W.faults out.old) (W.faults out.new) result }
 {
-    let fault = fault_of(lanes);
-    if fault != RunFault::None {
-        return Err(fault);
-    }
-    write_block(alloc, out, several, from, end, lanes)?;
-    if has_refusal(lanes) {
+    write_block(alloc, out, several, from, end, said)?;
+    if has_refusal(said) {
         *refused = true;
     }
     Ok(())

@@ -6,11 +6,12 @@ ghost use Rattle.fish_outside.specs.Told.{Gained, GainedPart};
 ghost use Rattle.fish_report.specs.ReportText.{is_refusal, report_text};
 ghost use Rattle.fish_report.specs.Writing.{HasWriteCause};
 ghost use Rattle.fish_run.specs.Blocks.{IsFirstFault};
-ghost use Rattle.fish_run.specs.Reports.{block_foot, block_head, first_item, lane_foot, lane_head, lane_items, lanes_items};
-ghost use Rattle.fish_run.specs.Reports.{lanes_refused};
+ghost use Rattle.fish_run.specs.Reports.{block_foot, block_head, first_item, lane_foot, lane_head, lane_items, said_items};
+ghost use Rattle.fish_run.specs.Reports.{said_refused};
 ghost use Rattle.fish_run.specs.Steps.{AreWhole};
 
 use crate::fault::RunFault;
+use crate::saying::Said;
 use fish_lanes::{BlockEnd, Lane, LaneFault};
 use fish_outside::Sink;
 use fish_report::{Item, WriteRefusal, write_items};
@@ -30,17 +31,17 @@ pub(crate) fn fault_of(lanes: &[Lane]) -> RunFault
 }
 
 /// Whether a statement of a lane was refused.
-pub(crate) fn has_refusal(lanes: &[Lane]) -> bool
-    ensures { result ≡ lanes_refused lanes.now }
+pub(crate) fn has_refusal(said: &[Said]) -> bool
+    ensures { result ≡ said_refused said.now }
 {
-    lanes.iter().any(|lane| is_refused(lane))
+    said.iter().any(|lane| is_refused(lane))
 }
 
 /// Whether one of this lane was.
-fn is_refused(lane: &Lane) -> bool
-    ensures { result ≡ list_any is_refusal lane.now.items }
+fn is_refused(said: &Said) -> bool
+    ensures { result ≡ list_any is_refusal said.now.items }
 {
-    lane.items.as_slice().iter().any(|item| item.is_refusal())
+    said.items.as_slice().iter().any(|item| item.is_refusal())
 }
 
 /// Writes that the store was made, or how many entries it had as it was opened.
@@ -70,16 +71,16 @@ pub(crate) fn write_block<W: Sink>(
     several: bool,
     from: u32,
     end: BlockEnd,
-    lanes: &[Lane],
+    said: &[Said],
 ) -> Result<(), WriteRefusal>
     ensures written { OnOk result (Gained (W.written out.old) (W.written out.new)
-        (report_text (lanes_items several from end lanes.now))) }
+        (report_text (said_items several from end said.now))) }
     ensures part { OnErr result (GainedPart (W.written out.old) (W.written out.new)
-        (report_text (lanes_items several from end lanes.now))) }
+        (report_text (said_items several from end said.now))) }
     ensures cause { HasWriteCause (W.faults out.old) (W.faults out.new) result }
 {
     write_head(alloc, out, several, from, end)?;
-    write_lanes(alloc, out, several, end, lanes)?;
+    write_lanes(alloc, out, several, end, said)?;
     write_foot(alloc, out, several)
 }
 
@@ -122,15 +123,15 @@ fn write_lanes<W: Sink>(
     out: &mut W,
     several: bool,
     end: BlockEnd,
-    lanes: &[Lane],
+    said: &[Said],
 ) -> Result<(), WriteRefusal>
     ensures written { OnOk result (Gained (W.written out.old) (W.written out.new)
-        (report_text (flat_map (lane_items several end) lanes.now))) }
+        (report_text (flat_map (lane_items several end) said.now))) }
     ensures part { OnErr result (GainedPart (W.written out.old) (W.written out.new)
-        (report_text (flat_map (lane_items several end) lanes.now))) }
+        (report_text (flat_map (lane_items several end) said.now))) }
     ensures cause { HasWriteCause (W.faults out.old) (W.faults out.new) result }
 {
-    for lane in lanes {
+    for lane in said {
         write_lane(alloc, out, several, end, lane)?;
     }
     Ok(())
@@ -142,7 +143,7 @@ fn write_lane<W: Sink>(
     out: &mut W,
     several: bool,
     end: BlockEnd,
-    lane: &Lane,
+    lane: &Said,
 ) -> Result<(), WriteRefusal>
     ensures written { OnOk result (Gained (W.written out.old) (W.written out.new)
         (report_text (lane_items several end lane.now))) }

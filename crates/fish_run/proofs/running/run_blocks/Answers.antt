@@ -1,44 +1,48 @@
 -- The first block and the next ones.
-use Rattle.std.proofs.Common.{◌∙◌, ◌+◌, arith, refl, sym, take, ap, subst, ◌≡◌, List, ◌∷◌, ◌++◌, []}
+use Rattle.std.proofs.Common.{◌∙◌, ◌+◌, arith, sym, take, ap, subst, ◌≡◌, List, ◌∷◌, ◌++◌, [], Err}
 use Rattle.std.proofs.lemmas.List.{take_more}
 use Rattle.fish_lanes.specs.Ending.{HasEnd}
-use Rattle.fish_lanes.specs.Registering.{registry_of}
+use Rattle.fish_lanes.specs.Registering.{Registry, registry_of}
 use Rattle.fish_rule.specs.Passes.{view}
-use Rattle.fish_run.proofs.Ends.{runs_all, stops_first, stops_some, writes_first, writes_more}
-use Rattle.fish_run.proofs.Faults.{cause_later, disk_later, disk_other, write_named, write_no_disk, write_other, write_well}
-use Rattle.fish_run.proofs.Going.{behind_before, behind_then, close_of, err_known, here_self, new_registry}
+use Rattle.fish_run.proofs.Caused.{caused_since, caused_write}
+use Rattle.fish_run.proofs.Ends.{runs_all, stops_first, stops_more, writes_first, writes_more}
+use Rattle.fish_run.proofs.Faults.{write_named, write_other, write_well}
+use Rattle.fish_run.proofs.Going.{close_of, err_known, new_registry}
 use Rattle.fish_run.proofs.Lists.{get_at}
+use Rattle.fish_run.proofs.One.{first_of, rounds_self, stops_with}
 use Rattle.fish_run.proofs.Works.{still_both, still_self}
-use Rattle.fish_run.specs.Faults.{write_fault}
+use Rattle.fish_run.specs.Blocks.{Round, first_registry}
+use Rattle.fish_run.specs.Faults.{IsUndamaged, write_fault}
 use Rattle.fish_run.specs.Reports.{first_item}
-use Rattle.fish_run.specs.Runs.{Behind, CanGoOn}
-use Rattle.fish_run.specs.Steps.{RunsSome, WritesBlocks}
+use Rattle.fish_run.specs.Running.{StopsRun, counts_of}
+use Rattle.fish_run.specs.Runs.{CanGoOn}
+use Rattle.fish_run.specs.Steps.{Counts, IsCausedBy, WritesBlocks}
+use Rattle.fish_run.specs.declared.fault.RunFault.{RunFault}
+use Rattle.fish_run.specs.declared.lasting.Stopped.{Stopped}
 use Rattle.fish_script.specs.declared.script.Block.{Block}
-use Rattle.fish_store.proofs.Running.{here_both}
 use Rattle.fish_store.specs.Points.{point_at}
-use Rattle.fish_whole.proofs.Wholes.{later_both, later_self}
-use Rattle.fish_whole.specs.Whole.{Whole}
 use Rattle.fish_run.proofs.running.run_blocks.Goals as goal
 
 pub loop-block-init : goal.loop-block-init
 loop-block-init g c =
     let disk = g.D.Disk in
-    let s = c.args.store.now in
+    let s = c.args.store in
+    let p = point_at c.args.disk.now s in
     let new = c.requires.new in
+    let told = g.H.Host.files c.args.host.now in
+    let begin = first_item c.args.made c.args.count in
+    let first = first_registry s.registrar.catalog in
+    let old = g.W.Sink.written c.args.out.now in
+    let now = g.W.Sink.written c.write_opened.new.out in
     record {
-      log = refl;
       go = subst (CanGoOn disk.images c.args.disk.now s) (sym c.requires.count) new.go;
-      later = later_self (view s.pass);
-      goes = here_self disk.content disk.images disk.since disk.moment (point_at c.args.disk.now s);
-      writes = writes_first c.args.count s.registrar.catalog (first_item c.args.made c.args.count)
-          (Behind disk.content disk.images c.args.disk.now s c.args.disk.now) s.file.flusher.count (g.H.Host.files c.args.host.now)
-          (view s.pass) (registry_of (view s.pass) s.registrar) (g.W.Sink.written c.args.out.now)
-          (g.W.Sink.written c.write_opened.new.out) c.args.refused.now (new_registry disk.images c.args.disk.now s new) new.unshut
-          c.in_ok-write_opened.ensures.written c.requires.accepted;
-      told = still_self (g.H.Host.files c.args.host.now);
-      input = omega arith;
-      output = c.in_ok-write_opened.ensures.cause.later;
-      disk = omega arith;
+      writes = subst (λ (z : Registry). WritesBlocks disk.content disk.images disk.since disk.moment p p c.args.count first begin told []
+          c.args.count z old now c.args.refused.now) (sym (new_registry disk.images c.args.disk.now s new))
+          (writes_first disk.content disk.images disk.since disk.moment c.args.count first begin p told old now c.args.refused.now
+          (rounds_self disk.content disk.images disk.since disk.moment p c.args.count first) c.in-Ok.ensures.written
+          c.requires.accepted);
+      told = still_self told;
+      later = (omega arith, (c.write_opened.ensures.cause.later, omega arith));
     }
 
 pub run_one-requires-clause-block : goal.run_one-requires-clause-block
@@ -52,170 +56,134 @@ loop-block-preserved g c =
     let inv = c.loop-block.invariant in
     let i = c.loop-block.block-index in
     let script = c.args.script.now in
-    let s = c.block-item.result in
-    let first = c.args.store.now in
-    let mid = c.loop-block.store in
-    let last = c.run_one.new.store in
-    let p = point_at c.args.disk.now first in
-    let m = point_at c.loop-block.disk mid in
-    let q = point_at c.run_one.new.disk last in
+    let x = c.block-item.result in
+    let a = c.loop-block.lasts in
+    let b = c.in_ok-lasts.lasts in
+    let one = c.in_ok-lasts.ensures.ended in
+    let p = point_at c.args.disk.now c.args.store in
+    let m = point_at c.loop-block.disk a.store in
+    let q = point_at c.run_one.new.disk b.store in
+    let first = first_registry c.args.store.registrar.catalog in
+    let begin = first_item c.args.made c.args.count in
     let old = g.H.Host.files c.loop-block.host in
     let new = g.H.Host.files c.run_one.new.host in
     let text : List Block = take i script in
-    let next : take (i + 1) script ≡ text ++ s ∷ []
-    = take_more script i s (omega (c.loop-block-test.true, arith)) ∙ ap (λ (z : Block). text ++ z ∷ []) (sym c.block-item.is) in
-    let Past : Whole → Type 0 = Behind disk.content disk.images c.args.disk.now first c.loop-block.disk in
-    let Next : Whole → Type 0 = Behind disk.content disk.images c.args.disk.now first c.run_one.new.disk in
-    let One : Whole → Type 0 = Behind disk.content disk.images c.loop-block.disk mid c.run_one.new.disk in
-    let begin = first_item c.args.made c.args.count in
+    let next : take (i + 1) script ≡ text ++ x ∷ []
+    = take_more script i x (omega (c.loop-block-test.true, arith)) ∙ ap (λ (z : Block). text ++ z ∷ []) (sym c.block-item.is) in
+    let written = g.W.Sink.written in
+    let t = registry_of (view b.store.pass) b.store.registrar in
+    let was = inv.later in
+    let now = c.run_one.ensures.later in
+    let host = was.0 in
+    let host' = now.0 in
+    let out = was.1.0 in
+    let out' = now.1.0 in
+    let fell = was.1.1 in
+    let fell' = now.1.1 in
     record {
-      log = c.run_one.ensures.log ∙ inv.log;
-      go = c.in_ok-run_one.ensures.go;
-      later = later_both (view first.pass) (view mid.pass) (view last.pass) inv.later c.run_one.ensures.later;
-      goes = here_both disk.content disk.images disk.since disk.moment p m q inv.goes c.run_one.ensures.goes;
-      writes = subst (λ (z : List Block). WritesBlocks Next last.file.flusher.count c.args.count first.registrar.catalog begin new z
-          (view last.pass) (registry_of (view last.pass) last.registrar) c.run_one.new.from (g.W.Sink.written c.args.out.now)
-          (g.W.Sink.written c.run_one.new.out) c.run_one.new.refused) (sym next)
-          (writes_more c.args.count first.registrar.catalog begin Past Next One mid.file.flusher.count last.file.flusher.count
-          (behind_before disk.content disk.images disk.since disk.moment p m q c.run_one.ensures.goes)
-          (behind_then disk.content disk.images disk.since disk.moment p m q inv.goes c.run_one.ensures.goes)
-          c.run_one.ensures.goes.rises old new (view mid.pass) (view last.pass) c.run_one.ensures.told c.run_one.ensures.later text s
-          (registry_of (view mid.pass) mid.registrar) (registry_of (view last.pass) last.registrar) c.loop-block.from c.run_one.new.from
-          (g.W.Sink.written c.args.out.now) (g.W.Sink.written c.loop-block.out) (g.W.Sink.written c.run_one.new.out)
-          c.loop-block.refused c.run_one.new.refused inv.writes c.in_ok-run_one.ensures.writes);
+      go = one.go;
+      writes = subst (λ (z : List Block). WritesBlocks disk.content disk.images disk.since disk.moment p q c.args.count first begin new z
+          b.count t (written c.args.out.now) (written c.run_one.new.out) c.run_one.new.refused) (sym next)
+          (writes_more disk.content disk.images disk.since disk.moment c.args.count first begin p m q a.count
+          (registry_of (view a.store.pass) a.store.registrar) old new c.run_one.ensures.told (written c.args.out.now)
+          (written c.loop-block.out) (written c.run_one.new.out) text x b.count t c.loop-block.refused c.run_one.new.refused one.block
+          inv.writes one.is one.ran one.written one.refused);
       told = still_both (g.H.Host.files c.args.host.now) old new inv.told c.run_one.ensures.told;
-      input = omega (inv.input, c.run_one.ensures.cause.input_later, arith);
-      output = omega (inv.output, c.run_one.ensures.cause.output_later, arith);
-      disk = omega (inv.disk, c.run_one.ensures.disk.later, arith);
+      later = (omega arith, (omega arith, omega arith));
     }
 
 -- ---- the first item couldn't be written
 
-pub returns-in_err-write_opened-clause-close : goal.returns-in_err-write_opened-clause-close
-returns-in_err-write_opened-clause-close g c =
-    close_of g.D.Disk.images c.args.disk.now c.args.store.now c.args.store.now.log.key.number c.requires.new.go
-
-pub returns-in_err-write_opened-clause-later : goal.returns-in_err-write_opened-clause-later
-returns-in_err-write_opened-clause-later g c = later_self (view c.args.store.now.pass)
-
-pub returns-in_err-write_opened-clause-goes : goal.returns-in_err-write_opened-clause-goes
-returns-in_err-write_opened-clause-goes g c =
+pub returns-in-Err-clause-some : goal.returns-in-Err-clause-some
+returns-in-Err-clause-some g c =
     let disk = g.D.Disk in
-    here_self disk.content disk.images disk.since disk.moment (point_at c.args.disk.now c.args.store.now)
+    let s = c.args.store in
+    let new = c.requires.new in
+    let p = point_at c.args.disk.now s in
+    let first = first_registry s.registrar.catalog in
+    let from = c.args.count in
+    let e = c.stopped.result in
+    let refusal = c.in-Err.refusal in
+    let why : e.why ≡ write_fault refusal = c.stopped.ensures.why ∙ c.from.ensures in
+    stops_first disk.content disk.images disk.since disk.moment from first (first_item c.args.made from) p c.args.disk.now
+    (g.H.Host.files c.args.host.now) c.args.script.now (g.W.Sink.written c.args.out.now) (g.W.Sink.written c.write_opened.new.out) e
+    (stops_with disk.content disk.images disk.since disk.moment p c.args.disk.now s from from first [] e c.stopped.ensures.store
+    (close_of disk.images c.args.disk.now s s.log.key.number new.go) (λ none. write_named refusal (sym why ∙ none))
+    (subst IsUndamaged (sym why) (write_well refusal))
+    (first_of disk.content disk.images disk.since disk.moment p p from from first first []
+    (rounds_self disk.content disk.images disk.since disk.moment p from first)
+    (subst (HasEnd (view s.pass)) (sym c.requires.count) new.go.end))) (λ input. write_other refusal (sym why ∙ input))
+    c.in-Err.ensures.part
 
-pub returns-in_err-write_opened-clause-some : goal.returns-in_err-write_opened-clause-some
-returns-in_err-write_opened-clause-some g c =
-    let disk = g.D.Disk in
-    let s = c.args.store.now in
-    let why = c.in_err-write_opened.field-0.0 in
-    let old = g.W.Sink.written c.args.out.now in
-    let new = g.W.Sink.written c.write_opened.new.out in
-    let told = g.H.Host.files c.args.host.now in
-    let Past : Whole → Type 0 = Behind disk.content disk.images c.args.disk.now s c.args.disk.now in
-    let begin = first_item c.args.made c.args.count in
-    err_known c.from_residual.result
-    (RunsSome Past s.file.flusher.count c.args.count s.registrar.catalog begin told c.args.script.now (view s.pass) old new)
-    (write_fault why) c.from_residual.ensures.1
-    (stops_first c.args.count s.registrar.catalog begin Past s.file.flusher.count told c.args.script.now (view s.pass) old new
-    (write_fault why) (write_named why) (write_other why) (subst (HasEnd (view s.pass)) (sym c.requires.count) c.requires.new.go.end)
-    c.in_err-write_opened.ensures.part)
+pub returns-in-Err-clause-cause : goal.returns-in-Err-clause-cause
+returns-in-Err-clause-cause g c =
+    let before : Counts = counts_of g.H.Host.faults g.W.Sink.faults g.D.Disk.faults c.args.host.now c.args.out.now c.args.disk.now in
+    let now : Counts = counts_of g.H.Host.faults g.W.Sink.faults g.D.Disk.faults c.args.host.now c.write_opened.new.out
+    c.args.disk.now in
+    let why : c.stopped.result.why ≡ write_fault c.in-Err.refusal = c.stopped.ensures.why ∙ c.from.ensures in
+    subst (λ (z : RunFault). IsCausedBy before now z) (sym why)
+    (caused_write before now c.in-Err.refusal (λ is. c.in-Err.ensures.cause.failed (λ i. Err (is i))))
 
 -- ---- a fault came at a block
 
-pub returns-in_err-run_one-clause-log : goal.returns-in_err-run_one-clause-log
-returns-in_err-run_one-clause-log g c = c.run_one.ensures.log ∙ c.loop-block.invariant.log
-
-pub returns-in_err-run_one-clause-later : goal.returns-in_err-run_one-clause-later
-returns-in_err-run_one-clause-later g c =
-    later_both (view c.args.store.now.pass) (view c.loop-block.store.pass) (view c.run_one.new.store.pass) c.loop-block.invariant.later
-    c.run_one.ensures.later
-
-pub returns-in_err-run_one-clause-goes : goal.returns-in_err-run_one-clause-goes
-returns-in_err-run_one-clause-goes g c =
-    let disk = g.D.Disk in
-    here_both disk.content disk.images disk.since disk.moment (point_at c.args.disk.now c.args.store.now)
-    (point_at c.loop-block.disk c.loop-block.store) (point_at c.run_one.new.disk c.run_one.new.store) c.loop-block.invariant.goes
-    c.run_one.ensures.goes
-
-pub returns-in_err-run_one-clause-some : goal.returns-in_err-run_one-clause-some
-returns-in_err-run_one-clause-some g c =
+pub returns-in_err-lasts-clause-some : goal.returns-in_err-lasts-clause-some
+returns-in_err-lasts-clause-some g c =
     let disk = g.D.Disk in
     let inv = c.loop-block.invariant in
-    let i = c.loop-block.block-index in
-    let first = c.args.store.now in
-    let mid = c.loop-block.store in
-    let last = c.run_one.new.store in
-    let p = point_at c.args.disk.now first in
-    let m = point_at c.loop-block.disk mid in
-    let q = point_at c.run_one.new.disk last in
-    let old = g.W.Sink.written c.args.out.now in
-    let new = g.W.Sink.written c.run_one.new.out in
-    let why = c.in_err-run_one.field-0.0 in
-    let Past : Whole → Type 0 = Behind disk.content disk.images c.args.disk.now first c.loop-block.disk in
-    let Next : Whole → Type 0 = Behind disk.content disk.images c.args.disk.now first c.run_one.new.disk in
-    let One : Whole → Type 0 = Behind disk.content disk.images c.loop-block.disk mid c.run_one.new.disk in
+    let a = c.loop-block.lasts in
+    let p = point_at c.args.disk.now c.args.store in
+    let m = point_at c.loop-block.disk a.store in
+    let first = first_registry c.args.store.registrar.catalog in
     let begin = first_item c.args.made c.args.count in
-    err_known c.from_residual-in_err-run_one.result
-    (RunsSome Next last.file.flusher.count c.args.count first.registrar.catalog begin (g.H.Host.files c.run_one.new.host) c.args.script.now
-    (view last.pass) old new) why c.from_residual-in_err-run_one.ensures.1
-    (stops_some c.args.count first.registrar.catalog begin Past Next One mid.file.flusher.count last.file.flusher.count
-    (behind_before disk.content disk.images disk.since disk.moment p m q c.run_one.ensures.goes)
-    (behind_then disk.content disk.images disk.since disk.moment p m q inv.goes c.run_one.ensures.goes)
-    c.run_one.ensures.goes.rises (g.H.Host.files c.loop-block.host) (g.H.Host.files c.run_one.new.host) (view mid.pass) (view last.pass)
-    c.run_one.ensures.told c.run_one.ensures.later c.args.script.now i c.block-item.result
-    (registry_of (view mid.pass) mid.registrar) (registry_of (view last.pass) last.registrar) c.loop-block.from c.run_one.new.from
-    old (g.W.Sink.written c.loop-block.out) new c.loop-block.refused why (omega (c.loop-block-test.true, arith)) c.block-item.is
-    c.run_one.ensures.end inv.writes c.in_err-run_one.ensures.stops)
+    let old = g.H.Host.files c.loop-block.host in
+    let new = g.H.Host.files c.run_one.new.host in
+    let written = g.W.Sink.written in
+    let e = c.in_err-lasts.field-0.0 in
+    let stop = c.in_err-lasts.ensures.stopped in
+    err_known c.from_residual.result
+    (StopsRun disk.content disk.images disk.since disk.moment c.args.disk.now c.run_one.new.disk c.args.store c.args.count begin new
+    c.args.script.now (written c.args.out.now) (written c.run_one.new.out)) e c.from_residual.ensures.1
+    (stops_more disk.content disk.images disk.since disk.moment c.args.count first begin p m m a.count
+    (registry_of (view a.store.pass) a.store.registrar) old new c.run_one.ensures.told (written c.args.out.now)
+    (written c.loop-block.out) (written c.run_one.new.out) c.args.script.now c.loop-block.block-index c.block-item.result
+    c.loop-block.refused c.run_one.new.disk stop.rounds stop.cut e (omega (c.loop-block-test.true, arith)) c.block-item.is inv.writes
+    stop.stops stop.how)
+
+pub returns-in_err-lasts-clause-told : goal.returns-in_err-lasts-clause-told
+returns-in_err-lasts-clause-told g c =
+    still_both (g.H.Host.files c.args.host.now) (g.H.Host.files c.loop-block.host) (g.H.Host.files c.run_one.new.host)
+    c.loop-block.invariant.told c.run_one.ensures.told
+
+pub returns-in_err-lasts-clause-cause : goal.returns-in_err-lasts-clause-cause
+returns-in_err-lasts-clause-cause g c =
+    let before : Counts = counts_of g.H.Host.faults g.W.Sink.faults g.D.Disk.faults c.args.host.now c.args.out.now c.args.disk.now in
+    let mid : Counts = counts_of g.H.Host.faults g.W.Sink.faults g.D.Disk.faults c.loop-block.host c.loop-block.out
+    c.loop-block.disk in
+    let now : Counts = counts_of g.H.Host.faults g.W.Sink.faults g.D.Disk.faults c.run_one.new.host c.run_one.new.out
+    c.run_one.new.disk in
+    let e = c.in_err-lasts.field-0.0 in
+    err_known c.from_residual.result (λ (s : Stopped). IsCausedBy before now s.why) e c.from_residual.ensures.1
+    (caused_since before mid now e.why c.loop-block.invariant.later c.in_err-lasts.ensures.cause)
 
 -- ---- all blocks ran
-
-pub returns-clause-close : goal.returns-clause-close
-returns-clause-close g c =
-    close_of g.D.Disk.images c.loop-block.disk c.loop-block.store c.loop-block.from c.loop-block.invariant.go
 
 pub returns-clause-all : goal.returns-clause-all
 returns-clause-all g c =
     let disk = g.D.Disk in
-    let first = c.args.store.now in
-    let s = c.loop-block.store in
-    runs_all c.args.count first.registrar.catalog (first_item c.args.made c.args.count)
-    (Behind disk.content disk.images c.args.disk.now first c.loop-block.disk) s.file.flusher.count (g.H.Host.files c.loop-block.host)
-    c.args.script.now c.loop-block.block-index (view s.pass) (registry_of (view s.pass) s.registrar) c.loop-block.from
-    (g.W.Sink.written c.args.out.now) (g.W.Sink.written c.loop-block.out) c.loop-block.refused (omega arith)
-    c.loop-block.invariant.go.end c.loop-block.invariant.writes
-
--- ---- what the disk's count tells
-
-pub returns-in_err-write_opened-clause-disk : goal.returns-in_err-write_opened-clause-disk
-returns-in_err-write_opened-clause-disk g c =
-    let disk = g.D.Disk in
-    let why = c.in_err-write_opened.field-0.0 in
-    disk_other (Behind disk.content disk.images c.args.disk.now c.args.store.now c.args.disk.now) (disk.faults c.args.disk.now)
-    (disk.faults c.args.disk.now) c.from_residual.result (write_fault why) c.from_residual.ensures.1 (write_no_disk why) (write_well why)
-    (omega arith)
-
-pub returns-in_err-run_one-clause-disk : goal.returns-in_err-run_one-clause-disk
-returns-in_err-run_one-clause-disk g c =
-    let disk = g.D.Disk in
     let inv = c.loop-block.invariant in
-    let first = c.args.store.now in
-    let mid = c.loop-block.store in
-    let p = point_at c.args.disk.now first in
-    let m = point_at c.loop-block.disk mid in
-    let q = point_at c.run_one.new.disk c.run_one.new.store in
-    disk_later (Behind disk.content disk.images c.args.disk.now first c.run_one.new.disk) (disk.faults c.args.disk.now)
-    (disk.faults c.run_one.new.disk) (Behind disk.content disk.images c.loop-block.disk mid c.run_one.new.disk)
-    (disk.faults c.loop-block.disk) c.from_residual-in_err-run_one.result c.in_err-run_one.field-0.0
-    (behind_then disk.content disk.images disk.since disk.moment p m q inv.goes c.run_one.ensures.goes) inv.disk
-    c.from_residual-in_err-run_one.ensures.1 c.in_err-run_one.ensures.disk
-
--- ---- and those of the host and the output
-
-pub returns-in_err-run_one-clause-cause : goal.returns-in_err-run_one-clause-cause
-returns-in_err-run_one-clause-cause g c =
-    let host = g.H.Host.faults in
-    let out = g.W.Sink.faults in
-    let inv = c.loop-block.invariant in
-    cause_later (host c.args.host.now) (host c.loop-block.host) (host c.run_one.new.host) (out c.args.out.now) (out c.loop-block.out)
-    (out c.run_one.new.out) c.from_residual-in_err-run_one.result c.in_err-run_one.field-0.0 c.from_residual-in_err-run_one.ensures.1
-    inv.input inv.output c.in_err-run_one.ensures.cause
+    let b = c.loop-block.lasts in
+    let s = b.store in
+    let p = point_at c.args.disk.now c.args.store in
+    let q = point_at c.loop-block.disk s in
+    let first = first_registry c.args.store.registrar.catalog in
+    let t = registry_of (view s.pass) s.registrar in
+    record {
+      close = close_of disk.images c.loop-block.disk s b.count inv.go;
+      go = λ is. inv.go;
+      runs = runs_all disk.content disk.images disk.since disk.moment c.args.count first (first_item c.args.made c.args.count) p q
+          (g.H.Host.files c.loop-block.host) c.args.script.now c.loop-block.block-index b.count t (g.W.Sink.written c.args.out.now)
+          (g.W.Sink.written c.loop-block.out) c.loop-block.refused (omega arith) inv.go.end inv.writes
+          (λ (rounds : List Round) h. first_of disk.content disk.images disk.since disk.moment p q c.args.count b.count first t rounds h
+          inv.go.end);
+      committed = λ is. absurd cc;
+    }

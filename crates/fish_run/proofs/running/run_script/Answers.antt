@@ -1,31 +1,28 @@
 -- The blocks run from the moment at which the store was opened, and the log that is closed is the one of which they tell.
-use Rattle.std.proofs.Common.{◌≡◌, ◌∙◌, ⊎_elim, ap, refl, subst, sym, Err}
-use Rattle.std.proofs.lemmas.Option.{same_Some}
-use Rattle.fish_outside.proofs.CauseLemmas.{Rose_earlier, Rose_later}
-use Rattle.fish_outside.specs.Causes.{Rose}
+use Rattle.std.proofs.Common.{◌≡◌, ◌^◌, ◌∙◌, Bool, Err, Ok, ap, refl, subst, sym}
+use Rattle.fish_rule.specs.ClosedLog.{IsClosed}
+use Rattle.fish_rule.specs.Passes.{view}
+use Rattle.fish_rule.specs.declared.close.Remains.{Remains}
 use Rattle.fish_rule.specs.declared.table.Log.{Log}
-use Rattle.fish_run.proofs.Faults.{not_damaged, well_of}
+use Rattle.fish_run.proofs.Closing.{ends_late, ends_stopped, ends_whole, lost_all, lost_some, well_some}
 use Rattle.fish_run.proofs.Going.{new_store, point_opened}
-use Rattle.fish_run.proofs.Keeping.{ends_lost, ends_stopped, ends_whole, sound_first}
-use Rattle.fish_run.specs.Ran.{IsStopped}
+use Rattle.fish_run.proofs.Shown.{shown_is, shown_some, well_closed, well_ended}
+use Rattle.fish_run.specs.Ran.{IsLost, IsStopped, IsWhole}
+use Rattle.fish_run.specs.Runs.{IsNewStore}
+use Rattle.fish_run.specs.Steps.{Finishes}
 use Rattle.fish_run.specs.declared.fault.RunFault.TheVariants as fault
-use Rattle.fish_store.specs.Opened.{first_past}
 use Rattle.fish_store.specs.Points.{point_at}
 use Rattle.fish_run.proofs.running.run_script.Goals as goal
 
-pub run_store-ended-requires-clause-new : goal.run_store-ended-requires-clause-new
-run_store-ended-requires-clause-new g c κs within =
+pub run_store-requires-clause-new : goal.run_store-requires-clause-new
+run_store-requires-clause-new g c κs within =
     let h = c.requires.opened in
     let e = c.of_opened-store.ensures in
     new_store g.D.Disk.content g.D.Disk.images c.args.disk.now h.0 h.1 c.args.opened h.2 c.of_opened-store.result e.log e.pass e.first
     e.rows e.flusher e.cold
 
-pub run_store-ended-requires-clause-count : goal.run_store-ended-requires-clause-count
-run_store-ended-requires-clause-count g c κs within =
-    let h = c.requires.opened.2 in
-    h.count ∙ sym h.number ∙ sym (ap (λ (z : Log). z.key.number) c.of_opened-store.ensures.log)
+-- ---- all blocks ran
 
--- where threads run, the laws of the disk are asked for at this one
 pub returns-in-Ok-clause-whole : goal.returns-in-Ok-clause-whole
 returns-in-Ok-clause-whole g c none =
     let disk = g.D.Disk in
@@ -33,17 +30,30 @@ returns-in-Ok-clause-whole g c none =
     let o = c.args.opened in
     let e = c.of_opened-store.ensures in
     let s = c.of_opened-store.result in
-    let b = c.run_store-ended in
-    let of = b.ensures.close.of in (
-      c.in-Ok.remains,
-      refl,
-      ends_whole disk.content disk.images disk.since disk.moment laws.as_read c.args.disk.now o (point_at c.args.disk.now s)
-          (point_at b.new.disk b.new.store) (point_opened c.args.disk.now s o e.log e.pass e.rows e.flusher e.cold) b.ensures.goes
-          b.ensures.later s.registrar.catalog e.rows of.stands (of.about ∙ ap (λ (z : Log). z.key) (b.ensures.log ∙ e.log))
-          (g.H.Host.files b.new.host) c.args.script.now c.in-Ok.remains c.in-Ok.ensures.log (g.W.Sink.written c.args.out.now)
-          (g.W.Sink.written b.new.out) (g.W.Sink.written c.finish-fault.new.out) b.new.refused b.result c.finish-fault.result none
-          b.ensures.all b.ensures.some c.finish-fault.ensures.ends,
-    )
+    let b = c.run_store in
+    let first = c.args.disk.now in
+    let told = g.H.Host.files b.new.host in
+    let text = c.args.script.now in
+    let old = g.W.Sink.written c.args.out.now in
+    let mid = g.W.Sink.written b.new.out in
+    let op = c.requires.opened in
+    let new : IsNewStore disk.images first s = new_store disk.content disk.images first op.0 op.1 o op.2 s e.log e.pass e.first e.rows
+    e.flusher e.cold in
+    let l = c.in-Ok.field-0 in
+    let h = c.in-Ok.ensures.all in
+    let k = c.close in
+    let now = g.W.Sink.written k.new.out in
+    shown_some (λ (r : Remains). IsClosed (view l.store.pass) r × Finishes (Ok l.count) k.result.fault mid now)
+    (λ (r : Remains). IsWhole disk.content disk.images disk.since disk.moment first b.new.disk o told text r old now k.result.refused)
+    k.result.remains
+    (λ lost. (let bad : fault.None ≡ fault.Memory = sym none ∙ (k.ensures.lost lost).0 in absurd cc)) k.ensures.shown
+    (λ r f. subst (λ (z : Bool). IsWhole disk.content disk.images disk.since disk.moment first b.new.disk o told text r old now z)
+    (sym k.ensures.refused)
+    (ends_whole disk.content disk.images disk.since disk.moment laws.as_read first o (point_at first s)
+    (point_opened first s o e.log e.pass e.rows e.flusher e.cold) s.registrar.catalog e.rows new.unshut
+    (subst (λ (z : Log). z.key.buckets ≡ 2 ^ z.shape.bucket_bits) e.log new.go.table.buckets)
+    (new.go.can.of.about ∙ ap (λ (z : Log). z.key) e.log) b.new.disk told text old mid
+    now l.store h.close r f.0 b.new.refused l.count k.result.fault none h.runs (h.committed refl) f.1))
 
 pub returns-in-Ok-clause-stopped : goal.returns-in-Ok-clause-stopped
 returns-in-Ok-clause-stopped g c other r is =
@@ -52,73 +62,187 @@ returns-in-Ok-clause-stopped g c other r is =
     let o = c.args.opened in
     let e = c.of_opened-store.ensures in
     let s = c.of_opened-store.result in
-    let b = c.run_store-ended in
-    let of = b.ensures.close.of in
+    let b = c.run_store in
+    let first = c.args.disk.now in
     let told = g.H.Host.files b.new.host in
+    let text = c.args.script.now in
     let old = g.W.Sink.written c.args.out.now in
-    let new = g.W.Sink.written c.finish-fault.new.out in
-    subst (λ z. IsStopped disk.content disk.images disk.since disk.moment c.args.disk.now b.new.disk o told c.args.script.now z old new
-    c.finish-fault.result) (same_Some _ _ is)
-    (ends_stopped disk.content disk.images disk.since disk.moment laws.as_read c.args.disk.now o (point_at c.args.disk.now s)
-    (point_at b.new.disk b.new.store) (point_opened c.args.disk.now s o e.log e.pass e.rows e.flusher e.cold) b.ensures.goes
-    b.ensures.later s.registrar.catalog e.rows of.stands (of.about ∙ ap (λ (z : Log). z.key) (b.ensures.log ∙ e.log)) told
-    c.args.script.now c.in-Ok.remains c.in-Ok.ensures.log old (g.W.Sink.written b.new.out) new b.new.refused b.result
-    c.finish-fault.result other b.ensures.all b.ensures.some c.finish-fault.ensures.ends)
+    let mid = g.W.Sink.written b.new.out in
+    let op = c.requires.opened in
+    let new : IsNewStore disk.images first s = new_store disk.content disk.images first op.0 op.1 o op.2 s e.log e.pass e.first e.rows
+    e.flusher e.cold in
+    let l = c.in-Ok.field-0 in
+    let h = c.in-Ok.ensures.all in
+    let k = c.close in
+    let now = g.W.Sink.written k.new.out in
+    shown_is (λ (r : Remains). IsClosed (view l.store.pass) r × Finishes (Ok l.count) k.result.fault mid now)
+    (λ (r : Remains). IsStopped disk.content disk.images disk.since disk.moment first b.new.disk o told text r old now k.result.fault)
+    k.result.remains r is k.ensures.shown
+    (λ f. ends_late disk.content disk.images disk.since disk.moment laws.as_read first o (point_at first s)
+    (point_opened first s o e.log e.pass e.rows e.flusher e.cold) s.registrar.catalog e.rows new.unshut
+    (subst (λ (z : Log). z.key.buckets ≡ 2 ^ z.shape.bucket_bits) e.log new.go.table.buckets)
+    (new.go.can.of.about ∙ ap (λ (z : Log). z.key) e.log) b.new.disk told text old mid
+    now l.store h.close r f.0 b.new.refused l.count k.result.fault other h.runs (h.committed refl) f.1)
 
-pub returns-in-Ok-clause-disk : goal.returns-in-Ok-clause-disk
-returns-in-Ok-clause-disk g c is = c.run_store-ended.ensures.disk.disk (c.finish-fault.ensures.disk is)
+pub returns-in-Ok-clause-lost : goal.returns-in-Ok-clause-lost
+returns-in-Ok-clause-lost g c none =
+    let disk = g.D.Disk in
+    let laws = g.met.D.Disk g.world.𝓛 g.world.𝓜 g.world.𝓡 ((λ s x. x), (λ x. x), (λ x. x), λ x. x) in
+    let o = c.args.opened in
+    let e = c.of_opened-store.ensures in
+    let s = c.of_opened-store.result in
+    let b = c.run_store in
+    let first = c.args.disk.now in
+    let told = g.H.Host.files b.new.host in
+    let text = c.args.script.now in
+    let old = g.W.Sink.written c.args.out.now in
+    let mid = g.W.Sink.written b.new.out in
+    let op = c.requires.opened in
+    let new : IsNewStore disk.images first s = new_store disk.content disk.images first op.0 op.1 o op.2 s e.log e.pass e.first e.rows
+    e.flusher e.cold in
+    let l = c.in-Ok.field-0 in
+    let h = c.in-Ok.ensures.all in
+    let k = c.close in (
+      (k.ensures.lost none).0,
+      subst (λ (z : _). IsLost disk.content disk.images disk.since disk.moment first b.new.disk o told text old (g.W.Sink.written z))
+          (sym (k.ensures.lost none).1)
+          (lost_all disk.content disk.images disk.since disk.moment laws.as_read first o (point_at first s)
+          (point_opened first s o e.log e.pass e.rows e.flusher e.cold) s.registrar.catalog e.rows new.unshut
+          (subst (λ (z : Log). z.key.buckets ≡ 2 ^ z.shape.bucket_bits) e.log new.go.table.buckets)
+          (new.go.can.of.about ∙ ap (λ (z : Log). z.key) e.log) b.new.disk told text old mid
+          mid l.store b.new.refused l.count h.runs),
+    )
 
 pub returns-in-Ok-clause-damaged : goal.returns-in-Ok-clause-damaged
 returns-in-Ok-clause-damaged g c told =
-    let disk = g.D.Disk in
-    let laws = g.met.D.Disk g.world.𝓛 g.world.𝓜 g.world.𝓡 ((λ s x. x), (λ x. x), (λ x. x), λ x. x) in
-    let h = c.requires.opened in
-    let o = c.args.opened in
-    let e = c.of_opened-store.ensures in
-    let s = c.of_opened-store.result in
-    let b = c.run_store-ended in
-    well_of c.finish-fault.result
-    (λ n is.
-    not_damaged b.result n
-    (b.ensures.disk.whole (first_past h.1 o) (record {
-      sound = sound_first disk.content disk.images disk.since disk.moment laws.as_read c.args.disk.now o
-          (point_at c.args.disk.now s) (point_at b.new.disk b.new.store)
-          (point_opened c.args.disk.now s o e.log e.pass e.rows e.flusher e.cold) b.ensures.goes h.0 h.1 h.2 told;
-      told = told;
-    }))
-    (c.finish-fault.ensures.damaged n is))
+    well_ended c.in-Ok.field-0.count c.close.result.fault c.close.ensures.damaged
 
-pub returns-in-Err-clause-lost : goal.returns-in-Err-clause-lost
-returns-in-Err-clause-lost g c none =
+-- ---- a fault stopped them
+
+pub returns-in-Some-clause-whole : goal.returns-in-Some-clause-whole
+returns-in-Some-clause-whole g c none =
+    let disk = g.D.Disk in
+    let stop = c.in-Err.field-0 in
+    let k = c.close-in-Some in
+    let mid = g.W.Sink.written c.run_store.new.out in
+    let now = g.W.Sink.written k.new.out in
+    shown_some (λ (r : Remains). IsClosed (view c.in-Some.store.pass) r × Finishes (Err stop.why) k.result.fault mid now)
+    (λ (r : Remains). IsWhole disk.content disk.images disk.since disk.moment c.args.disk.now c.run_store.new.disk c.args.opened
+    (g.H.Host.files c.run_store.new.host) c.args.script.now r (g.W.Sink.written c.args.out.now) now k.result.refused) k.result.remains
+    (λ lost. (let bad : fault.None ≡ fault.Memory = sym none ∙ (k.ensures.lost lost).0 in absurd cc)) k.ensures.shown
+    (λ r f. absurd (c.in-Err.ensures.some.stops.named (sym f.1.0 ∙ none)))
+
+pub returns-in-Some-clause-stopped : goal.returns-in-Some-clause-stopped
+returns-in-Some-clause-stopped g c other r is =
     let disk = g.D.Disk in
     let laws = g.met.D.Disk g.world.𝓛 g.world.𝓜 g.world.𝓡 ((λ s x. x), (λ x. x), (λ x. x), λ x. x) in
     let o = c.args.opened in
     let e = c.of_opened-store.ensures in
     let s = c.of_opened-store.result in
-    let b = c.run_store-ended in
-    let of = b.ensures.close.of in (
-      refl,
-      ends_lost disk.content disk.images disk.since disk.moment laws.as_read c.args.disk.now o (point_at c.args.disk.now s)
-          (point_at b.new.disk b.new.store) (point_opened c.args.disk.now s o e.log e.pass e.rows e.flusher e.cold) b.ensures.goes
-          b.ensures.later s.registrar.catalog e.rows of.stands (of.about ∙ ap (λ (z : Log). z.key) (b.ensures.log ∙ e.log))
-          (g.H.Host.files b.new.host) c.args.script.now (g.W.Sink.written c.args.out.now) (g.W.Sink.written b.new.out) b.new.refused
-          b.result b.ensures.all b.ensures.some,
+    let b = c.run_store in
+    let first = c.args.disk.now in
+    let told = g.H.Host.files b.new.host in
+    let text = c.args.script.now in
+    let old = g.W.Sink.written c.args.out.now in
+    let mid = g.W.Sink.written b.new.out in
+    let op = c.requires.opened in
+    let new : IsNewStore disk.images first s = new_store disk.content disk.images first op.0 op.1 o op.2 s e.log e.pass e.first e.rows
+    e.flusher e.cold in
+    let x = c.in-Some.store in
+    let stop = c.in-Err.field-0 in
+    let some = c.in-Err.ensures.some in
+    let k = c.close-in-Some in
+    let now = g.W.Sink.written k.new.out in
+    shown_is (λ (r : Remains). IsClosed (view x.pass) r × Finishes (Err stop.why) k.result.fault mid now)
+    (λ (r : Remains). IsStopped disk.content disk.images disk.since disk.moment first b.new.disk o told text r old now k.result.fault)
+    k.result.remains r is k.ensures.shown
+    (λ f. ends_stopped disk.content disk.images disk.since disk.moment laws.as_read first o (point_at first s)
+    (point_opened first s o e.log e.pass e.rows e.flusher e.cold) s.registrar.catalog e.rows new.unshut
+    (subst (λ (z : Log). z.key.buckets ≡ 2 ^ z.shape.bucket_bits) e.log new.go.table.buckets)
+    (new.go.can.of.about ∙ ap (λ (z : Log). z.key) e.log) b.new.disk told text old mid
+    now x r f.0 stop k.result.fault c.in-Some.is some f.1)
+
+pub returns-in-Some-clause-lost : goal.returns-in-Some-clause-lost
+returns-in-Some-clause-lost g c none =
+    let disk = g.D.Disk in
+    let laws = g.met.D.Disk g.world.𝓛 g.world.𝓜 g.world.𝓡 ((λ s x. x), (λ x. x), (λ x. x), λ x. x) in
+    let o = c.args.opened in
+    let e = c.of_opened-store.ensures in
+    let s = c.of_opened-store.result in
+    let b = c.run_store in
+    let first = c.args.disk.now in
+    let told = g.H.Host.files b.new.host in
+    let text = c.args.script.now in
+    let old = g.W.Sink.written c.args.out.now in
+    let mid = g.W.Sink.written b.new.out in
+    let op = c.requires.opened in
+    let new : IsNewStore disk.images first s = new_store disk.content disk.images first op.0 op.1 o op.2 s e.log e.pass e.first e.rows
+    e.flusher e.cold in
+    let x = c.in-Some.store in
+    let stop = c.in-Err.field-0 in
+    let some = c.in-Err.ensures.some in
+    let k = c.close-in-Some in (
+      (k.ensures.lost none).0,
+      subst (λ (z : _). IsLost disk.content disk.images disk.since disk.moment first b.new.disk o told text old (g.W.Sink.written z))
+          (sym (k.ensures.lost none).1)
+          (lost_some disk.content disk.images disk.since disk.moment laws.as_read first o (point_at first s)
+          (point_opened first s o e.log e.pass e.rows e.flusher e.cold) s.registrar.catalog e.rows new.unshut
+          (subst (λ (z : Log). z.key.buckets ≡ 2 ^ z.shape.bucket_bits) e.log new.go.table.buckets)
+          (new.go.can.of.about ∙ ap (λ (z : Log). z.key) e.log) b.new.disk told text old mid
+          mid stop some),
     )
 
--- ---- what is told of the outside
+pub returns-in-Some-clause-damaged : goal.returns-in-Some-clause-damaged
+returns-in-Some-clause-damaged g c content =
+    let disk = g.D.Disk in
+    let laws = g.met.D.Disk g.world.𝓛 g.world.𝓜 g.world.𝓡 ((λ s x. x), (λ x. x), (λ x. x), λ x. x) in
+    let o = c.args.opened in
+    let e = c.of_opened-store.ensures in
+    let s = c.of_opened-store.result in
+    let b = c.run_store in
+    let first = c.args.disk.now in
+    let told = g.H.Host.files b.new.host in
+    let text = c.args.script.now in
+    let old = g.W.Sink.written c.args.out.now in
+    let mid = g.W.Sink.written b.new.out in
+    let op = c.requires.opened in
+    let new : IsNewStore disk.images first s = new_store disk.content disk.images first op.0 op.1 o op.2 s e.log e.pass e.first e.rows
+    e.flusher e.cold in
+    let x = c.in-Some.store in
+    let stop = c.in-Err.field-0 in
+    let some = c.in-Err.ensures.some in
+    let k = c.close-in-Some in
+    well_closed stop.why k.result.fault
+    (well_some disk.content disk.images disk.since disk.moment laws.as_read first o (point_at first s)
+    (point_opened first s o e.log e.pass e.rows e.flusher e.cold) s.registrar.catalog e.rows new.unshut
+    (subst (λ (z : Log). z.key.buckets ≡ 2 ^ z.shape.bucket_bits) e.log new.go.table.buckets)
+    (new.go.can.of.about ∙ ap (λ (z : Log). z.key) e.log) b.new.disk told text old mid
+    mid op.0 op.1 op.2 stop some content) k.ensures.damaged
 
-pub returns-in-Ok-clause-before : goal.returns-in-Ok-clause-before
-returns-in-Ok-clause-before g c told = c.run_store-ended.ensures.goes.told_before told
+-- ---- and there is no store
 
-pub returns-in-Err-clause-before : goal.returns-in-Err-clause-before
-returns-in-Err-clause-before g c told = c.run_store-ended.ensures.goes.told_before told
-
-pub returns-in-Ok-clause-output : goal.returns-in-Ok-clause-output
-returns-in-Ok-clause-output g c is =
-    let faults = g.W.Sink.faults in
-    let b = c.run_store-ended in
-    let f = c.finish-fault in
-    ⊎_elim (λ (before : b.result ≡ Err fault.Output). Rose_later (faults c.args.out.now) (faults b.new.out) (faults f.new.out)
-    (b.ensures.cause.output before) f.ensures.later)
-    (λ (now : Rose (faults b.new.out) (faults f.new.out)). Rose_earlier (faults c.args.out.now) (faults b.new.out) (faults f.new.out)
-    b.ensures.cause.output_later now) (f.ensures.output is)
+pub returns-in-None-clause-lost : goal.returns-in-None-clause-lost
+returns-in-None-clause-lost g c none =
+    let disk = g.D.Disk in
+    let laws = g.met.D.Disk g.world.𝓛 g.world.𝓜 g.world.𝓡 ((λ s x. x), (λ x. x), (λ x. x), λ x. x) in
+    let o = c.args.opened in
+    let e = c.of_opened-store.ensures in
+    let s = c.of_opened-store.result in
+    let b = c.run_store in
+    let first = c.args.disk.now in
+    let told = g.H.Host.files b.new.host in
+    let text = c.args.script.now in
+    let old = g.W.Sink.written c.args.out.now in
+    let mid = g.W.Sink.written b.new.out in
+    let op = c.requires.opened in
+    let new : IsNewStore disk.images first s = new_store disk.content disk.images first op.0 op.1 o op.2 s e.log e.pass e.first e.rows
+    e.flusher e.cold in
+    let stop = c.in-Err.field-0 in
+    let some = c.in-Err.ensures.some in (
+      some.stops.lost c.in-None.is,
+      lost_some disk.content disk.images disk.since disk.moment laws.as_read first o (point_at first s)
+          (point_opened first s o e.log e.pass e.rows e.flusher e.cold) s.registrar.catalog e.rows new.unshut
+          (subst (λ (z : Log). z.key.buckets ≡ 2 ^ z.shape.bucket_bits) e.log new.go.table.buckets)
+          (new.go.can.of.about ∙ ap (λ (z : Log). z.key) e.log) b.new.disk told text old mid
+          mid stop some,
+    )

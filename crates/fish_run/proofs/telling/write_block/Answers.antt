@@ -9,7 +9,7 @@ use Rattle.fish_run.proofs.telling.write_block.Goals as goal
 pub returns-in_err-write_head-clause-part : goal.returns-in_err-write_head-clause-part
 returns-in_err-write_head-clause-part g c =
     let head = block_head c.args.several c.args.from c.args.end.to in
-    let lanes = flat_map (lane_items c.args.several c.args.end) c.args.lanes.now in
+    let lanes = flat_map (lane_items c.args.several c.args.end) c.args.said.now in
     on_err_any c.from_residual.result
     (part_first (g.W.Sink.written c.args.out.now) (g.W.Sink.written c.write_head.new.out) head
     (lanes ++ block_foot c.args.several) c.in_err-write_head.ensures.part)
@@ -17,7 +17,7 @@ returns-in_err-write_head-clause-part g c =
 pub returns-in_err-write_lanes-clause-part : goal.returns-in_err-write_lanes-clause-part
 returns-in_err-write_lanes-clause-part g c =
     let head = block_head c.args.several c.args.from c.args.end.to in
-    let lanes = flat_map (lane_items c.args.several c.args.end) c.args.lanes.now in
+    let lanes = flat_map (lane_items c.args.several c.args.end) c.args.said.now in
     let foot = block_foot c.args.several in
     let old = g.W.Sink.written c.args.out.now in
     let mid = g.W.Sink.written c.write_head.new.out in
@@ -29,7 +29,7 @@ returns-in_err-write_lanes-clause-part g c =
 pub returns-clause-written : goal.returns-clause-written
 returns-clause-written g c =
     let head = block_head c.args.several c.args.from c.args.end.to in
-    let lanes = flat_map (lane_items c.args.several c.args.end) c.args.lanes.now in
+    let lanes = flat_map (lane_items c.args.several c.args.end) c.args.said.now in
     let foot = block_foot c.args.several in
     let old = g.W.Sink.written c.args.out.now in
     let first = g.W.Sink.written c.write_head.new.out in
@@ -42,7 +42,7 @@ returns-clause-written g c =
 pub returns-clause-part : goal.returns-clause-part
 returns-clause-part g c =
     let head = block_head c.args.several c.args.from c.args.end.to in
-    let lanes = flat_map (lane_items c.args.several c.args.end) c.args.lanes.now in
+    let lanes = flat_map (lane_items c.args.several c.args.end) c.args.said.now in
     let foot = block_foot c.args.several in
     let old = g.W.Sink.written c.args.out.now in
     let first = g.W.Sink.written c.write_head.new.out in

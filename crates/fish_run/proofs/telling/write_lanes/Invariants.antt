@@ -9,6 +9,6 @@ use Rattle.fish_run.proofs.telling.write_lanes.Given as goal
 abbrev pub invariant-loop-lane : goal.invariant-loop-lane
 invariant-loop-lane g l = record {
   written : Gained (g.W.Sink.written l.fn.out) (g.W.Sink.written l.out)
-      (report_text (flat_map (lane_items l.several l.end) (take l.lane-index l.lanes)));
+      (report_text (flat_map (lane_items l.several l.end) (take l.lane-index l.said)));
   later : g.W.Sink.faults l.fn.out ≤ g.W.Sink.faults l.out;
 }

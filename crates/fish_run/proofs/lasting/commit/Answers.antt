@@ -2,8 +2,9 @@
 use Rattle.std.proofs.Common.{sym, subst}
 use Rattle.fish_lanes.specs.Ending.{HasEnd}
 use Rattle.fish_rule.specs.Passes.{view}
-use Rattle.fish_run.proofs.Going.{end_reads, end_settled, holds_rows}
-use Rattle.fish_run.proofs.running.commit.Goals as goal
+use Rattle.fish_flush.specs.declared.refusal.FlushRefusal.TheVariants as flush
+use Rattle.fish_run.proofs.Going.{end_reads, end_settled, holds_rows, later_reads, no_err}
+use Rattle.fish_run.proofs.lasting.commit.Goals as goal
 
 pub checkpoint-requires-clause-rows : goal.checkpoint-requires-clause-rows
 checkpoint-requires-clause-rows g c =
@@ -23,3 +24,14 @@ returns-clause-all g c =
     subst (HasEnd u) (sym c.in_ok-checkpoint.ensures.count.0)
     (end_settled (view c.args.store.now.pass) u c.in_ok-checkpoint.field-0 c.requires.go.0 c.checkpoint.ensures.reads
     c.checkpoint.ensures.pass.stands c.requires.go.1.end c.in_ok-checkpoint.ensures.settled)
+
+pub returns-clause-again : goal.returns-clause-again
+returns-clause-again g c = c.checkpoint.ensures.again
+    (λ bad. no_err c.checkpoint.result c.in_ok-checkpoint.field-0 flush.DiskFault c.in_ok-checkpoint.was bad)
+
+pub returns-clause-later : goal.returns-clause-later
+returns-clause-later g c = later_reads (view c.args.store.now.pass) (view c.checkpoint.new.pass) c.checkpoint.ensures.reads
+
+pub returns-in_err-checkpoint-clause-later : goal.returns-in_err-checkpoint-clause-later
+returns-in_err-checkpoint-clause-later g c =
+    later_reads (view c.args.store.now.pass) (view c.checkpoint.new.pass) c.checkpoint.ensures.reads

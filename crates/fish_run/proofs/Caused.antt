@@ -1,0 +1,58 @@
+-- Why a run stopped, by the counts of faults of the outside.
+use Rattle.std.proofs.Common.{◌≡◌, ◌≢◌, refl, arith}
+use Rattle.fish_outside.proofs.CauseLemmas.{Rose_earlier, Rose_later}
+use Rattle.fish_outside.specs.Causes.{Rose}
+use Rattle.fish_outside.specs.declared.fault.FeedRefusal.{FeedRefusal}
+use Rattle.fish_outside.specs.declared.fault.FeedRefusal.TheVariants as feed
+use Rattle.fish_report.specs.declared.writing.WriteRefusal.{WriteRefusal}
+use Rattle.fish_report.specs.declared.writing.WriteRefusal.TheVariants as write
+use Rattle.fish_run.specs.Faults.{feed_fault, write_fault}
+use Rattle.fish_run.specs.Steps.{AreLater, Counts, IsCausedBy}
+use Rattle.fish_run.specs.declared.fault.RunFault.{RunFault}
+use Rattle.fish_run.specs.declared.fault.RunFault.TheVariants as fault
+
+-- counts that didn't fall
+pub later_all : (a b c : Counts) → AreLater a b → AreLater b c → AreLater a c
+later_all a b c h t =
+    let host = h.0 in
+    let host' = t.0 in
+    let out = h.1.0 in
+    let out' = t.1.0 in
+    let disk = h.1.1 in
+    let disk' = t.1.1 in
+    (omega arith, (omega arith, omega arith))
+
+-- a file couldn't be read
+pub caused_read : (a b : Counts) (r : FeedRefusal) → (r ≡ feed.Failed → Rose a.host b.host) → IsCausedBy a b (feed_fault r)
+caused_read a b feed.Failed rose =
+    record { input = λ is. rose refl; output = λ is. absurd cc; disk = λ is. absurd cc }
+caused_read a b feed.OutOfMemory rose =
+    record { input = λ is. absurd cc; output = λ is. absurd cc; disk = λ is. absurd cc }
+
+-- an item couldn't be written
+pub caused_write : (a b : Counts) (r : WriteRefusal) → (r ≡ write.Failed → Rose a.out b.out) → IsCausedBy a b (write_fault r)
+caused_write a b write.Failed rose =
+    record { input = λ is. absurd cc; output = λ is. rose refl; disk = λ is. absurd cc }
+caused_write a b write.OutOfMemory rose =
+    record { input = λ is. absurd cc; output = λ is. absurd cc; disk = λ is. absurd cc }
+
+-- it was none of the two
+pub caused_inner : (a b : Counts) (why : RunFault) → why ≢ fault.Input → why ≢ fault.Output → (why ≡ fault.Disk → Rose a.disk b.disk)
+    → IsCausedBy a b why
+caused_inner a b why other inner rose =
+    record { input = λ is. absurd (other is); output = λ is. absurd (inner is); disk = rose }
+
+-- what was the cause since a later moment was it since an earlier one
+pub caused_since : (a b c : Counts) (why : RunFault) → AreLater a b → IsCausedBy b c why → IsCausedBy a c why
+caused_since a b c why h k = record {
+  input = λ is. Rose_earlier a.host b.host c.host h.0 (k.input is);
+  output = λ is. Rose_earlier a.out b.out c.out h.1.0 (k.output is);
+  disk = λ is. Rose_earlier a.disk b.disk c.disk h.1.1 (k.disk is);
+}
+
+pub caused_till : (a b c : Counts) (why : RunFault) → IsCausedBy a b why → AreLater b c → IsCausedBy a c why
+caused_till a b c why k h = record {
+  input = λ is. Rose_later a.host b.host c.host (k.input is) h.0;
+  output = λ is. Rose_later a.out b.out c.out (k.output is) h.1.0;
+  disk = λ is. Rose_later a.disk b.disk c.disk (k.disk is) h.1.1;
+}

@@ -1,0 +1,234 @@
+-- A run that came to its end, one that was stopped, and one whose log couldn't be shown.
+use Rattle.std.proofs.Common.{◌≡◌, ◌≢◌, ℕ, ◌+◌, ◌^◌, List, [], ◌∷◌, ◌++◌, refl, sym, ap, ◌∙◌, subst, true, false}
+use Rattle.std.proofs.Common.{Bool, Option, Some, None, Ok, Err, append-nil}
+use Rattle.std.specs.Prelude.{IsSome}
+use Rattle.fish_catalog.specs.declared.commit.Commit.{Commit}
+use Rattle.fish_catalog.specs.declared.entry.Entry.{Entry}
+use Rattle.fish_catalog.specs.declared.row.CatRow.{CatRow}
+use Rattle.fish_lanes.specs.Ending.{HasEnd}
+use Rattle.fish_outside.specs.Told.{Files, Gained, GainedPart}
+use Rattle.fish_recover.specs.Stores.{IsOpened}
+use Rattle.fish_recover.specs.declared.opened.Opened.{Opened}
+use Rattle.fish_report.specs.ReportText.{report_text}
+use Rattle.fish_report.specs.declared.item.Item.TheVariants as item
+use Rattle.fish_rule.specs.ClosedLog.{IsClosed}
+use Rattle.fish_rule.specs.Passes.{view}
+use Rattle.fish_rule.specs.Start.{table_lines}
+use Rattle.fish_rule.specs.declared.close.Remains.{Remains}
+use Rattle.fish_rule.specs.declared.table.Shape.{Shape}
+use Rattle.fish_rule.specs.declared.view.Key.{Key}
+use Rattle.fish_run.proofs.Blocks.{fulls_agree}
+use Rattle.fish_run.proofs.Ends.{all_first}
+use Rattle.fish_run.proofs.Keeping.{entries_end, keeps_of, sound_first, still_keeps}
+use Rattle.fish_run.proofs.Shown.{store_is}
+use Rattle.fish_run.proofs.Written.{gained_none, part_still, part_then, part_whole, written_both}
+use Rattle.fish_run.specs.Blocks.{Round, first_registry, left_table, rounds_of}
+use Rattle.fish_run.specs.Faults.{IsUndamaged}
+use Rattle.fish_run.specs.Ran.{IsLost, IsStopped, IsWhole, LastTable, StillKeeps, StoodFor, opened_item}
+use Rattle.fish_run.specs.Reports.{report_of, whole_report}
+use Rattle.fish_run.specs.Runs.{CanClose}
+use Rattle.fish_run.specs.Steps.{Finishes, HasRunFirst, RunsAll, RunsSome}
+use Rattle.fish_run.specs.declared.fault.RunFault.{RunFault}
+use Rattle.fish_run.specs.declared.fault.RunFault.TheVariants as fault
+use Rattle.fish_run.specs.declared.lasting.Stopped.{Stopped}
+use Rattle.fish_script.specs.declared.script.Block as script
+use Rattle.fish_store.specs.Opened.{first_past, opened_point}
+use Rattle.fish_store.specs.Points.{point_at}
+use Rattle.fish_store.specs.Sound.{Point}
+use Rattle.fish_store.specs.declared.store.Store.{Store}
+
+-- a store that was opened, from its first moment on
+module _
+    {D : Type 0}
+    (content : D → Option (List ℕ))
+    (images : D → List ℕ → Type 0)
+    (since : D → ℕ → List ℕ → Type 0)
+    (moment : D → ℕ)
+    (read : (d : D) (i : List ℕ) → content d ≡ Some i → images d i)
+    (disk : D) (o : Opened) (p : Point D) (from : p ≡ opened_point disk o) (rows : List CatRow) (same : rows ≡ o.catalog)
+    (unshut : p.view.shut ≡ None) (buckets : o.log.key.buckets ≡ 2 ^ o.log.shape.bucket_bits)
+    (about : p.view.about ≡ o.log.key) (disk' : D) (told : Option Files) (text : List script.Block) (old mid new : Option (List ℕ)) where
+  abbrev pub All : Store → Bool → ℕ → Type 0
+  All x refused end = RunsAll content images since moment p (point_at disk' x) o.count (first_registry rows) (opened_item o) told text
+      old mid refused end
+
+  abbrev pub Stops : Stopped → Type 0
+  Stops e = RunsSome content images since moment p disk' o.count (first_registry rows) (opened_item o) told text old mid e
+
+  module _ (x : Store) (close : CanClose x) (remains : Remains) (closed : IsClosed (view x.pass) remains) where
+    -- what is left is that of the last table
+    last_of : (rounds : List Round) (fresh : Bool) (cut : Option Round) (end : ℕ)
+        → HasRunFirst content images since moment p (point_at disk' x) o.count (first_registry rows) rounds fresh cut end
+        → LastTable o remains fresh rounds cut
+    last_of rounds fresh cut end h =
+        let shape : x.log.shape ≡ o.log.shape = h.shape ∙ ap (λ (z : Point D). z.shape) from in
+        let key : (view x.pass).about ≡ x.log.key = close.of.about in
+        record {
+          view = view x.pass;
+          closed = closed;
+          heads = closed.many_heads ∙ ap (λ (k : Key). k.buckets) key ∙ close.table.buckets
+              ∙ ap (λ (z : Shape). 2 ^ z.bucket_bits) shape ∙ sym buckets;
+          fulls = fulls_agree (view x.pass) (left_table fresh [] rounds cut) (view x.pass).about.end close.of.stands
+              (h.marks [] (λ b among. elim among [ ])) refl;
+          end = subst (λ (k : Key). k.end ≡ k.line + table_lines o.log.shape.pages k.number k.line) (sym key)
+              (subst (λ (z : Shape). x.log.key.end ≡ x.log.key.line + table_lines z.pages x.log.key.number x.log.key.line) shape
+              close.table.end);
+          same = λ is.
+              let begins : (view x.pass).about.number ≡ p.view.about.number
+              = sym closed.base ∙ is ∙ ap (λ (k : Key). k.number) (sym about) in
+              let same = h.table.same begins in
+              (same.0 ∙ about, same.1, same.2);
+        }
+
+    -- all blocks ran, the log was committed, and its end was written
+    whole_of : (refused : Bool) (end : ℕ) → All x refused end → HasEnd (view x.pass) x.file.flusher.count
+        → Gained mid new (report_text (item.Closed end ∷ []))
+        → IsWhole content images since moment disk disk' o told text remains old new refused
+    whole_of refused end h ends last = record {
+      blocks = h.blocks;
+      are = h.all;
+      last = last_of (rounds_of h.blocks) false None end h.ran;
+      written = subst (λ (z : ℕ). Gained old new (report_text (whole_report (opened_item o) h.blocks z)))
+          (sym (entries_end (view x.pass) end remains h.ran.ends closed))
+          (written_both old mid new (report_of (opened_item o) h.blocks) (item.Closed end ∷ []) h.written last);
+      refused_is = h.refused_is;
+      keeps = keeps_of content images since moment read disk o p (point_at disk' x) from rows same (rounds_of h.blocks) false None end h.ran
+          unshut remains true closed (λ e. ends);
+    }
+
+    -- of its end a part was written at most
+    late_of : (refused : Bool) (end : ℕ) (why : RunFault) → why ≢ fault.Input → All x refused end
+        → HasEnd (view x.pass) x.file.flusher.count → GainedPart mid new (report_text (item.Closed end ∷ []))
+        → IsStopped content images since moment disk disk' o told text remains old new why
+    late_of refused end why other h ends last = record {
+      blocks = h.blocks;
+      part = [];
+      cut = None;
+      fresh = false;
+      are = all_first told text h.blocks h.all;
+      next = tt;
+      named = tt;
+      last = last_of (rounds_of h.blocks ++ []) false None end ran;
+      ended = true;
+      written = (
+        h.all,
+        subst (λ (z : ℕ). GainedPart old new (report_text (whole_report (opened_item o) h.blocks z)))
+            (sym (entries_end (view x.pass) end remains h.ran.ends closed))
+            (part_then old mid new (report_of (opened_item o) h.blocks) (item.Closed end ∷ []) h.written last),
+      );
+      input = λ e. absurd (other e);
+      keeps = keeps_of content images since moment read disk o p (point_at disk' x) from rows same (rounds_of h.blocks ++ []) false None
+          end ran unshut remains true closed (λ e. ends);
+    }
+      where
+        ran : HasRunFirst content images since moment p (point_at disk' x) o.count (first_registry rows) (rounds_of h.blocks ++ []) false
+            None end
+        ran = subst (λ (z : List Round). HasRunFirst content images since moment p (point_at disk' x) o.count (first_registry rows) z false
+            None end) (sym (append-nil (rounds_of h.blocks))) h.ran
+
+    -- the run came to its end
+    pub ends_whole : (refused : Bool) (end : ℕ) (why : RunFault) → why ≡ fault.None → All x refused end
+        → HasEnd (view x.pass) x.file.flusher.count → Finishes (Ok end) why mid new
+        → IsWhole content images since moment disk disk' o told text remains old new refused
+    ends_whole refused end fault.None is all ends f = whole_of refused end all ends f
+    ends_whole refused end fault.Input is all ends f = absurd cc
+    ends_whole refused end fault.Output is all ends f = absurd cc
+    ends_whole refused end fault.Memory is all ends f = absurd cc
+    ends_whole refused end fault.Disk is all ends f = absurd cc
+    ends_whole refused end (fault.Damaged n) is all ends f = absurd cc
+
+    -- or a fault came at its end
+    pub ends_late : (refused : Bool) (end : ℕ) (why : RunFault) → why ≢ fault.None → All x refused end
+        → HasEnd (view x.pass) x.file.flusher.count → Finishes (Ok end) why mid new
+        → IsStopped content images since moment disk disk' o told text remains old new why
+    ends_late refused end fault.None other all ends f = absurd (other refl)
+    ends_late refused end fault.Input other all ends f = absurd (f.0 refl)
+    ends_late refused end fault.Output other all ends f = late_of refused end fault.Output f.0 all ends f.1
+    ends_late refused end fault.Memory other all ends f = late_of refused end fault.Memory f.0 all ends f.1
+    ends_late refused end fault.Disk other all ends f = late_of refused end fault.Disk f.0 all ends f.1
+    ends_late refused end (fault.Damaged n) other all ends f = late_of refused end (fault.Damaged n) f.0 all ends f.1
+
+  -- where a fault stopped the blocks, a store that is there may be closed
+  close_is : (e : Stopped) (x : Store) → e.store ≡ Some x → (h : Stops e) → (h.stops.at ≡ point_at disk' x) × CanClose x
+  close_is e x is h = store_is (λ z. (h.stops.at ≡ point_at disk' z) × CanClose z) e.store x is h.stops.store
+
+  -- and then the log is closed
+  stopped_of : (x : Store) (remains : Remains) → IsClosed (view x.pass) remains → (e : Stopped) → e.store ≡ Some x → Stops e
+      → Gained mid new []
+      → IsStopped content images since moment disk disk' o told text remains old new e.why
+  stopped_of x remains closed e is h none = record {
+    blocks = h.blocks;
+    part = h.part;
+    cut = h.cut;
+    fresh = h.stops.fresh;
+    are = h.are;
+    next = h.next;
+    named = h.stops.cut_by;
+    last = last_of x (close_is e x is h).1 remains closed (rounds_of h.blocks ++ h.part) h.stops.fresh h.cut h.stops.end ran;
+    ended = false;
+    written = part_still old mid new (report_text (report_of (opened_item o) h.blocks)) h.written none;
+    input = λ i. ((h.input i).0, gained_none old mid new (report_text (report_of (opened_item o) h.blocks)) (h.input i).1 none);
+    keeps = keeps_of content images since moment read disk o p (point_at disk' x) from rows same (rounds_of h.blocks ++ h.part)
+        h.stops.fresh h.cut h.stops.end ran unshut remains false closed (λ i. absurd cc);
+  }
+    where
+      at : h.stops.at ≡ point_at disk' x
+      at = (close_is e x is h).0
+
+      ran : HasRunFirst content images since moment p (point_at disk' x) o.count (first_registry rows) (rounds_of h.blocks ++ h.part)
+          h.stops.fresh h.cut h.stops.end
+      ran = subst (λ (z : Point D). HasRunFirst content images since moment p z o.count (first_registry rows)
+          (rounds_of h.blocks ++ h.part) h.stops.fresh h.cut h.stops.end) at h.stops.ran
+
+  -- the same by how the fault was handed on
+  pub ends_stopped : (x : Store) (remains : Remains) → IsClosed (view x.pass) remains → (e : Stopped) (why : RunFault)
+      → e.store ≡ Some x → Stops e → Finishes (Err e.why) why mid new
+      → IsStopped content images since moment disk disk' o told text remains old new why
+  ends_stopped x remains closed e why is some f =
+      subst (IsStopped content images since moment disk disk' o told text remains old new) (sym f.0)
+      (stopped_of x remains closed e is some f.1)
+
+  -- all blocks ran, and there was no memory to show the log
+  pub lost_all : (x : Store) (refused : Bool) (end : ℕ) → All x refused end
+      → IsLost content images since moment disk disk' o told text old mid
+  lost_all x refused end h = record {
+    blocks = h.blocks;
+    part = [];
+    cut = None;
+    are = all_first told text h.blocks h.all;
+    next = tt;
+    written = part_whole old mid (report_text (report_of (opened_item o) h.blocks)) h.written;
+    keeps = still_keeps content images since moment read disk o p (point_at disk' x) from rows same (rounds_of h.blocks ++ []) false None
+        end
+        (subst (λ (z : List Round). HasRunFirst content images since moment p (point_at disk' x) o.count (first_registry rows) z false None
+        end) (sym (append-nil (rounds_of h.blocks))) h.ran) unshut;
+  }
+
+  -- or a fault stopped them
+  pub lost_some : (e : Stopped) → Stops e → IsLost content images since moment disk disk' o told text old mid
+  lost_some e h = record {
+    blocks = h.blocks;
+    part = h.part;
+    cut = h.cut;
+    are = h.are;
+    next = h.next;
+    written = h.written;
+    keeps = subst (λ (z : D). (c : Commit) (log : List Entry) (t : ℕ) → StoodFor content images since moment disk z o c log t
+        → StillKeeps (images z) (since z t) log (rounds_of h.blocks ++ h.part) h.cut) h.stops.disk_is
+        (still_keeps content images since moment read disk o p h.stops.at from rows same (rounds_of h.blocks ++ h.part) h.stops.fresh h.cut
+        h.stops.end h.stops.ran unshut);
+  }
+
+  -- ---- what is told of the outside
+
+  -- the disk's content was told at first where it is in the end
+  told_some : (e : Stopped) → Stops e → IsSome (content disk') → IsSome (content p.disk)
+  told_some e h told = h.stops.ran.runs.told_before (subst (λ (z : D). IsSome (content z)) (sym h.stops.disk_is) told)
+
+  -- and then the fault that stopped the blocks is no damage
+  pub well_some : (c : Commit) (log : List Entry) → IsOpened (content disk) (images disk) c log o → (e : Stopped) → Stops e
+      → IsSome (content disk') → IsUndamaged e.why
+  well_some c log h e some told = some.stops.whole (first_past log o) (record {
+    sound = sound_first content images since moment read disk o p p from c log h (told_some e some told);
+    told = told;
+  })

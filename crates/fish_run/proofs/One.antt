@@ -1,0 +1,185 @@
+-- One block: what its rounds did, and where a fault stops the run.
+use Rattle.std.proofs.Common.{◌≡◌, ◌≢◌, ℕ, List, [], ◌∷◌, refl, sym, ap, ◌∙◌, subst, inl, inr, false}
+use Rattle.std.proofs.Common.{Bool, Option, Some, None}
+use Rattle.std.specs.Prelude.{IfSome, ◌||◌}
+use Rattle.fish_lanes.specs.Ending.{HasEnd}
+use Rattle.fish_lanes.specs.Registering.{Registry, registry_of}
+use Rattle.fish_lanes.specs.declared.lane.Lane.{Lane}
+use Rattle.fish_outside.proofs.ToldLemmas.{Gained_refl}
+use Rattle.fish_outside.specs.Told.{Files, Gained, GainedPart}
+use Rattle.fish_report.specs.ReportText.{report_text}
+use Rattle.fish_report.specs.declared.item.Item.{Item}
+use Rattle.fish_rule.proofs.laws.Learning.{learns_self}
+use Rattle.fish_rule.specs.Passes.{view}
+use Rattle.fish_run.proofs.Going.{close_of, here_self}
+use Rattle.fish_run.proofs.Turns.{rounds_end, rounds_none, runs_step}
+use Rattle.fish_run.specs.Blocks.{Block, Round, with_cut}
+use Rattle.fish_run.specs.Faults.{IsUndamaged}
+use Rattle.fish_run.specs.Going.{DoLanes, EndsBlock, StopsBlock}
+use Rattle.fish_run.specs.Ran.{IsBlockOf}
+use Rattle.fish_run.specs.Reports.{block_items, said_items, said_refused}
+use Rattle.fish_run.specs.Rounds.{AreRounds}
+use Rattle.fish_run.specs.Running.{EndsOne, StopsOne}
+use Rattle.fish_run.specs.Runs.{CanClose, CanGoOn}
+use Rattle.fish_run.specs.Steps.{HasRounds, HasRunFirst, StopsRounds}
+use Rattle.fish_run.specs.Works.{AreLanesOf, HadToDo, IsLaneOf, IsWorkOf, Pairs, to_do}
+use Rattle.fish_run.specs.declared.fault.RunFault.TheVariants as fault
+use Rattle.fish_run.specs.declared.lasting.Stopped.{Stopped}
+use Rattle.fish_run.specs.declared.rounds.Ended.{Ended}
+use Rattle.fish_run.specs.declared.running.Lasts.{Lasts}
+use Rattle.fish_run.specs.declared.saying.Said.{Said}
+use Rattle.fish_script.specs.declared.script.Block as script
+use Rattle.fish_script.specs.declared.script.Statement.{Statement}
+use Rattle.fish_store.specs.Points.{point_at}
+use Rattle.fish_store.specs.Sound.{GoesOnHere, Point, Runs}
+use Rattle.fish_store.specs.declared.store.Store.{Store}
+use Rattle.fish_whole.proofs.Wholes.{later_self}
+use Rattle.fish_whole.specs.Whole.{Later}
+
+-- ---- what the rounds did
+
+-- lanes that had to do what those of a text do had to do the text's statements
+had_all : (told : Option Files) (texts : List (List Statement)) (lanes items : List Lane) → Pairs (IsLaneOf told) texts lanes
+    → Pairs (λ x y. to_do y ≡ x.works) lanes items → Pairs (HadToDo told) texts items
+had_all told [] [] [] h k = tt
+had_all told [] [] (y ∷ items) h k = elim k [ ]
+had_all told [] (x ∷ lanes) items h k = elim h [ ]
+had_all told (s ∷ texts) [] items h k = elim h [ ]
+had_all told (s ∷ texts) (x ∷ lanes) [] h k = elim k [ ]
+had_all told (s ∷ texts) (x ∷ lanes) (y ∷ items) h k =
+    (subst (Pairs (IsWorkOf told) s) (sym k.0) h.0, had_all told texts lanes items h.1 k.1)
+
+pub are_rounds : (told : Option Files) (texts : List (List Statement)) (lanes : List Lane) (rounds : List Round)
+    → AreLanesOf told texts lanes → DoLanes lanes rounds → AreRounds told texts rounds
+are_rounds told texts lanes [] h d = tt
+are_rounds told texts lanes (a ∷ rounds) h d = (had_all told texts lanes a.lanes h.works d.0, d.1, d.2, d.3)
+
+module _
+    {D : Type 0}
+    (content : D → Option (List ℕ))
+    (images : D → List ℕ → Type 0)
+    (since : D → ℕ → List ℕ → Type 0)
+    (moment : D → ℕ) where
+  -- ---- moments
+
+  -- what goes on in one table tells nothing more
+  pub runs_on : (p q : Point D) → GoesOnHere content images since moment p q → Later p.view q.view
+      → Runs content images since moment p q (λ w. Unit {0})
+  runs_on p q h later = runs_step content images since moment p q (λ w. Unit {0}) h later (λ past s w may. tt)
+
+  -- nothing ran
+  pub rounds_self : (p : Point D) (from : ℕ) (r : Registry) → HasRounds content images since moment p p from r [] false from r
+  rounds_self p from r = rounds_none content images since moment p from r (here_self content images since moment p) (later_self p.view)
+
+  -- rounds ran, and none was cut
+  pub first_of : (p q : Point D) (from to : ℕ) (r t : Registry) (rounds : List Round)
+      → HasRounds content images since moment p q from r rounds false to t → HasEnd q.view to
+      → HasRunFirst content images since moment p q from r rounds false None to
+  first_of p q from to r t rounds h ends =
+      rounds_end content images since moment p q q from to r t rounds false h
+      (runs_on q q (here_self content images since moment q) (later_self q.view)) (learns_self q.view) ends refl
+
+  -- ---- faults
+
+  -- a fault that is none of a round stops the run with the store
+  pub stops_with : (p : Point D) (disk : D) (s : Store) (from to : ℕ) (r : Registry) (rounds : List Round) (e : Stopped)
+      → e.store ≡ Some s → CanClose s → e.why ≢ fault.None → IsUndamaged e.why
+      → HasRunFirst content images since moment p (point_at disk s) from r rounds false None to
+      → StopsRounds content images since moment p disk from r rounds None e
+  stops_with p disk s from to r rounds e is close named well ran = record {
+    named = named;
+    at = point_at disk s;
+    disk_is = refl;
+    store = subst (λ (z : Option Store). IfSome z (λ x. (point_at disk s ≡ point_at disk x) × CanClose x)) (sym is) (refl, close);
+    lost = λ none. (let bad : Some s ≡ None = sym is ∙ none in absurd cc);
+    fresh = false;
+    end = to;
+    cut_by = tt;
+    ran = ran;
+    whole = λ past sound. well;
+  }
+
+  module _ (disk : D) (a : Lasts) (told : Option Files) (text : script.Block) (go : CanGoOn images disk a.store a.count) where
+    -- its files couldn't be read
+    pub one_unread : (written : Option (List ℕ)) (e : Stopped) → e.store ≡ Some a.store → e.why ≢ fault.None → IsUndamaged e.why
+        → StopsOne content images since moment disk disk a told text written written e
+    one_unread written e is named well =
+        let p = point_at disk a.store in
+        let r = registry_of (view a.store.pass) a.store.registrar in
+        record {
+          rounds = [];
+          cut = None;
+          stops = stops_with p disk a.store a.count a.count r [] e is (close_of images disk a.store a.count go) named well
+              (first_of p p a.count a.count r r [] (rounds_self p a.count r) go.end);
+          how = inl (tt, Gained_refl written, λ input. refl);
+        }
+
+    module _ (disk' : D) (lanes : List Lane) (are : AreLanesOf told text.lanes lanes) where
+      -- a fault stopped its rounds
+      pub one_cut : (written : Option (List ℕ)) (e : Stopped) → e.why ≢ fault.Input
+          → StopsBlock content images since moment disk a.store a.count lanes disk' e
+          → StopsOne content images since moment disk disk' a told text written written e
+      one_cut written e other h = record {
+        rounds = h.rounds;
+        cut = h.cut;
+        stops = h.stops;
+        how = inl (
+          are_rounds told text.lanes lanes (with_cut h.rounds h.cut) are h.do_lanes,
+          Gained_refl written,
+          λ input. absurd (other input),
+        );
+      }
+
+      module _ (d : Ended) (h : EndsBlock content images since moment disk a.store a.count lanes disk' d) (old new : Option (List ℕ)) where
+        block : Block
+        block = record { several = text.several; rounds = h.rounds }
+
+        block_is : IsBlockOf told text block
+        unfolding block
+        block_is = record { several = refl; rounds = are_rounds told text.lanes lanes h.rounds are h.do_lanes; all = h.all }
+
+        items_are : said_items text.several a.count d.end d.said.items ≡ block_items block
+        unfolding block
+        items_are = (λ i. said_items text.several (sym h.first i) (sym h.last i) (h.said_are i))
+
+        -- it ran, and was written
+        pub one_ended : (before now : Bool) (b : Lasts) → b ≡ record { store = d.store; count = d.end.to }
+            → Gained old new (report_text (said_items text.several a.count d.end d.said.items))
+            → now ≡ before || said_refused d.said.items
+            → EndsOne content images since moment disk disk' a told text old new before now b
+        unfolding block
+        one_ended before now b is written refused =
+            subst (EndsOne content images since moment disk disk' a told text old new before now) (sym is) (record {
+              go = h.go;
+              block = block;
+              is = block_is;
+              ran = h.ran;
+              written = subst (λ (z : List Item). Gained old new (report_text z)) items_are written;
+              refused = refused ∙ ap (λ (z : List Said). before || said_refused z) h.said_are;
+            })
+
+        -- it couldn't be written
+        pub one_unwritten : (e : Stopped) → e.store ≡ Some d.store → e.why ≢ fault.None → IsUndamaged e.why → e.why ≢ fault.Input
+            → GainedPart old new (report_text (said_items text.several a.count d.end d.said.items))
+            → StopsOne content images since moment disk disk' a told text old new e
+        unfolding block
+        one_unwritten e is named well other part =
+            let p = point_at disk a.store in
+            let q = point_at disk' d.store in
+            let r = registry_of (view a.store.pass) a.store.registrar in
+            let t = registry_of (view d.store.pass) d.store.registrar in
+            record {
+              rounds = h.rounds;
+              cut = None;
+              stops = stops_with p disk' d.store a.count d.end.to r h.rounds e is
+                  (close_of images disk' d.store d.end.to h.go) named well
+                  (first_of p q a.count d.end.to r t h.rounds h.ran h.go.end);
+              how = inr (
+                block,
+                block_is,
+                refl,
+                refl,
+                subst (λ (z : List Item). GainedPart old new (report_text z)) items_are part,
+                other,
+              );
+            }

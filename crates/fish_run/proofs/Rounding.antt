@@ -1,0 +1,354 @@
+-- From round to round of a block.
+use Rattle.std.proofs.Common.{◌≡◌, ℕ, suc, ◌+◌, ◌<◌, List, [], ◌∷◌, ◌++◌, Bool, true, false, length}
+use Rattle.std.proofs.Common.{refl, sym, ap, ◌∙◌, subst, inl, arith, None, Option, Some, slice_get}
+use Rattle.std.specs.Prelude.{◌&&◌, IfSome}
+use Rattle.fish_lanes.specs.Blocks.{AreKept, AreLanes, At, IsKept, IsNewLane}
+use Rattle.fish_lanes.specs.Controlling.{bound_items}
+use Rattle.fish_lanes.specs.Ending.{HasEnd}
+use Rattle.fish_lanes.specs.Outcome.{LeaveNone, Stops}
+use Rattle.fish_lanes.specs.Registering.{Registry, registry_of}
+use Rattle.fish_lanes.specs.declared.block.BlockEnd.{BlockEnd}
+use Rattle.fish_lanes.specs.declared.block.Boundary.{Boundary}
+use Rattle.fish_lanes.specs.declared.lane.Lane.{Lane}
+use Rattle.fish_rule.proofs.laws.Learning.{learns_self}
+use Rattle.fish_rule.specs.Passes.{view}
+use Rattle.fish_rule.specs.declared.table.Log.{Log}
+use Rattle.fish_rule.specs.declared.view.Key.{Key}
+use Rattle.fish_rule.specs.declared.view.View.{View}
+use Rattle.fish_run.proofs.Blocks.{left, left_cut, left_whole}
+use Rattle.fish_run.proofs.Faults.{commit_named, commit_well, first_named, lane_whole}
+use Rattle.fish_run.proofs.Going.{close_of, here_self}
+use Rattle.fish_run.proofs.Lists.{pairs_length, pairs_map}
+use Rattle.fish_run.proofs.Stepping.{goes_next, kept_pairs, ran_numbered}
+use Rattle.fish_run.proofs.Turns.{behind_next, rounds_cut, rounds_end, rounds_more, rounds_none, rounds_rolled, runs_step}
+use Rattle.fish_run.specs.Blocks.{IsFirstFault, Round}
+use Rattle.fish_run.specs.Faults.{IsUndamaged}
+use Rattle.fish_run.specs.Going.{DoLanes, EndsRounds, GoesIn, HasStepped, IsRenewed, StopsBlock}
+use Rattle.fish_run.specs.Reports.{end_of, first_number, last_end}
+use Rattle.fish_run.specs.Rolls.{RollsOn, StopsRoll}
+use Rattle.fish_run.specs.Rounds.{AreAll, GoOn, GoesOnWith, block_said, lanes_after, nothing_said, said_over}
+use Rattle.fish_run.specs.Runs.{Behind, CanClose, CanGoOn}
+use Rattle.fish_run.specs.Steps.{AreWhole, HasRounds, Leaves}
+use Rattle.fish_run.specs.Works.{AreNumbered, Pairs, to_do}
+use Rattle.fish_run.specs.declared.fault.RunFault.{RunFault}
+use Rattle.fish_run.specs.declared.fault.RunFault.TheVariants as fault
+use Rattle.fish_run.specs.declared.lasting.Stopped.{Stopped}
+use Rattle.fish_run.specs.declared.rounds.RoundStart.{RoundStart}
+use Rattle.fish_run.specs.declared.saying.Said.{Said}
+use Rattle.fish_store.specs.Points.{point_at}
+use Rattle.fish_store.specs.Sound.{GoesOnHere, Point, Runs}
+use Rattle.fish_store.specs.declared.store.Store.{Store}
+use Rattle.fish_whole.specs.Whole.{Later, Whole}
+
+-- ---- one more round
+
+go_push : (a : Round) (rounds : List Round) (b c : Round) → GoOn a (rounds ++ b ∷ [])
+    → Pairs (λ x y. GoesOnWith c.fresh x (to_do y)) b.lanes c.lanes → AreNumbered c.lanes → GoOn a ((rounds ++ b ∷ []) ++ c ∷ [])
+go_push a [] b c h goes numbered = (h.0, h.1, (goes, numbered, tt))
+go_push a (x ∷ rounds) b c h goes numbered = (h.0, h.1, go_push x rounds b c h.2 goes numbered)
+
+do_push : (first : List Lane) (rounds : List Round) (b c : Round) → DoLanes first (rounds ++ b ∷ [])
+    → Pairs (λ x y. GoesOnWith c.fresh x (to_do y)) b.lanes c.lanes → AreNumbered c.lanes → DoLanes first ((rounds ++ b ∷ []) ++ c ∷ [])
+do_push first [] b c h goes numbered = (h.0, h.1, h.2, (goes, numbered, tt))
+do_push first (x ∷ rounds) b c h goes numbered = (h.0, h.1, h.2, go_push x rounds b c h.3 goes numbered)
+
+over_push : (said : List Said) (bound : Option Boundary) (rounds : List Round) (b c : Round)
+    → said_over said bound ((rounds ++ b ∷ []) ++ c ∷ [])
+    ≡ lanes_after c.fresh (bound_items b.end.bound) (said_over said bound (rounds ++ b ∷ [])) c.lanes
+over_push said bound [] b c = refl
+over_push said bound (x ∷ rounds) b c = over_push (lanes_after x.fresh (bound_items bound) said x.lanes) x.end.bound rounds b c
+
+block_push : (rounds : List Round) (b c : Round)
+    → block_said ((rounds ++ b ∷ []) ++ c ∷ []) ≡ lanes_after c.fresh (bound_items b.end.bound) (block_said (rounds ++ b ∷ [])) c.lanes
+block_push [] b c = refl
+block_push (x ∷ rounds) b c = over_push (nothing_said x.lanes) None (x ∷ rounds) b c
+
+first_push : (rounds : List Round) (b c : Round) → first_number ((rounds ++ b ∷ []) ++ c ∷ []) ≡ first_number (rounds ++ b ∷ [])
+first_push [] b c = refl
+first_push (x ∷ rounds) b c = refl
+
+last_more : (end : BlockEnd) (rounds : List Round) (b : Round) → last_end end (rounds ++ b ∷ []) ≡ b.end
+last_more end [] b = refl
+last_more end (x ∷ rounds) b = last_more x.end rounds b
+
+end_push : (rounds : List Round) (b : Round) → end_of (rounds ++ b ∷ []) ≡ b.end
+end_push [] b = refl
+end_push (x ∷ rounds) b = last_more x.end rounds b
+
+all_push : (rounds : List Round) (b : Round) → LeaveNone b.lanes → AreAll (rounds ++ b ∷ [])
+all_push [] b h = h
+all_push (x ∷ []) b h = h
+all_push (x ∷ y ∷ rounds) b h = all_push (y ∷ rounds) b h
+
+-- lanes with the same numbers say nothing alike
+nothing_same : (k : ℕ) (xs ys : List Lane) → length xs ≡ length ys → ((i : ℕ) (x : Lane) → slice_get xs i ≡ Some x → x.number ≡ i + k)
+    → ((i : ℕ) (y : Lane) → slice_get ys i ≡ Some y → y.number ≡ i + k) → nothing_said xs ≡ nothing_said ys
+nothing_same k [] [] same h g = refl
+nothing_same k [] (y ∷ ys) same h g = absurd (omega arith)
+nothing_same k (x ∷ xs) [] same h g = absurd (omega arith)
+nothing_same k (x ∷ xs) (y ∷ ys) same h g =
+    let one : x.number ≡ y.number = h 0 x refl ∙ sym (g 0 y refl) in
+    let more = nothing_same (k + 1) xs ys (omega arith) (λ j z at. (let n = h (suc j) z at in omega arith))
+    (λ j z at. (let n = g (suc j) z at in omega arith)) in
+    (λ i. record { number = one i; items = [] } ∷ more i)
+
+pub nothing_length : (lanes : List Lane) → length (nothing_said lanes) ≡ length lanes
+nothing_length [] = refl
+nothing_length (x ∷ lanes) = ap suc (nothing_length lanes)
+
+-- one that isn't asked for isn't begun
+pub and_false : (a b : Bool) → a ≡ false → (a && b) ≡ false
+and_false a b is = ap (λ (z : Bool). z && b) is
+
+later_self : (v : View) → Later v v
+later_self v = record { learns = learns_self v; gained = λ o m. inl m }
+
+module _
+    {D : Type 0}
+    (content : D → Option (List ℕ))
+    (images : D → List ℕ → Type 0)
+    (since : D → ℕ → List ℕ → Type 0)
+    (moment : D → ℕ) where
+  -- it may go on in a table that was renewed
+  pub renewed_go : (disk disk' : D) (m t : Store) (to : ℕ) → CanGoOn images disk m to → (fresh : Bool)
+      → IsRenewed content images since moment disk m to fresh disk' t → CanGoOn images disk' t to
+  renewed_go disk disk' m t to go false k =
+      subst (λ (z : D). CanGoOn images z t to) (sym k.0) (subst (λ (z : Store). CanGoOn images disk z to) (sym k.1) go)
+  renewed_go disk disk' m t to go true k = k.go
+
+module _
+    {D : Type 0}
+    (content : D → Option (List ℕ))
+    (images : D → List ℕ → Type 0)
+    (since : D → ℕ → List ℕ → Type 0)
+    (moment : D → ℕ)
+    (d : D) (s : Store) (from : ℕ) (first : List Lane) where
+  abbrev pub p : Point D
+  p = point_at d s
+
+  abbrev pub r : Registry
+  r = registry_of (view s.pass) s.registrar
+
+  -- ---- in front of the first round
+
+  none_ran : HasRounds content images since moment p p from r [] false from r
+  none_ran = rounds_none content images since moment p from r (here_self content images since moment p) (later_self (view s.pass))
+
+  pub goes_first : AreLanes first → (a : RoundStart) → a.store ≡ s → a.from ≡ from → a.fresh ≡ false → a.bound ≡ None → (said : List Said)
+      → said ≡ nothing_said first → GoesIn content images since moment d s from first d a first said
+  goes_first are a store_is from_is fresh_is bound_is said said_is = record {
+    rounds = [];
+    ran = subst (λ (z : RoundStart). HasRounds content images since moment p (point_at d z.store) from r [] z.fresh z.from
+        (registry_of (view z.store.pass) z.store.registrar)) (λ i. same i) none_ran;
+    many = refl;
+    next = λ b fresh numbered have. (have, numbered, fresh ∙ fresh_is, tt);
+    begins = λ b begins. begins ∙ from_is;
+    saying = λ b numbered many.
+        ap (λ (z : List Said). lanes_after b.fresh (bound_items None) z b.lanes)
+        (nothing_same 1 b.lanes first many numbered (λ i x at. (are.new i x at).number_is) ∙ sym said_is)
+        ∙ ap (λ (z : Option Boundary). lanes_after b.fresh (bound_items z) said b.lanes) (sym bound_is);
+  }
+    where
+      same : record { store = s; from = from; fresh = false; bound = None } ≡ a
+      same i = record { store = sym store_is i; from = sym from_is i; fresh = sym fresh_is i; bound = sym bound_is i }
+
+  -- where nothing was done
+  runs_self : (q : Point D) → Runs content images since moment q q (λ w. Unit {0})
+  runs_self q = runs_step content images since moment q q (λ w. Unit {0}) (here_self content images since moment q)
+      (later_self q.view) (λ past sound w may. tt)
+
+  -- memory ran out before it
+  pub stops_none : (e : Stopped) → e.store ≡ Some s → e.why ≡ fault.Memory → CanGoOn images d s from
+      → StopsBlock content images since moment d s from first d e
+  stops_none e store why go = record {
+    rounds = [];
+    cut = None;
+    do_lanes = tt;
+    stops = record {
+      named = λ is. (let bad : fault.Memory ≡ fault.None = sym why ∙ is in absurd cc);
+      at = p;
+      disk_is = refl;
+      store = subst (λ (z : Option Store). IfSome z (λ x. (p ≡ point_at d x) × CanClose x)) (sym store)
+          (refl, close_of images d s from go);
+      lost = λ none. why;
+      fresh = false;
+      end = from;
+      cut_by = tt;
+      ran = rounds_end content images since moment p p p from from r r [] false none_ran (runs_self p)
+          (learns_self (view s.pass)) go.end refl;
+      whole = λ past sound. subst IsUndamaged (sym why) tt;
+    };
+  }
+
+  -- ---- behind a round
+
+  module _ (disk : D) (a : RoundStart) (lanes : List Lane) (said : List Said)
+      (g : GoesIn content images since moment d s from first disk a lanes said) (are : AreLanes lanes)
+      (disk' : D) (m : Store) (ran : List Lane) (end : BlockEnd) (many : length ran ≡ length lanes) (kept : AreKept lanes ran)
+      (log : m.log ≡ a.store.log)
+      (goes : GoesOnHere content images since moment (point_at disk a.store) (point_at disk' m))
+      (later : Later (view a.store.pass) (view m.pass)) (ends : HasEnd (view m.pass) end.to)
+      (leaves : Leaves (Behind content images disk a.store disk') m.file.flusher.count (view a.store.pass) (view m.pass)
+      a.store.registrar m.registrar a.from ran end) where
+    abbrev pub before : Point D
+    before = point_at disk a.store
+
+    abbrev pub at : Point D
+    at = point_at disk' m
+
+    abbrev pub known : Registry
+    known = registry_of (view a.store.pass) a.store.registrar
+
+    abbrev pub then : Registry
+    then = registry_of (view m.pass) m.registrar
+
+    abbrev pub Past : Whole → Type 0
+    Past = Behind content images disk a.store disk'
+
+    abbrev pub b : Round
+    b = left Past m.file.flusher.count (view a.store.pass) (view m.pass) a.store.registrar m.registrar a.from ran end leaves a.fresh
+
+    pairs : Pairs IsKept lanes ran
+    pairs = kept_pairs lanes ran many kept
+
+    numbered : AreNumbered ran
+    numbered = ran_numbered lanes ran are pairs
+
+    done : DoLanes first (g.rounds ++ b ∷ [])
+    done = g.next b refl numbered (pairs_map IsKept (λ x y. to_do y ≡ x.works) (λ x y k. sym k.works) lanes ran pairs)
+
+    told : block_said (g.rounds ++ b ∷ []) ≡ lanes_after a.fresh (bound_items a.bound) said ran
+    told = g.saying b numbered (many ∙ g.many)
+
+    shape : at.shape ≡ before.shape
+    shape = ap (λ (l : Log). l.shape) log
+
+    -- a lane met a fault
+    pub stops_cut : (why : RunFault) → IsFirstFault ran why → (low high : ℕ) → At (λ i x. Stops Past low high x) ran → CanClose m
+        → StopsBlock content images since moment d s from first disk' (record { store = Some m; why = why })
+    stops_cut why f low high stops close = record {
+      rounds = g.rounds;
+      cut = Some b;
+      do_lanes = done;
+      stops = record {
+        named = first_named ran why f;
+        at = at;
+        disk_is = refl;
+        store = (refl, close);
+        lost = λ none. absurd cc;
+        fresh = a.fresh;
+        end = end.to;
+        cut_by = f;
+        ran = rounds_cut content images since moment p before at from a.from end.to r known then g.rounds a.fresh b g.ran goes later shape
+            (left_cut Past m.file.flusher.count (view a.store.pass) (view m.pass) a.store.registrar m.registrar a.from ran end leaves
+            a.fresh) ends;
+        whole = λ past sound.
+            let n = behind_next content images since moment p before _ (content disk') g.ran.runs goes.told_before past sound in
+            lane_whole Past low high ran why stops f n.0 n.1;
+      };
+    }
+
+    module _ (whole : AreWhole ran) (close : CanClose m) where
+      all : HasRounds content images since moment p at from r (g.rounds ++ b ∷ []) false end.to then
+      all = rounds_more content images since moment p before at from a.from end.to r known then g.rounds a.fresh b g.ran goes later shape
+          (left_whole Past m.file.flusher.count (view a.store.pass) (view m.pass) a.store.registrar m.registrar a.from ran end leaves
+          a.fresh whole)
+
+      -- no new table could be begun
+      pub stops_roll : (disk'' : D) (e : Stopped) → StopsRoll content images since moment disk' m end.to disk'' e
+          → StopsBlock content images since moment d s from first disk'' e
+      stops_roll disk'' e k = record {
+        rounds = g.rounds ++ b ∷ [];
+        cut = None;
+        do_lanes = done;
+        stops = record {
+          named = commit_named e.why k.named;
+          at = k.at;
+          disk_is = k.disk_is;
+          store = k.store;
+          lost = k.lost;
+          fresh = false;
+          end = end.to;
+          cut_by = tt;
+          ran = rounds_end content images since moment p at k.at from end.to r then (g.rounds ++ b ∷ []) false all k.runs k.learns k.end
+              k.shape;
+          whole = λ past sound. commit_well e.why k.named;
+        };
+      }
+
+      module _ (fresh : Bool) (disk'' : D) (t : Store)
+          (renewed : IsRenewed content images since moment disk' m end.to fresh disk'' t)
+          (above : fresh ≡ true → m.log.key.number < end.to) where
+        abbrev pub q : Point D
+        q = point_at disk'' t
+
+        now : HasRounds content images since moment p q from r (g.rounds ++ b ∷ []) fresh end.to (registry_of (view t.pass) t.registrar)
+        now = by fresh above renewed
+          where
+            higher : m.log.key.number < end.to → RollsOn content images since moment disk' m end.to disk'' t
+                → at.view.about.number < q.view.about.number
+            higher less k = subst (λ (n : ℕ). at.view.about.number < n) (sym (ap (λ (z : Key). z.number) k.go.can.of.about ∙ k.number))
+                (subst (λ (z : Key). z.number < end.to) (sym close.of.about) less)
+
+            by : (f : Bool) → (f ≡ true → m.log.key.number < end.to) → IsRenewed content images since moment disk' m end.to f disk'' t
+                → HasRounds content images since moment p q from r (g.rounds ++ b ∷ []) f end.to (registry_of (view t.pass) t.registrar)
+            by false less k = subst (λ (z : D). HasRounds content images since moment p (point_at z t) from r (g.rounds ++ b ∷ []) false
+                end.to (registry_of (view t.pass) t.registrar)) (sym k.0)
+                (subst (λ (z : Store). HasRounds content images since moment p (point_at disk' z) from r (g.rounds ++ b ∷ []) false end.to
+                (registry_of (view z.pass) z.registrar)) (sym k.1) all)
+            by true less k = rounds_rolled content images since moment p at q from end.to r then (g.rounds ++ b ∷ [])
+                (registry_of (view t.pass) t.registrar) all k.runs k.registry k.unshut k.shape (higher (less refl) k)
+
+        -- memory ran out behind it
+        pub stops_then : (e : Stopped) → e.store ≡ Some t → e.why ≡ fault.Memory → CanGoOn images disk'' t end.to
+            → StopsBlock content images since moment d s from first disk'' e
+        stops_then e store why go = record {
+          rounds = g.rounds ++ b ∷ [];
+          cut = None;
+          do_lanes = done;
+          stops = record {
+            named = λ is. (let bad : fault.Memory ≡ fault.None = sym why ∙ is in absurd cc);
+            at = q;
+            disk_is = refl;
+            store = subst (λ (z : Option Store). IfSome z (λ x. (q ≡ point_at disk'' x) × CanClose x)) (sym store)
+                (refl, close_of images disk'' t end.to go);
+            lost = λ none. why;
+            fresh = fresh;
+            end = end.to;
+            cut_by = tt;
+            ran = rounds_end content images since moment p q q from end.to r (registry_of (view t.pass) t.registrar) (g.rounds ++ b ∷ [])
+                fresh now (runs_self q) (learns_self (view t.pass)) go.end refl;
+            whole = λ past sound. subst IsUndamaged (sym why) tt;
+          };
+        }
+
+        module _ (lanes' : List Lane) (said' : List Said)
+            (h : HasStepped fresh a.fresh a.bound said said' ran lanes') where
+          -- the lanes go on
+          pub goes_more : GoesIn content images since moment d s from first disk''
+              (record { store = t; from = end.to; fresh = fresh; bound = end.bound }) lanes' said'
+          goes_more = record {
+            rounds = g.rounds ++ b ∷ [];
+            ran = now;
+            many = pairs_length (λ x y. GoesOnWith fresh x (to_do y) × IsNewLane x.number y) ran lanes' h.next ∙ many ∙ g.many;
+            next = λ c same number have.
+                do_push first g.rounds b c done (goes_next lanes ran are pairs fresh lanes' h.next c.fresh same c.lanes have) number;
+            begins = λ c begins. first_push g.rounds b c ∙ g.begins b refl;
+            saying = λ c number size. block_push g.rounds b c
+                ∙ ap (λ (z : List Said). lanes_after c.fresh (bound_items end.bound) z c.lanes) (told ∙ sym h.said_are);
+          }
+
+          -- or came to their ends
+          pub ends_rounds : fresh ≡ false → LeaveNone ran → CanGoOn images disk'' t end.to
+              → EndsRounds content images since moment d s from first disk'' t end said'
+          ends_rounds old none go = record {
+            go = go;
+            rounds = g.rounds ++ b ∷ [];
+            do_lanes = done;
+            all = all_push g.rounds b none;
+            ran = subst (λ (f : Bool). HasRounds content images since moment p q from r (g.rounds ++ b ∷ []) f end.to
+                (registry_of (view t.pass) t.registrar)) old now;
+            first = g.begins b refl;
+            last = end_push g.rounds b;
+            said_are = h.said_are ∙ sym told;
+          }

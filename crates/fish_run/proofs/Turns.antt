@@ -1,0 +1,341 @@
+-- Rounds, one after the other, over tables that take each other's place.
+use Rattle.std.proofs.Common.{◌≡◌, ℕ, ◌<◌, ◌≤◌, List, [], ◌∷◌, ◌++◌, refl, sym, ap, ◌∙◌, subst, inl, inr, ⊎_elim}
+use Rattle.std.proofs.Common.{Bool, None, Option, Some, false, true, append_assoc}
+use Rattle.std.specs.Prelude.{IsSome}
+use Rattle.fish_lanes.specs.Ending.{HasEnd}
+use Rattle.fish_lanes.specs.Outcome.{IsFullIn}
+use Rattle.fish_lanes.specs.Registering.{Registry}
+use Rattle.fish_rule.proofs.laws.Lists.{among_either, among_left, among_right}
+use Rattle.fish_rule.specs.Logs.{Learns}
+use Rattle.fish_rule.specs.Views.{Among}
+use Rattle.fish_rule.specs.declared.view.Shut.{Shut}
+use Rattle.fish_rule.specs.declared.view.View.{View}
+use Rattle.fish_run.proofs.Blocks.{committed_later, committed_more, marked_later, marks_more}
+use Rattle.fish_run.proofs.Tables.{table_both, table_cut, table_more, table_on, table_rolled, table_self}
+use Rattle.fish_run.specs.Blocks.{AreAcknowledged, AreFullSince, AreMarked, HasFoundFull, IsFullOf, Round, TellsCut, TellsFirst, TellsOne}
+use Rattle.fish_run.specs.Blocks.{TellsRest, TellsRounds, after_round, after_rounds, begun, begun_for, first_items, in_table, last_table}
+use Rattle.fish_run.specs.Blocks.{left_table, with_cut}
+use Rattle.fish_run.specs.Steps.{HasCutOne, HasRounds, HasRunFirst, HasRunOne, IsTableAfter}
+use Rattle.fish_store.proofs.Running.{runs_both}
+use Rattle.fish_store.specs.Sound.{GoesOnHere, IsSoundBehind, Point, Runs}
+use Rattle.fish_whole.proofs.Parts.{goes_later}
+use Rattle.fish_whole.specs.Whole.{Later, Whole, Will}
+
+-- ---- what rounds tell
+
+-- one more, which begins where they end
+tells_push : (w : Whole) (from mid : ℕ) (r : Registry) (rounds : List Round) (b : Round) → b.span.from ≡ mid
+    → TellsRounds w from r rounds mid → TellsOne w mid (begun_for b (after_rounds r rounds)) b
+    → TellsRounds w from r (rounds ++ b ∷ []) b.span.to
+tells_push w from mid r [] b at h one = (subst (λ (z : ℕ). TellsOne w z (begun_for b r) b) (sym h) one, refl)
+tells_push w from mid r (x ∷ rounds) b at h one =
+    (h.0, tells_push w x.span.to mid (after_round (begun_for x r) x) rounds b at h.1 one)
+
+-- and others
+tells_join : (w : Whole) (from mid to : ℕ) (r : Registry) (rounds more : List Round) → TellsRounds w from r rounds mid
+    → TellsRounds w mid (after_rounds r rounds) more to → TellsRounds w from r (rounds ++ more) to
+tells_join w from mid to r [] more h next = subst (λ (z : ℕ). TellsRounds w z r more to) (sym h) next
+tells_join w from mid to r (x ∷ rounds) more h next =
+    (h.0, tells_join w x.span.to mid to (after_round (begun_for x r) x) rounds more h.1 next)
+
+-- the registry after one more, and after others
+after_push : (r : Registry) (rounds : List Round) (b : Round)
+    → after_rounds r (rounds ++ b ∷ []) ≡ after_round (begun_for b (after_rounds r rounds)) b
+after_push r [] b = refl
+after_push r (x ∷ rounds) b = after_push (after_round (begun_for x r) x) rounds b
+
+after_join : (r : Registry) (rounds more : List Round) → after_rounds r (rounds ++ more) ≡ after_rounds (after_rounds r rounds) more
+after_join r [] more = refl
+after_join r (x ∷ rounds) more = after_join (after_round (begun_for x r) x) rounds more
+
+-- ---- the last table
+
+last_push : (before rounds : List Round) (b : Round)
+    → last_table before (rounds ++ b ∷ []) ≡ in_table b.fresh (last_table before rounds) ++ b ∷ []
+last_push before [] b = refl
+last_push before (x ∷ rounds) b = last_push (in_table x.fresh before ++ x ∷ []) rounds b
+
+last_join : (before rounds more : List Round) → last_table before (rounds ++ more) ≡ last_table (last_table before rounds) more
+last_join before [] more = refl
+last_join before (x ∷ rounds) more = last_join (in_table x.fresh before ++ x ∷ []) rounds more
+
+since_push : (before rounds : List Round) (b : Round) → AreFullSince before rounds
+    → HasFoundFull (in_table b.fresh (last_table before rounds)) b.span.full → AreFullSince before (rounds ++ b ∷ [])
+since_push before [] b h one = (one, tt)
+since_push before (x ∷ rounds) b h one = (h.0, since_push (in_table x.fresh before ++ x ∷ []) rounds b h.1 one)
+
+since_join : (before rounds more : List Round) → AreFullSince before rounds → AreFullSince (last_table before rounds) more
+    → AreFullSince before (rounds ++ more)
+since_join before [] more h next = next
+since_join before (x ∷ rounds) more h next = (h.0, since_join (in_table x.fresh before ++ x ∷ []) rounds more h.1 next)
+
+-- the cut one comes after all
+pub cut_join : (rounds more : List Round) (cut : Option Round) → with_cut (rounds ++ more) cut ≡ rounds ++ with_cut more cut
+cut_join rounds more None = refl
+cut_join rounds more (Some b) = append_assoc rounds more (b ∷ [])
+
+left_join : (fresh : Bool) (before rounds more : List Round) (cut : Option Round)
+    → left_table fresh before (rounds ++ more) cut ≡ left_table fresh (last_table before rounds) more cut
+left_join fresh before rounds more None = ap (in_table fresh) (last_join before rounds more)
+left_join fresh before rounds more (Some b) =
+    ap (last_table before) (append_assoc rounds more (b ∷ [])) ∙ last_join before rounds (more ++ b ∷ [])
+
+-- ---- a full table
+
+full_left : (rounds : List Round) (b : Round) (line lines end : ℕ) → IsFullOf rounds line lines end
+    → IsFullOf (rounds ++ b ∷ []) line lines end
+full_left rounds b line lines end h = (h.0, among_left h.0 rounds (b ∷ []) h.1, h.2)
+
+-- what shuts the pass after one more, an item tells of, and it is shut where one does
+full_push : (Past : Whole → Type 0) (count : ℕ) (fresh : Bool) (full : Option Shut) (u : View) (r t : Registry) (mid to : ℕ)
+    (rounds : List Round) (b : Round) → HasFoundFull rounds full → HasRunOne Past count fresh full u r t mid to b
+    → HasFoundFull (rounds ++ b ∷ []) u.shut
+full_push Past count fresh full u r t mid to rounds b before one = record {
+  told = λ c e. ⊎_elim (λ (same : full ≡ Some c). full_left rounds b c.line c.lines c.end (before.told c same))
+      (λ (k : IsFullIn b.lanes c.line c.lines c.end). (b, among_right b rounds (b ∷ []) (inl refl), k)) (one.shut c e);
+  some = λ line lines end f. ⊎_elim
+      (λ (m : Among f.0 rounds). let k = before.some line lines end (f.0, m, f.2) in (k.0, one.keeps k.0 k.1))
+      (λ (m : Among f.0 (b ∷ [])). one.shuts line lines end (here f.0 line lines end m f.2))
+      (among_either f.0 rounds (b ∷ []) f.1);
+}
+  where
+    here : (a : Round) (line lines end : ℕ) → Among a (b ∷ []) → IsFullIn a.lanes line lines end → IsFullIn b.lanes line lines end
+    here a line lines end (inl e) k = subst (λ (z : Round). IsFullIn z.lanes line lines end) (sym e) k
+    here a line lines end (inr bad) k = elim bad [ ]
+
+-- no round found an unshut table full
+pub none_full : (full : Option Shut) → full ≡ None → HasFoundFull [] full
+none_full full unshut = record {
+  told = λ c e. (let bad : None ≡ Some c = sym unshut ∙ e in absurd cc);
+  some = λ line lines end f. elim f.1 [ ];
+}
+
+acknowledged_join : (count : ℕ) (rounds more : List Round) → AreAcknowledged count rounds → AreAcknowledged count more
+    → AreAcknowledged count (rounds ++ more)
+acknowledged_join count rounds more h k b among =
+    ⊎_elim (λ (m : Among b rounds). h b m) (λ (m : Among b more). k b m) (among_either b rounds more among)
+
+acknowledged_later : (count more : ℕ) (rounds : List Round) → count ≤ more → AreAcknowledged count rounds → AreAcknowledged more rounds
+acknowledged_later count more rounds rises h b among = committed_later count more (first_items b.lanes) rises (h b among)
+
+module _
+    {D : Type 0}
+    (content : D → Option (List ℕ))
+    (images : D → List ℕ → Type 0)
+    (since : D → ℕ → List ℕ → Type 0)
+    (moment : D → ℕ) where
+  -- ---- moments
+
+  -- what goes on in one table, and what is told behind every past
+  pub runs_step : (p q : Point D) (P : Whole → Type 0) → GoesOnHere content images since moment p q → Later p.view q.view
+      → ((past : Whole) → IsSoundBehind content images p (content q.disk) past → Will past q.view P)
+      → Runs content images since moment p q P
+  runs_step p q P h later told = record {
+    told_before = h.told_before;
+    rises = h.rises;
+    reaches = λ past s still. record {
+      next = past;
+      goes = goes_later past p.view q.view later s.fits;
+      told = told past (record { sound = s; told = still });
+      sound = h.sound past s still;
+      crash = h.crash past s still;
+    };
+  }
+
+  -- the moment itself
+  pub runs_self : (p : Point D) (P : Whole → Type 0) → GoesOnHere content images since moment p p → Later p.view p.view
+      → ((w : Whole) → P w) → Runs content images since moment p p P
+  runs_self p P h later all = runs_step p p P h later (λ past s w may. all w)
+
+  -- behind a past it is sound at a later moment too, behind another
+  pub behind_next : (p m : Point D) (P : Whole → Type 0) (later : Option (List ℕ)) → Runs content images since moment p m P
+      → (IsSome later → IsSome (content m.disk)) → (past : Whole) → IsSoundBehind content images p later past
+      → (next : Whole) × IsSoundBehind content images m later next
+  behind_next p m P later a told past s =
+      let r = a.reaches past s.sound (told s.told) in
+      (r.next, record { sound = r.sound; told = s.told })
+
+  -- ---- rounds
+
+  -- none ran
+  pub rounds_none : (p : Point D) (from : ℕ) (r : Registry) → GoesOnHere content images since moment p p → Later p.view p.view
+      → HasRounds content images since moment p p from r [] false from r
+  rounds_none p from r h later = record {
+    runs = runs_self p (λ w. TellsRounds w from r [] from) h later (λ w. refl);
+    after = refl;
+    committed = λ b among. elim among [ ];
+    fulls = λ before full. tt;
+    full = λ before full. full;
+    marks = λ before marked. marked;
+    shape = refl;
+    table = table_self p.view;
+  }
+
+  module _ (p m q : Point D) (from mid to : ℕ) (r s t : Registry) (rounds : List Round) (fresh : Bool) (b : Round)
+      (h : HasRounds content images since moment p m from r rounds fresh mid s) (goes : GoesOnHere content images since moment m q)
+      (later : Later m.view q.view) (shape : q.shape ≡ m.shape) where
+    -- one more tells of what it began with
+    began : b.fresh ≡ fresh → b.span.from ≡ mid → s ≡ begun_for b (after_rounds r rounds)
+    began fresh_is begins = h.after ∙ ap (λ (z : Bool). begun z mid (after_rounds r rounds)) (sym fresh_is)
+        ∙ ap (λ (z : ℕ). begun b.fresh z (after_rounds r rounds)) (sym begins)
+
+    acknowledged : AreAcknowledged q.flusher.count rounds
+    acknowledged = acknowledged_later m.flusher.count q.flusher.count rounds goes.rises h.committed
+
+    -- one more ran
+    pub rounds_more : HasRunOne (IsSoundBehind content images m (content q.disk)) q.flusher.count fresh m.view.shut q.view s t mid to b
+        → HasRounds content images since moment p q from r (rounds ++ b ∷ []) false to t
+    rounds_more one = record {
+      runs = runs_both content images since moment p m q (λ w. TellsRounds w from r rounds mid) (λ w. TellsOne w mid s b)
+          (λ w. TellsRounds w from r (rounds ++ b ∷ []) to)
+          (λ w before now. subst (TellsRounds w from r (rounds ++ b ∷ [])) one.ends
+          (tells_push w from mid r rounds b one.begins before
+          (subst (λ (z : Registry). TellsOne w mid z b) (began one.fresh_is one.begins) now)))
+          h.runs (runs_step m q (λ w. TellsOne w mid s b) goes later one.tells);
+      after = one.after ∙ ap (λ (z : Registry). after_round z b) (began one.fresh_is one.begins) ∙ sym (after_push r rounds b);
+      committed = committed_more q.flusher.count rounds b acknowledged one.committed;
+      fulls = λ before full. since_push before rounds b (h.fulls before full) (found before full);
+      full = λ before full. subst (λ (z : List Round). HasFoundFull z q.view.shut) (sym (last_push before rounds b))
+          (full_push (IsSoundBehind content images m (content q.disk)) q.flusher.count fresh m.view.shut q.view s t mid to
+          (in_table b.fresh (last_table before rounds)) b (table before full) one);
+      marks = λ before marked. subst (AreMarked q.view) (sym (last_push before rounds b))
+          (marks_more q.view (in_table b.fresh (last_table before rounds)) b
+          (marked_later m.view q.view (in_table b.fresh (last_table before rounds)) goes.learns
+          (subst (λ (z : Bool). AreMarked m.view (in_table z (last_table before rounds))) (sym one.fresh_is) (h.marks before marked)))
+          one.marks);
+      shape = shape ∙ h.shape;
+      table = table_more p.view m.view q.view rounds fresh b h.table one.fresh_is goes.learns.about;
+    }
+      where
+        table : (before : List Round) → HasFoundFull before p.view.shut
+            → HasFoundFull (in_table b.fresh (last_table before rounds)) m.view.shut
+        table before full =
+            subst (λ (z : Bool). HasFoundFull (in_table z (last_table before rounds)) m.view.shut) (sym one.fresh_is) (h.full before full)
+
+        found : (before : List Round) → HasFoundFull before p.view.shut
+            → HasFoundFull (in_table b.fresh (last_table before rounds)) b.span.full
+        found before full =
+            subst (HasFoundFull (in_table b.fresh (last_table before rounds))) (sym one.full_is) (table before full)
+
+    -- and one more was cut
+    pub rounds_cut : HasCutOne (IsSoundBehind content images m (content q.disk)) q.flusher.count fresh m.view.shut q.view s mid to b
+        → HasEnd q.view to → HasRunFirst content images since moment p q from r rounds fresh (Some b) to
+    rounds_cut one ends = record {
+      runs = runs_both content images since moment p m q (λ w. TellsRounds w from r rounds mid) (λ w. TellsCut w mid s b)
+          (λ w. TellsFirst w from r rounds (Some b) to)
+          (λ w before now. record {
+            to = mid;
+            whole = before;
+            rest = (subst (λ (z : Registry). TellsCut w mid z b) (began one.fresh_is one.begins) now, one.ends);
+          })
+          h.runs (runs_step m q (λ w. TellsCut w mid s b) goes later one.tells);
+      committed = committed_more q.flusher.count rounds b acknowledged one.committed;
+      fulls = λ before full. since_push before rounds b (h.fulls before full)
+          (subst (HasFoundFull (in_table b.fresh (last_table before rounds))) (sym one.full_is)
+          (subst (λ (z : Bool). HasFoundFull (in_table z (last_table before rounds)) m.view.shut) (sym one.fresh_is) (h.full before full)));
+      marks = λ before marked. subst (AreMarked q.view) (sym (last_push before rounds b))
+          (marks_more q.view (in_table b.fresh (last_table before rounds)) b
+          (marked_later m.view q.view (in_table b.fresh (last_table before rounds)) goes.learns
+          (subst (λ (z : Bool). AreMarked m.view (in_table z (last_table before rounds))) (sym one.fresh_is) (h.marks before marked)))
+          one.marks);
+      ends = ends;
+      shape = shape ∙ h.shape;
+      table = table_cut p.view m.view q.view rounds fresh b h.table one.fresh_is goes.learns.about;
+    }
+
+  module _ (p m q : Point D) (from mid : ℕ) (r s : Registry) (rounds : List Round) where
+    -- a new table was begun after them
+    pub rounds_rolled : (t : Registry) → HasRounds content images since moment p m from r rounds false mid s
+        → Runs content images since moment m q (λ w. Unit {0}) → t ≡ begun true mid s → q.view.shut ≡ None
+        → q.shape ≡ m.shape → m.view.about.number < q.view.about.number
+        → HasRounds content images since moment p q from r rounds true mid t
+    rounds_rolled t h runs is unshut shape higher = record {
+      runs = runs_both content images since moment p m q (λ w. TellsRounds w from r rounds mid) (λ w. Unit {0})
+          (λ w. TellsRounds w from r rounds mid) (λ w before now. before) h.runs runs;
+      after = is ∙ ap (begun true mid) h.after;
+      committed = acknowledged_later m.flusher.count q.flusher.count rounds runs.rises h.committed;
+      fulls = h.fulls;
+      full = λ before full. none_full q.view.shut unshut;
+      marks = λ before marked b among. elim among [ ];
+      shape = shape ∙ h.shape;
+      table = table_rolled p.view m.view q.view rounds h.table higher;
+    }
+
+    -- they ended the run, which goes on in the same table at most
+    pub rounds_end : (fresh : Bool) → HasRounds content images since moment p m from r rounds fresh mid s
+        → Runs content images since moment m q (λ w. Unit {0}) → Learns m.view q.view → HasEnd q.view mid → q.shape ≡ m.shape
+        → HasRunFirst content images since moment p q from r rounds fresh None mid
+    rounds_end fresh h runs learns ends shape = record {
+      runs = runs_both content images since moment p m q (λ w. TellsRounds w from r rounds mid) (λ w. Unit {0})
+          (λ w. TellsFirst w from r rounds None mid) (λ w before now. record { to = mid; whole = before; rest = refl }) h.runs runs;
+      committed = acknowledged_later m.flusher.count q.flusher.count rounds runs.rises h.committed;
+      fulls = h.fulls;
+      marks = λ before marked. marked_later m.view q.view (in_table fresh (last_table before rounds)) learns (h.marks before marked);
+      ends = ends;
+      shape = shape ∙ h.shape;
+      table = table_on p.view m.view q.view rounds fresh h.table learns.about;
+    }
+
+  -- what the first ones tell they tell later, where the store goes on in the same table at most
+  pub first_on : (p m q : Point D) (from to : ℕ) (r : Registry) (rounds : List Round) (fresh : Bool) (cut : Option Round)
+      → HasRunFirst content images since moment p m from r rounds fresh cut to → Runs content images since moment m q (λ w. Unit {0})
+      → Learns m.view q.view → HasEnd q.view to → q.shape ≡ m.shape
+      → HasRunFirst content images since moment p q from r rounds fresh cut to
+  first_on p m q from to r rounds fresh cut h runs learns ends shape = record {
+    runs = runs_both content images since moment p m q (λ w. TellsFirst w from r rounds cut to) (λ w. Unit {0})
+        (λ w. TellsFirst w from r rounds cut to) (λ w before now. before) h.runs runs;
+    committed = acknowledged_later m.flusher.count q.flusher.count (with_cut rounds cut) runs.rises h.committed;
+    fulls = h.fulls;
+    marks = λ before marked. marked_later m.view q.view (left_table fresh before rounds cut) learns (h.marks before marked);
+    ends = ends;
+    shape = shape ∙ h.shape;
+    table = table_on p.view m.view q.view (with_cut rounds cut) fresh h.table learns.about;
+  }
+
+  module _ (p m q : Point D) (from mid to : ℕ) (r s t : Registry) (rounds more : List Round)
+      (h : HasRounds content images since moment p m from r rounds false mid s) where
+    -- other rounds after them
+    pub rounds_both : (fresh : Bool) → HasRounds content images since moment m q mid s more fresh to t
+        → HasRounds content images since moment p q from r (rounds ++ more) fresh to t
+    rounds_both fresh k = record {
+      runs = runs_both content images since moment p m q (λ w. TellsRounds w from r rounds mid) (λ w. TellsRounds w mid s more to)
+          (λ w. TellsRounds w from r (rounds ++ more) to)
+          (λ w before now. tells_join w from mid to r rounds more before
+          (subst (λ (z : Registry). TellsRounds w mid z more to) h.after now)) h.runs k.runs;
+      after = k.after ∙ ap (begun fresh to) (ap (λ (z : Registry). after_rounds z more) h.after ∙ sym (after_join r rounds more));
+      committed = acknowledged_join q.flusher.count rounds more
+          (acknowledged_later m.flusher.count q.flusher.count rounds k.runs.rises h.committed) k.committed;
+      fulls = λ before full. since_join before rounds more (h.fulls before full) (k.fulls (last_table before rounds) (h.full before full));
+      full = λ before full. subst (λ (z : List Round). HasFoundFull (in_table fresh z) q.view.shut) (sym (last_join before rounds more))
+          (k.full (last_table before rounds) (h.full before full));
+      marks = λ before marked. subst (λ (z : List Round). AreMarked q.view (in_table fresh z)) (sym (last_join before rounds more))
+          (k.marks (last_table before rounds) (h.marks before marked));
+      shape = k.shape ∙ h.shape;
+      table = table_both p.view m.view q.view rounds more fresh h.table k.table;
+    }
+
+    -- and others, of which one was cut perhaps
+    pub rounds_first : (fresh : Bool) (cut : Option Round) → HasRunFirst content images since moment m q mid s more fresh cut to
+        → HasRunFirst content images since moment p q from r (rounds ++ more) fresh cut to
+    rounds_first fresh cut k = record {
+      runs = runs_both content images since moment p m q (λ w. TellsRounds w from r rounds mid) (λ w. TellsFirst w mid s more cut to)
+          (λ w. TellsFirst w from r (rounds ++ more) cut to)
+          (λ w before now. record {
+            to = now.to;
+            whole = tells_join w from mid now.to r rounds more before
+                (subst (λ (z : Registry). TellsRounds w mid z more now.to) h.after now.whole);
+            rest = subst (λ (z : Registry). TellsRest w now.to z cut to)
+                (ap (λ (z : Registry). after_rounds z more) h.after ∙ sym (after_join r rounds more)) now.rest;
+          }) h.runs k.runs;
+      committed = subst (AreAcknowledged q.flusher.count) (sym (cut_join rounds more cut))
+          (acknowledged_join q.flusher.count rounds (with_cut more cut)
+          (acknowledged_later m.flusher.count q.flusher.count rounds k.runs.rises h.committed) k.committed);
+      fulls = λ before full. subst (AreFullSince before) (sym (cut_join rounds more cut))
+          (since_join before rounds (with_cut more cut) (h.fulls before full) (k.fulls (last_table before rounds) (h.full before full)));
+      marks = λ before marked. subst (AreMarked q.view) (sym (left_join fresh before rounds more cut))
+          (k.marks (last_table before rounds) (h.marks before marked));
+      ends = k.ends;
+      shape = k.shape ∙ h.shape;
+      table = subst (λ (z : List Round). IsTableAfter p.view q.view z fresh) (sym (cut_join rounds more cut))
+          (table_both p.view m.view q.view rounds (with_cut more cut) fresh h.table k.table);
+    }

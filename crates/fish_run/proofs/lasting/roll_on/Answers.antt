@@ -1,0 +1,90 @@
+-- The log is committed, and a new table begins where it ends.
+use Rattle.std.proofs.Common.{◌∙◌, ap, refl, true}
+use Rattle.fish_rule.specs.Passes.{view}
+use Rattle.fish_run.proofs.Going.{may_roll, one_end, registry_reads, rolled_go, rolled_registry}
+use Rattle.fish_run.proofs.Turns.{runs_step}
+use Rattle.fish_store.proofs.Running.{runs_both}
+use Rattle.fish_run.specs.Blocks.{begun}
+use Rattle.fish_lanes.specs.Registering.{Registry}
+use Rattle.fish_rule.specs.declared.table.Log.{Log}
+use Rattle.fish_rule.specs.declared.view.View.{View}
+use Rattle.fish_flush.specs.declared.refusal.FlushRefusal.TheVariants as flush
+use Rattle.fish_store.specs.Points.{point_at}
+use Rattle.fish_run.proofs.lasting.roll_on.Goals as goal
+
+pub roll-requires : goal.roll-requires
+roll-requires g c =
+    let e = c.in-Ok.ensures in
+    record {
+      may = may_roll g.D.Disk.images c.commit.new.disk c.args.store c.commit.new.store c.args.from c.requires.go.can e.log e.registrar
+          e.close e.reads e.again e.all;
+    }
+
+pub returns-in-Ok-roll-clause-rolled : goal.returns-in-Ok-roll-clause-rolled
+returns-in-Ok-roll-clause-rolled g c =
+    let disk = g.D.Disk in
+    let e = c.in-Ok.ensures in
+    let s = c.args.store in
+    let m = c.commit.new.store in
+    let t = c.in-Ok-roll.next in
+    let h = c.in-Ok-roll.ensures.rolled in
+    let p = point_at c.args.disk.now s in
+    let at = point_at c.commit.new.disk m in
+    let q = point_at c.commit.new.disk t in
+    let same = one_end (view m.pass) m.file.flusher.count c.args.from e.close.of.stands e.all (e.end c.args.from c.requires.go.end) in
+    record {
+      runs = runs_both disk.content disk.images disk.since disk.moment p at q (λ w. Unit {0}) (λ w. Unit {0}) (λ w. Unit {0})
+          (λ w a b. tt)
+          (runs_step disk.content disk.images disk.since disk.moment p at (λ w. Unit {0}) e.goes e.later (λ past sound w may. tt)) h.runs;
+      go = rolled_go disk.content disk.images disk.since disk.moment c.commit.new.disk m t h c.args.from same;
+      unshut = h.unshut;
+      registry =
+          rolled_registry disk.content disk.images disk.since disk.moment c.commit.new.disk m t h c.args.from same
+          (ap (λ r. r.waiting) e.registrar ∙ c.requires.go.settled)
+          ∙ ap (λ (z : Registry). begun true c.args.from z)
+          (registry_reads s m e.registrar c.requires.go.can.of.stands e.close.of.stands c.requires.go.end.alone e.reads);
+      number = h.number ∙ same;
+      shape = h.shape ∙ ap (λ (l : Log). l.shape) e.log;
+    }
+
+pub returns-in-Err-roll-clause-stopped : goal.returns-in-Err-roll-clause-stopped
+returns-in-Err-roll-clause-stopped g c =
+    let disk = g.D.Disk in
+    let e = c.in-Ok.ensures in
+    let s = c.args.store in
+    let m = c.commit.new.store in
+    let p = point_at c.args.disk.now s in
+    let at = point_at c.commit.new.disk m in
+    record {
+      at = at;
+      disk_is = refl;
+      store = tt;
+      lost = λ none. refl;
+      named = (flush.OutOfMemory, refl);
+      runs = runs_step disk.content disk.images disk.since disk.moment p at (λ w. Unit {0}) e.goes e.later (λ past sound w may. tt);
+      end = e.end c.args.from c.requires.go.end;
+      learns = e.later.learns;
+      shut = ap (λ (z : View). z.shut) e.reads.frame;
+      shape = ap (λ (l : Log). l.shape) e.log;
+    }
+
+pub returns-in-Err-clause-stopped : goal.returns-in-Err-clause-stopped
+returns-in-Err-clause-stopped g c =
+    let disk = g.D.Disk in
+    let e = c.in-Err.ensures in
+    let s = c.args.store in
+    let m = c.commit.new.store in
+    let p = point_at c.args.disk.now s in
+    let at = point_at c.commit.new.disk m in
+    record {
+      at = at;
+      disk_is = refl;
+      store = (refl, e.close);
+      lost = λ none. absurd cc;
+      named = e.named;
+      runs = runs_step disk.content disk.images disk.since disk.moment p at (λ w. Unit {0}) e.goes e.later (λ past sound w may. tt);
+      end = e.end c.args.from c.requires.go.end;
+      learns = e.later.learns;
+      shut = ap (λ (z : View). z.shut) e.reads.frame;
+      shape = ap (λ (l : Log). l.shape) e.log;
+    }

@@ -1,0 +1,370 @@
+//! The rounds of a block: its lanes go on at once in one table, and where one finds it full, in a further round in a new one.
+
+ghost use Rattle.std.specs.Prelude.{◌≡◌, ◌≢◌, ◌≤◌, length, ℕ, List, [], IfErr, IfOk, IsSome, MatchOption, OnOk, Some, None, false, true};
+ghost use Rattle.fish_lanes.specs.Blocks.{AreKept, AreLanes, At};
+ghost use Rattle.fish_lanes.specs.Ending.{HasEnd};
+ghost use Rattle.fish_lanes.specs.Gains.{WasShut};
+ghost use Rattle.fish_lanes.specs.Outcome.{HandsBack, LeaveNone, Stops};
+ghost use Rattle.fish_lanes.specs.Registering.{registry_of};
+ghost use Rattle.fish_outside.specs.Causes.{Rose};
+ghost use Rattle.fish_rule.specs.Passes.{view};
+ghost use Rattle.fish_lanes.specs.Controlling.{bound_items};
+ghost use Rattle.fish_run.specs.Blocks.{IsFirstFault};
+ghost use Rattle.fish_run.specs.Going.{EndsBlock, EndsRounds, HasStepped, IsRenewed, RestOf, StepsLane, StopsBlock, StopsTurn, TurnsOn};
+ghost use Rattle.fish_run.specs.Rolls.{StopsRoll};
+ghost use Rattle.fish_run.specs.Rounds.{nothing_said};
+ghost use Rattle.fish_run.specs.Runs.{Behind, CanClose, CanGoOn};
+ghost use Rattle.fish_run.specs.Steps.{AreWhole, Leaves};
+ghost use Rattle.fish_store.specs.Points.{point_at};
+ghost use Rattle.fish_store.specs.Sound.{GoesOnHere};
+ghost use Rattle.fish_whole.specs.Whole.{Later};
+
+use crate::fault::RunFault;
+use crate::lasting::{Stopped, roll_on};
+use crate::saying::{Said, say, say_nothing};
+use crate::telling::fault_of;
+use fish_disk::Disk;
+use fish_lanes::{BlockEnd, Boundary, Gate, Lane, Work, Works, run_block};
+use fish_lines::{Begin, left_after};
+use fish_report::{Item, Items};
+use fish_rule::base;
+use fish_store::Store;
+use std::alloc::{AllocError, Global};
+use std::mem::replace;
+use std::thread::Threads;
+
+/// A store after a block, and what the block's lanes said.
+#[derive(Drop)]
+pub(crate) struct Ended {
+    pub store: Store,
+    pub said: Vec<Said>,
+    pub end: BlockEnd,
+}
+
+/// What a round of a block begins with.
+#[derive(Drop)]
+pub(crate) struct RoundStart {
+    /// The store.
+    pub store: Store,
+    /// How many entries its log has.
+    pub from: u32,
+    /// Whether its table was begun for this round, since the one before it was full.
+    pub fresh: bool,
+    /// The boundary that was found once the lanes of the round before had ended.
+    pub bound: Option<Boundary>,
+}
+
+/// What stands behind a round of a block.
+#[derive(Drop)]
+pub(crate) struct Turned {
+    /// What the next one begins with.
+    pub next: RoundStart,
+    /// Where this one ended.
+    pub end: BlockEnd,
+    /// Whether a lane goes on.
+    pub more: bool,
+}
+
+/// Runs the lanes of a block after a log of so many entries, up to the first fault, in as many rounds as the table is found full and
+/// something of it can be committed.
+pub(crate) fn run_rounds<R: Threads + Sync, D: Disk + Send, G: Gate + Sync>(
+    rt: &R,
+    alloc: Global,
+    store: Store,
+    from: u32,
+    lanes: Vec<Lane>,
+    disk: &mut D,
+    gate: &G,
+) -> Result<Ended, Stopped>
+    requires go { CanGoOn D.images disk.old store from }
+    requires lanes { AreLanes lanes.items }
+    ensures ended { IfOk result (EndsBlock D.content D.images D.since D.moment disk.old store from lanes.items disk.new) }
+    ensures stopped { IfErr result (StopsBlock D.content D.images D.since D.moment disk.old store from lanes.items disk.new) }
+    ensures inner { IfErr result (λ s. (s.why ≢ RunFault.Input) × (s.why ≢ RunFault.Output)) }
+    ensures rises { D.faults disk.old ≤ D.faults disk.new }
+    ensures disk { IfErr result (λ s. s.why ≡ RunFault.Disk → Rose (D.faults disk.old) (D.faults disk.new)) }
+{
+    let mut lanes = lanes;
+    match say_nothing(alloc, lanes.as_slice()) {
+        Ok(nothing) => {
+            let mut said = nothing;
+            let turned = run_turns(
+                rt,
+                alloc,
+                store,
+                from,
+                lanes.as_mut_slice(),
+                said.as_mut_slice(),
+                disk,
+                gate,
+            )?;
+            Ok(Ended {
+                store: turned.next.store,
+                said,
+                end: turned.end,
+            })
+        }
+        Err(_) => Err(out_of_memory(store)),
+    }
+}
+
+/// Runs lanes that said nothing yet, round after round.
+fn run_turns<R: Threads + Sync, D: Disk + Send, G: Gate + Sync>(
+    rt: &R,
+    alloc: Global,
+    store: Store,
+    from: u32,
+    lanes: &mut [Lane],
+    said: &mut [Said],
+    disk: &mut D,
+    gate: &G,
+) -> Result<Turned, Stopped>
+    requires go { CanGoOn D.images disk.old store from }
+    requires lanes { AreLanes lanes.old }
+    requires said { said.old ≡ nothing_said lanes.old }
+    ensures ended { IfOk result (λ t. EndsRounds D.content D.images D.since D.moment disk.old store from lanes.old disk.new
+        t.next.store t.end said.new) }
+    ensures stopped { IfErr result (StopsBlock D.content D.images D.since D.moment disk.old store from lanes.old disk.new) }
+    ensures inner { IfErr result (λ s. (s.why ≢ RunFault.Input) × (s.why ≢ RunFault.Output)) }
+    ensures rises { D.faults disk.old ≤ D.faults disk.new }
+    ensures disk { IfErr result (λ s. s.why ≡ RunFault.Disk → Rose (D.faults disk.old) (D.faults disk.new)) }
+{
+    let mut start = RoundStart {
+        store,
+        from,
+        fresh: false,
+        bound: None,
+    };
+    loop {
+        let turned = run_turn(rt, alloc, start, lanes, said, disk, gate)?;
+        if !turned.more {
+            return Ok(turned);
+        }
+        start = turned.next;
+    }
+}
+
+/// Runs lanes for a round, keeps what they said, and gives each what it goes on with, in a new table if something of the full one can be
+/// committed.
+fn run_turn<R: Threads + Sync, D: Disk + Send, G: Gate + Sync>(
+    rt: &R,
+    alloc: Global,
+    start: RoundStart,
+    lanes: &mut [Lane],
+    said: &mut [Said],
+    disk: &mut D,
+    gate: &G,
+) -> Result<Turned, Stopped>
+    requires go { CanGoOn D.images disk.old start.store start.from }
+    requires lanes { AreLanes lanes.old }
+    requires many { length lanes.old ≡ length said.old }
+    ensures on { IfOk result (TurnsOn D.content D.images D.since D.moment disk.old start lanes.old said.old disk.new
+        lanes.new said.new) }
+    ensures stopped { IfErr result (StopsTurn D.content D.images D.since D.moment disk.old start lanes.old said.old disk.new) }
+    ensures inner { IfErr result (λ s. (s.why ≢ RunFault.Input) × (s.why ≢ RunFault.Output)) }
+    ensures rises { D.faults disk.old ≤ D.faults disk.new }
+    ensures disk { IfErr result (λ s. s.why ≡ RunFault.Disk → Rose (D.faults disk.old) (D.faults disk.new)) }
+{
+    let mut store = start.store;
+    let end = run_round(rt, alloc, &mut store, start.from, lanes, disk, gate);
+    match first_fault(lanes) {
+        Ok(()) => {}
+        Err(why) => {
+            return Err(Stopped {
+                store: Some(store),
+                why,
+            });
+        }
+    }
+    let some = end.to > base(&store.log).number;
+    let more = go_on(lanes, some);
+    let fresh = more & some;
+    let next = renew(alloc, store, end.to, fresh, disk)?;
+    match step_all(alloc, fresh, start.fresh, start.bound, said, lanes) {
+        Ok(()) => Ok(Turned {
+            next: RoundStart {
+                store: next,
+                from: end.to,
+                fresh,
+                bound: end.bound,
+            },
+            end,
+            more,
+        }),
+        Err(_) => Err(out_of_memory(next)),
+    }
+}
+
+/// Fails where a lane stopped at a fault, with that of the first one.
+fn first_fault(lanes: &[Lane]) -> Result<(), RunFault>
+    ensures whole { OnOk result (AreWhole lanes.now) }
+    ensures first { IfErr result (IsFirstFault lanes.now) }
+{
+    let why = fault_of(lanes);
+    if why != RunFault::None {
+        return Err(why);
+    }
+    Ok(())
+}
+
+/// Begins a new table after a log of so many entries, where one is asked for.
+fn renew<D: Disk>(
+    alloc: Global,
+    store: Store,
+    from: u32,
+    fresh: bool,
+    disk: &mut D,
+) -> Result<Store, Stopped>
+    requires go { CanGoOn D.images disk.old store from }
+    ensures next { IfOk result (IsRenewed D.content D.images D.since D.moment disk.old store from fresh disk.new) }
+    ensures stopped { IfErr result (StopsRoll D.content D.images D.since D.moment disk.old store from disk.new) }
+    ensures rises { D.faults disk.old ≤ D.faults disk.new }
+    ensures disk { IfErr result (λ s. s.why ≡ RunFault.Disk → Rose (D.faults disk.old) (D.faults disk.new)) }
+{
+    if fresh {
+        roll_on(alloc, store, from, disk)
+    } else {
+        Ok(store)
+    }
+}
+
+/// A store with which the run stops, since memory ran out.
+fn out_of_memory(store: Store) -> Stopped
+    ensures store { result.store ≡ Some store }
+    ensures why { result.why ≡ RunFault.Memory }
+{
+    Stopped {
+        store: Some(store),
+        why: RunFault::Memory,
+    }
+}
+
+/// Runs lanes at once after a log of so many entries.
+fn run_round<R: Threads + Sync, D: Disk + Send, G: Gate + Sync>(
+    rt: &R,
+    alloc: Global,
+    store: &mut Store,
+    from: u32,
+    lanes: &mut [Lane],
+    disk: &mut D,
+    gate: &G,
+) -> BlockEnd
+    requires go { CanGoOn D.images disk.old store.old from }
+    requires lanes { AreLanes lanes.old }
+    ensures log { store.new.log ≡ store.old.log }
+    ensures close { CanClose store.new }
+    ensures end { HasEnd (view store.new.pass) result.to }
+    ensures later { Later (view store.old.pass) (view store.new.pass) }
+    ensures goes { GoesOnHere D.content D.images D.since D.moment (point_at disk.old store.old) (point_at disk.new store.new) }
+    ensures go { AreWhole lanes.new → CanGoOn D.images disk.new store.new result.to }
+    ensures leaves { Leaves (Behind D.content D.images disk.old store.old disk.new) store.new.file.flusher.count
+        (view store.old.pass) (view store.new.pass) store.old.registrar store.new.registrar from lanes.new result }
+    ensures kept { AreKept lanes.old lanes.new }
+    ensures left { HandsBack (view store.old.pass) (view store.new.pass) lanes.new }
+    ensures goes_on { WasShut (view store.old.pass) → LeaveNone lanes.new }
+    ensures stops { At (λ i x. Stops (Behind D.content D.images disk.old store.old disk.new) (D.faults disk.old)
+        (D.faults disk.new) x) lanes.new }
+    ensures rises { D.faults disk.old ≤ D.faults disk.new }
+{
+    run_block(rt, alloc, store, disk, lanes, gate)
+}
+
+/// Whether a lane goes on: with what it handed back; and where a new table may be begun, with the rest of its last file.
+fn go_on(lanes: &[Lane], full: bool) -> bool
+    ensures done { result ≡ false → LeaveNone lanes.now }
+    ensures left { result ≡ true → full ≡ false → LeaveNone lanes.now → ⊥ }
+{
+    for lane in lanes {
+        if lane.left.len() > 0 || (full && is_cut(lane)) {
+            return true;
+        }
+    }
+    false
+}
+
+/// Whether a lane's last statement is a file of which records are left.
+fn is_cut(lane: &Lane) -> bool {
+    match lane.items.as_slice().last() {
+        Some(Item::IngestFull { .. }) => true,
+        _ => false,
+    }
+}
+
+/// Keeps what lanes said in a round, and gives each what it goes on with.
+fn step_all(
+    alloc: Global,
+    full: bool,
+    fresh: bool,
+    bound: Option<Boundary>,
+    said: &mut [Said],
+    lanes: &mut [Lane],
+) -> Result<(), AllocError>
+    requires { length lanes.old ≡ length said.old }
+    ensures { OnOk result (HasStepped full fresh bound said.old said.new lanes.old lanes.new) }
+{
+    if lanes.len() == 0 {
+        return Ok(());
+    }
+    let (first_said, other_said) = said.split_at_mut(1);
+    let (first, others) = lanes.split_at_mut(1);
+    step(alloc, full, fresh, bound, &mut first_said[0], &mut first[0])?;
+    step_all(alloc, full, fresh, None, other_said, others)
+}
+
+/// The same of one lane.
+fn step(
+    alloc: Global,
+    full: bool,
+    fresh: bool,
+    bound: Option<Boundary>,
+    said: &mut Said,
+    lane: &mut Lane,
+) -> Result<(), AllocError>
+    ensures { OnOk result (StepsLane full fresh (bound_items bound) said.old said.new lane.old lane.new) }
+{
+    let rest = if full { rest_of(alloc, lane)? } else { None };
+    let mut works = replace(&mut lane.left, Works::new(alloc));
+    match rest {
+        Some(work) => works.push_first(work)?,
+        None => {}
+    }
+    lane.works = works;
+    let items = replace(&mut lane.items, Items::new(alloc));
+    say(&mut said.items, fresh, bound, items)
+}
+
+/// The rest of a lane's last file, where its last item says that the table was full.
+fn rest_of(alloc: Global, lane: &Lane) -> Result<Option<Work>, AllocError>
+    ensures { IfOk result (RestOf lane.now) }
+{
+    match (lane.works.as_slice().last(), lane.items.as_slice().last()) {
+        (
+            Some(
+                Work::Ingest {
+                    form,
+                    begin,
+                    name,
+                    file,
+                },
+            ),
+            Some(
+                Item::IngestFull {
+                    stored,
+                    refused,
+                    ..
+                },
+            ),
+        ) => {
+            let many = u64::from(*stored) + u64::from(*refused);
+            let name = name.again(alloc)?;
+            let file = left_after(alloc, *form, *begin, file.as_bytes(), many)?;
+            Ok(Some(Work::Ingest {
+                form: *form,
+                begin: Begin::After,
+                name,
+                file,
+            }))
+        }
+        _ => Ok(None),
+    }
+}
