@@ -1,11 +1,11 @@
 -- What the opening and the run of a script say of the disk, put together.
-use Rattle.std.proofs.Common.{◌≡◌, ℕ, List, ap, subst}
+use Rattle.std.proofs.Common.{◌≡◌, ℕ, List, ◌++◌, ap, subst}
 use Rattle.std.specs.Prelude.{Bool, true, Option, Some, None, IsSome}
 use Rattle.fish_outside.specs.Told.{Files}
 use Rattle.fish_recover.specs.declared.opened.Opened.{Opened}
 use Rattle.fish_recover.specs.declared.refusal.Asked.{Asked}
 use Rattle.fish_rule.specs.declared.close.Remains.{Remains}
-use Rattle.fish_run.specs.Blocks.{Block}
+use Rattle.fish_run.specs.Blocks.{Round, rounds_of}
 use Rattle.fish_run.specs.Ran.{IsStopped, Keeps, StoodFor, opened_item}
 use Rattle.fish_run.specs.Reports.{first_item}
 use Rattle.fish_run.specs.declared.fault.RunFault.{RunFault}
@@ -19,12 +19,12 @@ use Rattle.fish_program.specs.Stores.{Opens}
 module _ {D : Type 0} (content : D → Option (List ℕ)) (images : D → List ℕ → Type 0) (since : D → ℕ → List ℕ → Type 0)
     (moment : D → ℕ) where
   -- what is kept of all that the store stood for is kept of what the disk held
-  keeps_held : (disk mid disk' : D) (asked : Asked) (o : Opened) (ended : Bool) (blocks : List Block) (cut : Option Block)
+  keeps_held : (disk mid disk' : D) (asked : Asked) (o : Opened) (ended : Bool) (rounds : List Round) (cut : Option Round)
       (remains : Remains) → Opens content images since moment disk mid disk' asked o → IsSome (content disk')
       → ((c : Commit) (log : List Entry) (t : ℕ) → StoodFor content images since moment mid disk' o c log t
-      → Keeps (images disk') (since disk' t) c log ended blocks cut remains)
-      → KeepsHeld content images since moment disk disk' asked (opened_item o) ended blocks cut remains
-  keeps_held disk mid disk' asked o ended blocks cut remains opens some keeps =
+      → Keeps (images disk') (since disk' t) c log ended rounds cut remains)
+      → KeepsHeld content images since moment disk disk' asked (opened_item o) ended rounds cut remains
+  keeps_held disk mid disk' asked o ended rounds cut remains opens some keeps =
       let held = opens.held some in record {
         image = held.image;
         read = held.read;
@@ -40,7 +40,7 @@ module _ {D : Type 0} (content : D → Option (List ℕ)) (images : D → List �
 
   pub whole_keeps : WholeRunsKeep content images since moment
   whole_keeps disk disk' asked told text old new o r some =
-      keeps_held disk r.mid disk' asked r.opened true r.whole.blocks None r.log r.opens some r.whole.keeps
+      keeps_held disk r.mid disk' asked r.opened true (rounds_of r.whole.blocks) None r.log r.opens some r.whole.keeps
 
   -- a log is left of a stopped run that has one
   left_some : (mid disk' : D) (o : Opened) (told : Option Files) (text : List script.Block) (old new : Option (List ℕ)) (why : RunFault)
@@ -53,4 +53,4 @@ module _ {D : Type 0} (content : D → Option (List ℕ)) (images : D → List �
   pub stopped_keeps : StoppedRunsKeep content images since moment
   stopped_keeps disk disk' asked told text old new why o r log is some =
       let s = left_some r.mid disk' r.opened told text old new why o.remains log is r.left in
-      (s, keeps_held disk r.mid disk' asked r.opened s.ended s.blocks s.cut log r.opens some s.keeps)
+      (s, keeps_held disk r.mid disk' asked r.opened s.ended (rounds_of s.blocks ++ s.part) s.cut log r.opens some s.keeps)

@@ -1,5 +1,5 @@
 -- What the ends of a run say together of a disk that is told in the end: laws.
-use Rattle.std.specs.Prelude.{ℕ, ◌≡◌, ◌+◌, ◌≤◌, List, Bool, true, Option, Some, None, IsSome}
+use Rattle.std.specs.Prelude.{ℕ, ◌≡◌, ◌+◌, ◌≤◌, List, ◌++◌, Bool, true, Option, Some, None, IsSome}
 use Rattle.fish_catalog.specs.declared.commit.Commit.{Commit}
 use Rattle.fish_catalog.specs.declared.entry.Entry.{Entry}
 use Rattle.fish_outside.specs.Told.{Files}
@@ -7,7 +7,7 @@ use Rattle.fish_recover.specs.Stores.{IsOf}
 use Rattle.fish_recover.specs.declared.refusal.Asked.{Asked}
 use Rattle.fish_report.specs.declared.item.Item.{Item}
 use Rattle.fish_rule.specs.declared.close.Remains.{Remains}
-use Rattle.fish_run.specs.Blocks.{Block}
+use Rattle.fish_run.specs.Blocks.{Round, rounds_of}
 use Rattle.fish_run.specs.Ran.{IsStopped, Keeps, opened_item}
 use Rattle.fish_run.specs.Reports.{first_item}
 use Rattle.fish_run.specs.declared.fault.RunFault.{RunFault}
@@ -24,7 +24,7 @@ pub record KeepsHeld
     (images : D → List ℕ → Type 0)
     (since : D → ℕ → List ℕ → Type 0)
     (moment : D → ℕ)
-    (disk disk' : D) (asked : Asked) (first : Item) (ended : Bool) (blocks : List Block) (cut : Option Block)
+    (disk disk' : D) (asked : Asked) (first : Item) (ended : Bool) (rounds : List Round) (cut : Option Round)
     (remains : Remains) : Type 0 where
   pub image : List ℕ
   pub read : content disk ≡ Some image
@@ -35,7 +35,7 @@ pub record KeepsHeld
   pub first_is : first ≡ first_item made commit.count
   pub from : ℕ
   pub early : from ≤ moment disk + first_calls made
-  pub keeps : Keeps (images disk') (since disk' from) commit log ended blocks cut remains
+  pub keeps : Keeps (images disk') (since disk' from) commit log ended rounds cut remains
 
 -- ---- of disks of which these are told
 
@@ -47,7 +47,8 @@ module _ {D : Type 0} (content : D → Option (List ℕ)) (images : D → List �
       (old new : Option (List ℕ)) (o : Outcome)
       (r : IsWholeRun content images since moment disk disk' asked told text old new o)
       → IsSome (content disk')
-      → KeepsHeld content images since moment disk disk' asked (opened_item r.opened) true r.whole.blocks None r.log
+      → KeepsHeld content images since moment disk disk' asked (opened_item r.opened) true (rounds_of r.whole.blocks) None
+      r.log
 
   -- a run that stopped keeps what the disk held, and what was committed
   abbrev pub StoppedRunsKeep : Type 0
@@ -56,4 +57,5 @@ module _ {D : Type 0} (content : D → Option (List ℕ)) (images : D → List �
       (r : IsStoppedRun content images since moment disk disk' asked told text old new why o) (log : Remains)
       → o.remains ≡ Some log → IsSome (content disk')
       → (s : IsStopped content images since moment r.mid disk' r.opened told text log old new why)
-      × KeepsHeld content images since moment disk disk' asked (opened_item r.opened) s.ended s.blocks s.cut log
+      × KeepsHeld content images since moment disk disk' asked (opened_item r.opened) s.ended
+      (rounds_of s.blocks ++ s.part) s.cut log

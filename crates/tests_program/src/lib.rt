@@ -13,4 +13,6 @@ mod holds;
 #[cfg(test)]
 mod outside;
 #[cfg(test)]
+mod rolls;
+#[cfg(test)]
 mod stores;
