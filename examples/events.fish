@@ -1,4 +1,4 @@
-# A tour of the log, over the events that stand beside this file. From the top of the repository:
+# A tour of the log, over the events beside this file. From the top of the repository:
 #
 #     fishstore run store examples/events.fish
 #
