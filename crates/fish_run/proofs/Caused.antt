@@ -1,6 +1,6 @@
 -- Why a run stopped, by the counts of faults of the outside.
-use Rattle.std.proofs.Common.{◌≡◌, ◌≢◌, refl, arith}
-use Rattle.fish_outside.proofs.CauseLemmas.{Rose_earlier, Rose_later}
+use Rattle.std.proofs.Common.{◌≡◌, ◌≢◌, refl}
+use Rattle.fish_outside.proofs.CauseLemmas.{Rose_earlier}
 use Rattle.fish_outside.specs.Causes.{Rose}
 use Rattle.fish_outside.specs.declared.fault.FeedRefusal.{FeedRefusal}
 use Rattle.fish_outside.specs.declared.fault.FeedRefusal.TheVariants as feed
@@ -10,17 +10,6 @@ use Rattle.fish_run.specs.Faults.{feed_fault, write_fault}
 use Rattle.fish_run.specs.Steps.{AreLater, Counts, IsCausedBy}
 use Rattle.fish_run.specs.declared.fault.RunFault.{RunFault}
 use Rattle.fish_run.specs.declared.fault.RunFault.TheVariants as fault
-
--- counts that didn't fall
-pub later_all : (a b c : Counts) → AreLater a b → AreLater b c → AreLater a c
-later_all a b c h t =
-    let host = h.0 in
-    let host' = t.0 in
-    let out = h.1.0 in
-    let out' = t.1.0 in
-    let disk = h.1.1 in
-    let disk' = t.1.1 in
-    (omega arith, (omega arith, omega arith))
 
 -- a file couldn't be read
 pub caused_read : (a b : Counts) (r : FeedRefusal) → (r ≡ feed.Failed → Rose a.host b.host) → IsCausedBy a b (feed_fault r)
@@ -48,11 +37,4 @@ caused_since a b c why h k = record {
   input = λ is. Rose_earlier a.host b.host c.host h.0 (k.input is);
   output = λ is. Rose_earlier a.out b.out c.out h.1.0 (k.output is);
   disk = λ is. Rose_earlier a.disk b.disk c.disk h.1.1 (k.disk is);
-}
-
-pub caused_till : (a b c : Counts) (why : RunFault) → IsCausedBy a b why → AreLater b c → IsCausedBy a c why
-caused_till a b c why k h = record {
-  input = λ is. Rose_later a.host b.host c.host (k.input is) h.0;
-  output = λ is. Rose_later a.out b.out c.out (k.output is) h.1.0;
-  disk = λ is. Rose_later a.disk b.disk c.disk (k.disk is) h.1.1;
 }

@@ -1,9 +1,8 @@
 -- The control pass from block to block.
-use Rattle.std.proofs.Common.{◌≡◌, ℕ, ◌+◌, ◌*◌, ◌/◌, ◌%◌, ◌^◌, ◌<◌, ◌≤◌, List, [], ◌∷◌, ◌++◌, length, map, refl}
+use Rattle.std.proofs.Common.{◌≡◌, ℕ, ◌+◌, ◌*◌, ◌/◌, ◌%◌, ◌^◌, ◌<◌, ◌≤◌, List, [], ◌∷◌, length, map, refl}
 use Rattle.std.proofs.Common.{sym, ap, ◌∙◌, subst, inl, ⊎_elim, true, arith}
 use Rattle.std.proofs.Math.Decide.{dec_lt}
-use Rattle.std.proofs.Common.{All, None, Option, Some, Result, Ok, Err, slice_get, append-nil, drop, take}
-use Rattle.std.proofs.lemmas.List.{drop_all, take_all}
+use Rattle.std.proofs.Common.{All, None, Option, Some, Result, Ok, Err, slice_get}
 use Rattle.std.proofs.lemmas.Nat.{div-mul-add, mod-mul-add}
 use Rattle.std.specs.Prelude.{IfErr, OnOk}
 use Rattle.std.specs.Result.{IsErrAnd}
@@ -49,17 +48,16 @@ use Rattle.fish_run.specs.Blocks.{begun, first_registry}
 use Rattle.fish_run.specs.Runs.{CanClose, CanGoOn, IsNewStore, IsTable}
 use Rattle.fish_run.specs.Steps.{AreWhole}
 use Rattle.fish_scan.specs.Colder.{IsBelow}
-use Rattle.fish_store.proofs.Running.{behind_on}
 use Rattle.fish_store.specs.Opened.{opened_point}
 use Rattle.fish_store.specs.Points.{point_at}
 use Rattle.fish_store.specs.Rolling.{HasRolled, MayRoll}
-use Rattle.fish_store.specs.Sound.{GoesOnHere, IsSoundBehind, MayGoOn, Point}
+use Rattle.fish_store.specs.Sound.{GoesOnHere, MayGoOn, Point}
 use Rattle.fish_store.specs.declared.store.Store.{Store}
 use Rattle.fish_walk.proofs.Looking.{ends_later}
 use Rattle.fish_walk.specs.Looks.{IsTailCount}
 use Rattle.fish_walk.specs.Settling.{EndsAt}
 use Rattle.fish_rule.specs.Logs.{TellsMark}
-use Rattle.fish_whole.specs.Whole.{Later, Whole}
+use Rattle.fish_whole.specs.Whole.{Later}
 
 -- ---- in front of the first block
 
@@ -386,23 +384,6 @@ here_self content images since moment p = record {
   crash = λ past s told. record { later = omega arith; now = λ c here. s.now c here; before = λ t c early left. inl left };
 }
 
-module _
-    {D : Type 0}
-    (content : D → Option (List ℕ))
-    (images : D → List ℕ → Type 0)
-    (since : D → ℕ → List ℕ → Type 0)
-    (moment : D → ℕ)
-    (p m q : Point D) where
-  -- a past that a disk is told to have later it was told to have before
-  pub behind_before : GoesOnHere content images since moment m q → (past : Whole) → IsSoundBehind content images p (content q.disk) past
-      → IsSoundBehind content images p (content m.disk) past
-  behind_before h past s = record { sound = s.sound; told = h.told_before s.told }
-
-  -- and the store is sound behind it still
-  pub behind_then : GoesOnHere content images since moment p m → GoesOnHere content images since moment m q → (past : Whole)
-      → IsSoundBehind content images p (content q.disk) past → IsSoundBehind content images m (content q.disk) past
-  behind_then h t past s = behind_on content images since moment p m (content q.disk) past h s t.told_before
-
 -- the control pass may close the log where it may go on
 pub close_of : {D : Type 0} (images : D → List ℕ → Type 0) (disk : D) (s : Store) (from : ℕ) → CanGoOn images disk s from → CanClose s
 close_of images disk s from go = record { of = go.can.of; alone = go.end.alone; table = go.table }
@@ -412,13 +393,6 @@ pub table_same : (s t : Store) → t.log ≡ s.log → IsTable s.log → IsTable
 table_same s t same h = subst IsTable (sym same) h
 
 -- ---- behind a block
-
--- items that were all given back are those that were written
-pub items_back : {A : Type 0} (n : ℕ) (new items : List A) → length items ≡ n → length new ≡ n
-    → take n (new ++ drop (length new) items) ≡ new
-items_back n new items many same =
-    ap (λ (z : List _). take n (new ++ z)) (drop_all (length new) items (omega arith))
-    ∙ ap (take n) (append-nil new) ∙ take_all n new (omega arith)
 
 -- a list that is not empty has a first element
 pub first_there : {A : Type 0} (xs : List A) → 0 < length xs → (x : A) × (slice_get xs 0 ≡ Some x)

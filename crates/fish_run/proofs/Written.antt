@@ -28,10 +28,6 @@ part_of old new sent left text all gained = (
 pub part_whole : (old new : Option (List ℕ)) (text : List ℕ) → Gained old new text → GainedPart old new text
 part_whole old new text a = (length text, subst (Gained old new) (sym (take_all (length text) text (omega arith))) a)
 
--- and so is nothing
-pub part_none : (old new : Option (List ℕ)) (text : List ℕ) → Gained old new [] → GainedPart old new text
-part_none old new text a = (0, a)
-
 -- a step that wrote nothing
 pub gained_none : (old mid new : Option (List ℕ)) (text : List ℕ) → Gained old mid text → Gained mid new [] → Gained old new text
 gained_none old mid new text a b = subst (Gained old new) (append-nil text) (Gained_trans old mid new text [] a b)
