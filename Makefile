@@ -45,9 +45,10 @@ soak: build
 try:
 	for crate in $(TESTS); do (cd crates/$$crate && rt try --test --seconds 120) || exit 1; done
 
-# Tries every wrong body of every crate: each has to be refused.
+# Tries every wrong body of every crate: each has to be refused. And no function may be dear to check.
 edits:
 	rt all check --jobs $(JOBS)
+	tools/generated
 	tools/edits --jobs $(JOBS) $(CRATES)
 
 # The merge gate: every proof from nothing, the must-fail edits, the programs, the tests and the cases.
