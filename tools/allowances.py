@@ -6,8 +6,9 @@ FILE = TOP / ".ci" / "allowances.txt"
 
 
 def held(measures, found, lower):
-    """Holds what was found of these measures to the lines: {(measure, place): figure}, of what is over its budget alone. Prints what has
-    no line or is over it, and what fell below it; with `lower` it rewrites the lines that fell. Answers how many faults there are."""
+    """Holds what was found of these measures to the lines: {(measure, place): figure}, of what is over its budget alone. A fault is what
+    has no line or is over it, and a line that nothing needs; a figure that fell is only said. With `lower` such lines are rewritten.
+    Answers how many faults there are."""
     faults, kept, lines = 0, [], set()
     for line in FILE.read_text(encoding="utf-8").splitlines():
         words = line.split()
@@ -20,8 +21,9 @@ def held(measures, found, lower):
         if figure > allowed:
             print(f"{measure} {place}: {figure}, over the {allowed} of .ci/allowances.txt")
         elif figure < allowed and not lower:
-            print(f"{measure} {place}: {figure or 'none'}, and .ci/allowances.txt still allows {allowed}: lower it (--lower)")
-        faults += figure > allowed or figure < allowed and not lower
+            said = f"{figure}, so its line can be lowered from {allowed}" if figure else "within its budget, so its line has to go"
+            print(f"{measure} {place}: {said} (--lower)")
+        faults += figure > allowed or not figure and not lower
         if figure:
             kept.append(f"{measure} {place} {min(figure, allowed)}")
     for measure, place in sorted(set(found) - lines):
