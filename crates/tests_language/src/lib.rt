@@ -1,11 +1,9 @@
-//! Tests of the language, catalogues, plans, scripts, reports and words, over the public calls of the crates below:
-//! tables of cases with answers from outside the program.
+//! Tests of the language, catalogues, plans, scripts and reports, over the public calls of the crates below: tables of
+//! cases with answers from outside the program.
 #![tactic(auto)]
 
 #[cfg(test)]
 mod catalog;
-#[cfg(test)]
-mod commands;
 #[cfg(test)]
 mod definitions;
 #[cfg(test)]

@@ -1,4 +1,4 @@
 pub mod Heads
 pub mod Kept
 pub mod Scanning
-pub mod Seats
+pub mod SeatLemmas

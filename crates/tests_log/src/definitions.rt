@@ -114,13 +114,7 @@ fn expect_defs<R: Abort>(rt: &R, alloc: Global, active: &[ActiveDef], texts: &[&
 }
 
 /// Asserts that the active definitions are those with these texts, at a version.
-pub(crate) fn expect_active<R: Abort>(
-    rt: &R,
-    alloc: Global,
-    defs: &Defs,
-    version: u16,
-    texts: &[&str],
-) {
+fn expect_active<R: Abort>(rt: &R, alloc: Global, defs: &Defs, version: u16, texts: &[&str]) {
     expect(rt, "the version", &defs.version(), &version);
     expect_defs(rt, alloc, defs.active(), texts);
 }

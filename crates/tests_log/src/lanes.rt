@@ -12,8 +12,8 @@ use crate::cause::Cause;
 use fish_epoch::Defs;
 use fish_ingest::{IngestRefusal, ingest};
 use fish_rule::{Log, Pass, in_flight, join_pass, lane as lane_of, split_pass};
-use fish_value::Form;
-use std::alloc::Global;
+use fish_value::{Form, Text};
+use std::alloc::{AllocError, Global};
 
 /// The pass of a lane, which the control pass gives out.
 pub(crate) fn split_lane(log: &Log, main: &mut Pass, number: u8) -> Pass
@@ -24,6 +24,17 @@ pub(crate) fn split_lane(log: &Log, main: &mut Pass, number: u8) -> Pass
     ensures out { IsOutOf log.now result }
 {
     split_pass(log, main, number)
+}
+
+/// A payload that was written.
+pub(crate) fn as_text(text: String, done: Result<(), AllocError>) -> Result<Text, AllocError> {
+    match done {
+        Ok(()) => Ok(Text::from_string(text)),
+        Err(error) => {
+            drop(text);
+            Err(error)
+        }
+    }
 }
 
 /// Stores a payload in a form. Its number, or why it was not stored.

@@ -13,8 +13,6 @@ mod cause;
 #[cfg(test)]
 mod chains;
 #[cfg(test)]
-mod churn;
-#[cfg(test)]
 mod claims;
 #[cfg(test)]
 mod definitions;
@@ -51,6 +49,8 @@ mod registrations;
 mod rounds;
 #[cfg(test)]
 mod scans;
+#[cfg(test)]
+mod seats;
 #[cfg(test)]
 mod settling;
 #[cfg(test)]

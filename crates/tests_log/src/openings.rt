@@ -13,9 +13,12 @@ use crate::logs::{ONE_PAGE, name_of, parsed};
 use fish_catalog::Catalog;
 use fish_lang::LangRefusal;
 use fish_psf::ActiveDef;
-use fish_rule::{Log, Pass, Shape, Start, open_log};
+use fish_rule::{Base, Log, Pass, Shape, Start, open_log};
 use fish_value::Text;
 use std::alloc::{AllocError, Global};
+
+/// Where an empty store begins.
+pub(crate) const FIRST: Base = Base { number: 0, line: 0 };
 
 /// A log of two pages.
 pub(crate) const TWO_PAGES: Shape = Shape {

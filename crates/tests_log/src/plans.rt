@@ -11,19 +11,17 @@ use crate::asks::{Question, ask_of};
 use crate::cause::Cause;
 use crate::expecting::expect_text;
 use crate::logs::{ONE_PAGE, empty_log};
+use crate::openings::FIRST;
 use crate::registrations::{begin, poll};
 use crate::rounds::{Lane, lane_of, store_pushes};
 use crate::scans::told_explain;
 use crate::stories::PUSHES;
 use fish_catalog::Catalog;
 use fish_registry::{Poll, Registrar};
-use fish_rule::{Base, Log, Pass};
+use fish_rule::{Log, Pass};
 use fish_scan::How;
 use std::alloc::Global;
 use std::test::Fail;
-
-/// Where an empty store begins.
-const FIRST: Base = Base { number: 0, line: 0 };
 
 /// What lane 2 asks behind its three records, and the plan.
 const PLANS: &[(Question, &str)] = &[

@@ -14,25 +14,22 @@ ghost use Rattle.tests_log.specs.Lanes.{IsOutOf};
 ghost use Rattle.tests_log.specs.Registering.{AreOut, IsBeside, IsKept};
 
 use crate::cause::Cause;
-use crate::churn::{split_three, take_three, wait};
-use crate::lanes::store;
+use crate::lanes::{as_text, store};
 use crate::logs::{ONE_PAGE, closed, empty_log};
+use crate::openings::FIRST;
 use crate::questions::{ASKED, CHANGING, KIND, Kept, ask_at, keep};
-use crate::registrations::{begin, end};
+use crate::registrations::{begin_beside, end_beside};
 use crate::scans::scan_between;
-use crate::threads::Seat;
+use crate::seats::{Seat, split_beside, take_three};
 use fish_catalog::{Catalog, Entries};
 use fish_epoch::Defs;
 use fish_registry::Registrar;
-use fish_rule::{Base, Log, Pass, lane as lane_of};
+use fish_rule::{Log, Pass, lane as lane_of};
 use fish_scan::{Answer, Ask, ScanRefusal};
 use fish_value::Text;
 use std::alloc::{AllocError, Global};
 use std::fmt::Write;
 use std::thread::{Threads, for_each_mut, join_mut};
-
-/// Where an empty store begins.
-const FIRST: Base = Base { number: 0, line: 0 };
 
 /// How many records each lane stores, and how many of them between two of its scans.
 pub(crate) const RECORDS: usize = 240;
@@ -68,13 +65,8 @@ fn write_payload(text: &mut String, lane: u8, place: usize) -> Result<(), AllocE
 /// That payload.
 fn payload_of(alloc: Global, lane: u8, place: usize) -> Result<Text, AllocError> {
     let mut text = String::new(alloc);
-    match write_payload(&mut text, lane, place) {
-        Ok(()) => Ok(Text::from_string(text)),
-        Err(error) => {
-            drop(text);
-            Err(error)
-        }
-    }
+    let done = write_payload(&mut text, lane, place);
+    as_text(text, done)
 }
 
 /// Stores the record of a place. Whether it did.
@@ -178,37 +170,6 @@ fn run_all<R: Threads + Sync>(rt: &R, alloc: Global, log: &Log, racers: &mut [Ra
     );
 }
 
-/// Registers a definition, of a name and a text, and waits until its index begins.
-fn add(
-    alloc: Global,
-    log: &Log,
-    main: &mut Pass,
-    registrar: &mut Registrar,
-    definition: (&str, &str),
-) -> Result<(), Cause>
-    requires { IsBeside log.now main.old registrar.old }
-    ensures { IsBeside log.now main.new registrar.new }
-{
-    if begin(alloc, log, main, registrar, definition.0, definition.1)?.is_err() {
-        return Err(Cause("not registered"));
-    }
-    wait(log, main, registrar)
-}
-
-/// Ends the definition of a name. Whether it did.
-fn remove(
-    alloc: Global,
-    log: &Log,
-    main: &mut Pass,
-    registrar: &mut Registrar,
-    name: &str,
-) -> Result<bool, Cause>
-    requires { IsBeside log.now main.old registrar.old }
-    ensures { IsBeside log.now main.new registrar.new }
-{
-    Ok(end(alloc, log, main, registrar, name)?.is_ok())
-}
-
 /// Scans beside the lanes, with definitions that are read anew.
 fn scan_beside(
     alloc: Global,
@@ -257,8 +218,8 @@ fn change(
     ensures { IsBeside log.now main.new registrar.new }
 {
     let definition = CHANGING[turn % 2];
-    if turn < 2 || remove(alloc, log, main, registrar, definition.0)? {
-        return add(alloc, log, main, registrar, definition);
+    if turn < 2 || end_beside(alloc, log, main, registrar, definition.0)? {
+        return begin_beside(alloc, log, main, registrar, definition);
     }
     Err(Cause("not ended"))
 }
@@ -296,7 +257,7 @@ fn change_beside<R: Threads + Sync>(
     ensures beside { IsBeside log.now main.new registrar.new }
     ensures racers { AreOut log.now racers.new (λ racer. racer.seat.pass) }
 {
-    add(alloc, log, main, registrar, KIND)?;
+    begin_beside(alloc, log, main, registrar, KIND)?;
     let (done, ()) = join_mut(
         rt,
         &mut || change_all(alloc, log, main, registrar, kept),
@@ -393,7 +354,7 @@ fn race<R: Threads + Sync>(
     ensures pass { IsPassOf log.now main.new }
     ensures alone { OnOk result (IsAlone (view main.new)) }
 {
-    let seats = split_three(log, main, registrar);
+    let seats = split_beside(log, main, registrar);
     let mut racers = racers_of(alloc, log, seats);
     let mut kept = Vec::new(alloc);
     match change_beside(rt, alloc, log, main, registrar, &mut racers, &mut kept) {

@@ -12,6 +12,7 @@ use crate::cause::Cause;
 use crate::expecting::{expect, expect_text};
 use crate::lanes::store;
 use crate::logs::{ONE_PAGE, empty_log};
+use crate::openings::FIRST;
 use crate::registrations::{begin, end, poll, split_kept};
 use crate::statements::told_scanned;
 use crate::stories::PUSHES;
@@ -19,13 +20,10 @@ use fish_catalog::Catalog;
 use fish_epoch::Defs;
 use fish_ingest::{finish, start};
 use fish_registry::{Poll, RegRefusal, Registrar};
-use fish_rule::{Base, Log, Pass};
+use fish_rule::{Log, Pass};
 use fish_value::Form;
 use std::alloc::Global;
 use std::test::Fail;
-
-/// Where an empty store begins.
-const FIRST: Base = Base { number: 0, line: 0 };
 
 /// The payload of each record.
 const PUSH: &[u8] = b"{\"type\":\"Push\",\"n\":1}";

@@ -9,15 +9,12 @@ use crate::bodies::{claim_words, publish_words, store_lines};
 use crate::cause::Cause;
 use crate::expecting::expect;
 use crate::logs::{ONE_PAGE, empty_log};
-use crate::openings::TWO_PAGES;
+use crate::openings::{FIRST, TWO_PAGES};
 use fish_layout::Body;
-use fish_rule::{Base, Log, Pass, lane, split_pass};
+use fish_rule::{Log, Pass, lane, split_pass};
 use fish_walk::{Settled, settle};
 use std::alloc::Global;
 use std::test::Fail;
-
-/// Where both logs begin.
-const FIRST: Base = Base { number: 0, line: 0 };
 
 /// What a pass settles.
 fn settled_by(log: &Log, pass: &mut Pass) -> Result<Settled, Cause>

@@ -7,6 +7,7 @@ use crate::asks::{Question, Wanted, ask_of};
 use crate::cause::Cause;
 use crate::expecting::expect_text;
 use crate::logs::{ONE_PAGE, empty_log};
+use crate::openings::FIRST;
 use crate::registrations::{begin_between, end_between, poll_between, store_kept};
 use crate::scans::{told_explain, told_scan};
 use crate::stories::Statement::{self, Begin, End, Explain, Look, Scan, Store, StoreLong};
@@ -14,15 +15,12 @@ use crate::stories::{AGAIN, BEHIND_RECORDS, PAST_THE_END, RANGES, REFUSALS, Stor
 use fish_catalog::Catalog;
 use fish_epoch::Defs;
 use fish_registry::{Poll, Registrar};
-use fish_rule::{Base, Log, Pass};
+use fish_rule::{Log, Pass};
 use fish_scan::How;
 use std::alloc::Global;
 use std::fmt::Write;
 use std::process::Abort;
 use std::test::Fail;
-
-/// Where an empty store begins.
-const FIRST: Base = Base { number: 0, line: 0 };
 
 /// Stores a payload. Its number, or why it was not stored.
 fn told_store_word(

@@ -1,6 +1,6 @@
 -- Each pass is out.
 use Rattle.std.proofs.Common.{arith}
-use Rattle.tests_log.proofs.Seats.{all_three}
+use Rattle.tests_log.proofs.SeatLemmas.{all_three}
 use Rattle.tests_log.specs.Lanes.{IsOutOf}
 use Rattle.tests_log.specs.declared.races.Racer.{Racer}
 use Rattle.tests_log.proofs.races.racers_of.Goals as goal

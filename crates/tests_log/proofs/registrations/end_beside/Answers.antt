@@ -1,6 +1,6 @@
 -- The lanes are out as before.
 use Rattle.tests_log.proofs.Kept.{beside_on}
-use Rattle.tests_log.proofs.races.remove.Goals as goal
+use Rattle.tests_log.proofs.registrations.end_beside.Goals as goal
 
 pub returns : goal.returns
 returns c =
