@@ -8,13 +8,15 @@ use Rattle.fish_lanes.proofs.Lists.{all_more, filter_first, filter_last, filter_
 use Rattle.fish_lanes.proofs.Items.{TellsAll, behind_is, made_append, shown_in, tells_cut, tells_ended, tells_more}
 use Rattle.fish_lanes.proofs.Publishing.{published_later}
 use Rattle.fish_lanes.proofs.Showing.{full_fit, item_settles, item_shown}
-use Rattle.fish_lanes.specs.Doing.{IsFit}
-use Rattle.fish_lanes.specs.Gains.{Gains, KeepsShut}
+use Rattle.fish_lanes.specs.within.Doing.{IsFit}
+use Rattle.fish_lanes.specs.Gains.{KeepsShut}
+use Rattle.fish_lanes.specs.within.Gains.{Gains}
 use Rattle.fish_lanes.specs.Records.{LaneRow, contents}
-use Rattle.fish_lanes.specs.Running.{HasRun, IsFullItem}
+use Rattle.fish_lanes.specs.within.Running.{HasRun, IsFullItem}
 use Rattle.fish_lanes.specs.Seen.{Shown, settled, shown_by}
-use Rattle.fish_lanes.specs.Sizes.{TellsShut}
-use Rattle.fish_lanes.specs.Spans.{IsWithinSpan, Span, answers, is_answer, made_by}
+use Rattle.fish_lanes.specs.within.Sizes.{TellsShut}
+use Rattle.fish_lanes.specs.Spans.{Span, answers, is_answer, made_by}
+use Rattle.fish_lanes.specs.within.Spans.{IsWithinSpan}
 use Rattle.fish_lanes.specs.Telling.{TellsItem, content_of, count_of}
 use Rattle.fish_lanes.specs.declared.work.LaneFault.{LaneFault}
 use Rattle.fish_lanes.specs.declared.work.LaneFault.TheVariants as fault

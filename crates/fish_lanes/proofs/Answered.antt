@@ -12,12 +12,11 @@ use Rattle.fish_epoch.specs.declared.definitions.Known.{Known}
 use Rattle.fish_lanes.proofs.Across.{parts_selected}
 use Rattle.fish_lanes.proofs.Publishing.{settled_published}
 use Rattle.fish_lang.specs.Definition.{Definition}
-use Rattle.fish_lanes.specs.Doing.{FindsAcross}
-use Rattle.fish_lanes.specs.Doing.{IsPlannedAt, IsRefusedAt, IsScanned}
-use Rattle.fish_lanes.specs.Published.{IsPublished}
-use Rattle.fish_lanes.specs.Scanning.{AreOpen, HasRows, HoldsSeen, IsAskedFor, IsAskedRange, IsRefusedFor, TellsPlan}
-use Rattle.fish_lanes.specs.Scanning.{TellsScan}
-use Rattle.fish_lanes.specs.Spans.{IsWithinSpan, Span}
+use Rattle.fish_lanes.specs.within.Doing.{FindsAcross, IsPlannedAt, IsRefusedAt, IsScanned}
+use Rattle.fish_lanes.specs.within.Published.{IsPublished}
+use Rattle.fish_lanes.specs.Scanning.{AreOpen, HasRows, HoldsSeen, IsAskedFor, IsAskedRange, IsRefusedFor, TellsPlan, TellsScan}
+use Rattle.fish_lanes.specs.Spans.{Span}
+use Rattle.fish_lanes.specs.within.Spans.{IsWithinSpan}
 use Rattle.fish_plan.proofs.Inside.{index_inside, piece_within}
 use Rattle.fish_plan.specs.Pieces.{one_full}
 use Rattle.fish_plan.specs.declared.pieces.Piece.{Piece}

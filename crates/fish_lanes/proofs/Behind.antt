@@ -13,11 +13,13 @@ use Rattle.fish_lanes.proofs.Moments.{get_there}
 use Rattle.fish_lanes.proofs.Pages.{here_same}
 use Rattle.fish_lanes.proofs.Single.{only_fewer}
 use Rattle.fish_lanes.proofs.Stepping.{rows_self, stays_pass}
-use Rattle.fish_lanes.specs.Advancing.{HasFinished, HasGone}
-use Rattle.fish_lanes.specs.Blocks.{AreDone, AreGone, AreSeated, Both, CanGive, HasGiven, HasRunFirst}
-use Rattle.fish_lanes.specs.Course.{AllRan}
-use Rattle.fish_lanes.specs.Pasts.{IsHere, WasHere}
-use Rattle.fish_lanes.specs.Running.{IsReady, IsShared}
+use Rattle.fish_lanes.specs.within.Advancing.{HasFinished, HasGone}
+use Rattle.fish_lanes.specs.Blocks.{Both}
+use Rattle.fish_lanes.specs.within.Blocks.{AreDone, AreGone, AreSeated, CanGive, HasGiven, HasRunFirst}
+use Rattle.fish_lanes.specs.within.Course.{AllRan}
+use Rattle.fish_lanes.specs.within.Pasts.{IsHere, WasHere}
+use Rattle.fish_lanes.specs.Running.{IsShared}
+use Rattle.fish_lanes.specs.within.Running.{IsReady}
 use Rattle.fish_lanes.specs.declared.lane.Lane.{Lane}
 use Rattle.fish_lanes.specs.declared.lane.Seated.{Seated}
 use Rattle.fish_lanes.specs.declared.work.Work.{Work}

@@ -2,9 +2,10 @@
 use Rattle.std.proofs.Common.{◌≡◌, List, [], ◌∷◌, ◌++◌, Option, Some, sym, ◌∙◌, subst, inl, inr, ⊎_elim, Bool, true, false, refl}
 use Rattle.fish_lanes.proofs.Items.{shown_in}
 use Rattle.fish_lanes.proofs.Lists.{filter_first, filter_skip, some_once}
-use Rattle.fish_lanes.specs.Running.{IsFullItem}
+use Rattle.fish_lanes.specs.within.Running.{IsFullItem}
 use Rattle.fish_lanes.specs.Seen.{claimed, shown_by}
-use Rattle.fish_lanes.specs.Sizes.{NamesOneClaim, TellsClaim, TellsShut}
+use Rattle.fish_lanes.specs.Sizes.{NamesOneClaim, TellsClaim}
+use Rattle.fish_lanes.specs.within.Sizes.{TellsShut}
 use Rattle.fish_lanes.specs.Spans.{answers, is_answer}
 use Rattle.fish_report.specs.declared.item.Item.{Item}
 use Rattle.fish_report.specs.declared.item.Item.TheVariants as item

@@ -7,10 +7,11 @@ use Rattle.fish_ingest.specs.Ingestion.{CanStart}
 use Rattle.fish_lanes.proofs.Controls.{take_nothing}
 use Rattle.fish_lanes.proofs.Gaining.{gains_reads}
 use Rattle.fish_lanes.proofs.Lists.{all_more}
-use Rattle.fish_lanes.specs.Controlling.{CanControl, HasPolled, IsCommitted, IsPartControlled}
-use Rattle.fish_lanes.specs.Doing.{FitsCheckpoint, IsFit, IsItem}
-use Rattle.fish_lanes.specs.Pasts.{anywhere}
-use Rattle.fish_lanes.specs.Registering.{KeepsRegistry}
+use Rattle.fish_lanes.specs.Controlling.{CanControl, IsCommitted}
+use Rattle.fish_lanes.specs.within.Controlling.{HasPolled, IsPartControlled}
+use Rattle.fish_lanes.specs.within.Doing.{FitsCheckpoint, IsFit, IsItem}
+use Rattle.fish_lanes.specs.within.Pasts.{anywhere}
+use Rattle.fish_lanes.specs.within.Registering.{KeepsRegistry}
 use Rattle.fish_lanes.specs.Telling.{count_of}
 use Rattle.fish_lanes.specs.declared.work.Work.{Work}
 use Rattle.fish_lanes.specs.declared.work.Work.TheVariants as work

@@ -14,15 +14,16 @@ use Rattle.fish_lanes.proofs.Registrations.{after_more, registry_later}
 use Rattle.fish_lanes.proofs.Showing.{fit_answer}
 use Rattle.fish_lanes.proofs.Gaining.{alone_gains}
 use Rattle.fish_lanes.proofs.Single.{fit_closed, fit_single, none_there, only_fewer, only_last, only_later, some_there}
-use Rattle.fish_lanes.specs.Controlling.{Does, HasControlled, HasPolled, IsControlled, IsPartControlled, RollsBy, TellsTail}
-use Rattle.fish_lanes.specs.Doing.{GainsFirst, IsFit, IsItem, IsPart}
+use Rattle.fish_lanes.specs.within.Controlling.{Does, HasControlled, HasPolled, IsControlled, IsPartControlled, RollsBy, TellsTail}
+use Rattle.fish_lanes.specs.within.Doing.{GainsFirst, IsFit, IsItem, IsPart}
 use Rattle.fish_lanes.specs.Ending.{HasEnd}
-use Rattle.fish_lanes.specs.Gains.{Gains}
+use Rattle.fish_lanes.specs.within.Gains.{Gains}
 use Rattle.fish_lanes.specs.Pending.{AreFound}
-use Rattle.fish_lanes.specs.Plans.{AreBoundsIn, KnowsRows, PlansAreSoBy, TellsPlans}
+use Rattle.fish_lanes.specs.Plans.{KnowsRows, TellsPlans}
+use Rattle.fish_lanes.specs.within.Plans.{AreBoundsIn, PlansAreSoBy}
 use Rattle.fish_lanes.specs.Records.{LaneRow, contents}
 use Rattle.fish_lanes.specs.Registering.{AreSo, InEach, IsSo, KnowsEach, KnowsRegistry, Registry, after, after_all, registry_of, waiting_id}
-use Rattle.fish_lanes.specs.Running.{IsFree}
+use Rattle.fish_lanes.specs.within.Running.{IsFree}
 use Rattle.fish_lanes.specs.Single.{NamesNone, TellsOnly, TellsSingle}
 use Rattle.fish_lanes.specs.Spans.{answers, made_by}
 use Rattle.fish_lanes.specs.Telling.{content_of, count_of}

@@ -10,18 +10,19 @@ use Rattle.fish_lanes.proofs.Moments.{Closes, counted_from, ends_behind, few_beh
 use Rattle.fish_lanes.proofs.Ends.{closes_end, end_knows}
 use Rattle.fish_lanes.proofs.RowLists.{has_above, owned_number, told_later}
 use Rattle.fish_lanes.proofs.Surely.{end_above, entry_before, own_before, will_own, will_rows}
-use Rattle.fish_lanes.specs.Blocks.{AreEnded, AreJoined, AreKept}
+use Rattle.fish_lanes.specs.Blocks.{AreEnded, AreKept, IsBlockSpan, IsEndedLane, IsMarkItem, NameMarks, StoresByLanes, TellsBlock}
+use Rattle.fish_lanes.specs.within.Blocks.{AreJoined, IsOfLane, IsSeated, IsShutOfLane, TellsFirst, TellsOthers}
 use Rattle.fish_lanes.specs.Outcome.{AreVacant}
-use Rattle.fish_lanes.specs.Blocks.{IsBlockSpan, IsEndedLane, IsMarkItem, IsOfLane, IsSeated, IsShutOfLane, NameMarks}
-use Rattle.fish_lanes.specs.Blocks.{StoresByLanes, TellsBlock}
-use Rattle.fish_lanes.specs.Blocks.{TellsFirst}
-use Rattle.fish_lanes.specs.Blocks.{TellsOthers}
-use Rattle.fish_lanes.specs.Course.{AllBack, AllRan, HasFoundEnd}
+use Rattle.fish_lanes.specs.within.Course.{AllBack, AllRan, HasFoundEnd}
 use Rattle.fish_lanes.specs.Ending.{HasEnd}
-use Rattle.fish_lanes.specs.Gains.{AreTold, IsMarkAt, IsShutTold}
-use Rattle.fish_lanes.specs.Records.{Ascends, HasNumber, LaneRow, owned, rows_of_lane}
-use Rattle.fish_lanes.specs.Running.{HasDone, IsEnded, IsFullItem}
-use Rattle.fish_lanes.specs.Spans.{IsAnswer, IsWithinSpan, Span}
+use Rattle.fish_lanes.specs.Gains.{IsMarkAt, IsShutTold}
+use Rattle.fish_lanes.specs.within.Gains.{AreTold}
+use Rattle.fish_lanes.specs.Records.{HasNumber, LaneRow, rows_of_lane}
+use Rattle.fish_lanes.specs.within.Records.{Ascends, owned}
+use Rattle.fish_lanes.specs.Running.{IsEnded}
+use Rattle.fish_lanes.specs.within.Running.{HasDone, IsFullItem}
+use Rattle.fish_lanes.specs.Spans.{IsAnswer, Span}
+use Rattle.fish_lanes.specs.within.Spans.{IsWithinSpan}
 use Rattle.fish_lanes.specs.Telling.{TellsLane}
 use Rattle.fish_lanes.specs.declared.block.BlockEnd.{BlockEnd}
 use Rattle.fish_lanes.specs.declared.lane.Lane.{Lane}

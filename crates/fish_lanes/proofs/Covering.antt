@@ -15,7 +15,8 @@ use Rattle.fish_epoch.specs.Definitions.{rows_of, version_of}
 use Rattle.fish_epoch.specs.declared.definitions.Known.{Known}
 use Rattle.fish_lanes.proofs.Answered.{no_index}
 use Rattle.fish_lanes.proofs.Lists.{get_some, some_once}
-use Rattle.fish_lanes.specs.Plans.{AreBoundsIn, AreReadBounds, HoldsNone, IsCoveredNumber, IsIndexPiece, IsPlanOf}
+use Rattle.fish_lanes.specs.Plans.{HoldsNone, IsCoveredNumber, IsIndexPiece, IsPlanOf}
+use Rattle.fish_lanes.specs.within.Plans.{AreBoundsIn, AreReadBounds}
 use Rattle.fish_lanes.specs.Registering.{KnowsRegistry, Registry}
 use Rattle.fish_plan.proofs.Inside.{held_is_indexed, index_inside, piece_within}
 use Rattle.fish_plan.proofs.Walks.{some_above}

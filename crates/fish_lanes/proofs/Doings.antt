@@ -7,7 +7,7 @@ use Rattle.std.proofs.Math.Decide.{dec_lt}
 use Rattle.fish_catalog.specs.Limits.{most_active}
 use Rattle.fish_catalog.specs.Rows.{HasActive, is_active}
 use Rattle.fish_lanes.proofs.Registrations.{begun_is, few_versions, none_id, none_waits, waits_id}
-use Rattle.fish_lanes.specs.Controlling.{Does, RollsBy, TellsBegun, TellsTail, deregister_cause, register_cause}
+use Rattle.fish_lanes.specs.within.Controlling.{Does, RollsBy, TellsBegun, TellsTail, deregister_cause, register_cause}
 use Rattle.fish_lanes.specs.Registering.{IsDeregisterCause, IsRegisterCause, KnowsRegistry, MayChange, MayRegister}
 use Rattle.fish_lanes.specs.Registering.{Registry, begun, bound, registry_of, waiting_id}
 use Rattle.fish_lang.specs.Canonical.{definition_text}

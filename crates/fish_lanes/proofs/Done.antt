@@ -8,15 +8,18 @@ use Rattle.fish_lanes.proofs.Gaining.{alone_gains, gains_self}
 use Rattle.fish_lanes.proofs.Items.{made, shown_in}
 use Rattle.fish_lanes.proofs.Publishing.{published_later, settled_published, told_published}
 use Rattle.fish_lanes.proofs.RowLists.{ascends_le}
-use Rattle.fish_lanes.specs.Doing.{FitsCheckpoint, FitsRefused, IsFit}
-pub use Rattle.fish_lanes.specs.Advancing.{HasTold}
-use Rattle.fish_lanes.specs.Gains.{AreTold}
-use Rattle.fish_lanes.specs.Published.{IsPublished}
-use Rattle.fish_lanes.specs.Records.{Ascends, HasNumber, LaneRow, entry_of}
+use Rattle.fish_lanes.specs.within.Doing.{FitsCheckpoint, FitsRefused, IsFit}
+pub use Rattle.fish_lanes.specs.within.Advancing.{HasTold}
+use Rattle.fish_lanes.specs.within.Gains.{AreTold}
+use Rattle.fish_lanes.specs.within.Published.{IsPublished}
+use Rattle.fish_lanes.specs.Records.{HasNumber, LaneRow}
+use Rattle.fish_lanes.specs.within.Records.{Ascends, entry_of}
 use Rattle.fish_lanes.specs.Scanning.{TellsRefused}
 use Rattle.fish_lanes.specs.Seen.{IsSeen}
-use Rattle.fish_lanes.specs.Sizes.{IsEarlier, IsSizeBetween, IsSizeOf, TellsClaim, claim_of}
-use Rattle.fish_lanes.specs.Spans.{IsWithinSpan, Span}
+use Rattle.fish_lanes.specs.Sizes.{IsEarlier, IsSizeOf, TellsClaim, claim_of}
+use Rattle.fish_lanes.specs.within.Sizes.{IsSizeBetween}
+use Rattle.fish_lanes.specs.Spans.{Span}
+use Rattle.fish_lanes.specs.within.Spans.{IsWithinSpan}
 use Rattle.fish_lanes.specs.Telling.{TellsItem}
 use Rattle.fish_lanes.specs.declared.work.Work.{Work}
 use Rattle.fish_lanes.specs.declared.work.Work.TheVariants as work

@@ -9,12 +9,12 @@ use Rattle.fish_lanes.proofs.Keeping.{keeps_settles}
 use Rattle.fish_lanes.proofs.Lanes.{none_out}
 use Rattle.fish_lanes.proofs.Pending.{found_within}
 use Rattle.fish_lanes.proofs.Registrations.{after_more, knows_kept, registry_later, registry_same}
-use Rattle.fish_lanes.specs.Blocks.{HasGiven, HasRegistered, HasTakenAll, IsBlockSpan}
-use Rattle.fish_lanes.specs.Controlling.{HasControlled, IsFound}
-use Rattle.fish_lanes.specs.Course.{HasFoundEnd, HasRunLanes}
+use Rattle.fish_lanes.specs.Blocks.{HasRegistered, IsBlockSpan}
+use Rattle.fish_lanes.specs.within.Blocks.{HasGiven, HasTakenAll}
+use Rattle.fish_lanes.specs.within.Controlling.{HasControlled, IsFound}
+use Rattle.fish_lanes.specs.within.Course.{HasFoundEnd, HasRunLanes}
 use Rattle.fish_lanes.specs.Pending.{AreFound}
-use Rattle.fish_lanes.specs.Registering.{AreSo, IsSo, KnowsEach, KnowsRegistry, Registry, after, after_all, registry_of}
-use Rattle.fish_lanes.specs.Registering.{waiting_id}
+use Rattle.fish_lanes.specs.Registering.{AreSo, IsSo, KnowsEach, KnowsRegistry, Registry, after, after_all, registry_of, waiting_id}
 use Rattle.fish_lanes.specs.Spans.{Span}
 use Rattle.fish_lanes.specs.declared.block.BlockEnd.{BlockEnd}
 use Rattle.fish_lanes.specs.declared.block.Boundary.{Boundary}

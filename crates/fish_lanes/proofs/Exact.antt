@@ -9,7 +9,8 @@ use Rattle.fish_catalog.specs.declared.entry.Entry.{Entry}
 use Rattle.fish_catalog.specs.declared.entry.Entry.TheVariants as entry
 use Rattle.fish_layout.specs.Cleared.{choose}
 use Rattle.fish_lanes.proofs.RowLists.{has_above}
-use Rattle.fish_lanes.specs.Records.{Ascends, HasNumber, LaneRow, entry_of, rows_from, rows_of_lane}
+use Rattle.fish_lanes.specs.Records.{HasNumber, LaneRow, rows_from, rows_of_lane}
+use Rattle.fish_lanes.specs.within.Records.{Ascends, entry_of}
 use Rattle.fish_value.specs.declared.field.Form.{Form}
 
 -- each row is the entry at its number, where the first entry has the number `at`

@@ -3,8 +3,8 @@ use Rattle.std.proofs.Common.{◌≡◌, ◌≢◌, None, Some, Result, Ok, Err,
 use Rattle.std.proofs.lemmas.Option.{same_Some}
 use Rattle.std.specs.Prelude.{IfErr, IfOk}
 use Rattle.fish_lanes.proofs.Parts.{scan_gains}
-use Rattle.fish_lanes.specs.Causes.{fault_of, or_memory, or_stop}
-use Rattle.fish_lanes.specs.Doing.{IsPart, IsStopped}
+use Rattle.fish_lanes.specs.within.Causes.{fault_of, or_memory, or_stop}
+use Rattle.fish_lanes.specs.within.Doing.{IsPart, IsStopped}
 use Rattle.fish_lanes.specs.declared.statements.Stop.{Stop}
 use Rattle.fish_lanes.specs.declared.statements.Stop.TheVariants as stop
 use Rattle.fish_lanes.specs.declared.work.LaneFault.{LaneFault}
@@ -47,6 +47,11 @@ pub scan_stopped : {T : Type 0} (v u : View) (ask : Ask) (r : Result T Stop) →
 scan_stopped v u ask (Ok x) outside idle only = tt
 scan_stopped v u ask (Err stop.Memory) outside idle only = (0, scan_gains v u 0 outside idle only)
 scan_stopped v u ask (Err stop.Older) outside idle only = (ask, refl, only)
+
+-- what is no scan never waits for the file
+pub other_part : (v u : View) (w : Work) (why : Stop) → ((ask : Ask) → w ≡ work.Scan ask → ⊥) → IsStopped v u w why → IsPart v u w
+other_part v u w stop.Memory no_scan h = h
+other_part v u w stop.Older no_scan h = absurd (no_scan h.0 h.1)
 
 -- one that the file stopped has a fault
 pub fault_named : (r : ScanRefusal) (why : LaneFault) → fault_of r ≡ Some why → why ≢ fault.None

@@ -6,12 +6,13 @@ use Rattle.fish_lanes.proofs.Advancing.{run_fewer}
 use Rattle.fish_lanes.proofs.Full.{unshut_test}
 use Rattle.fish_lanes.proofs.Lists.{some_once}
 use Rattle.fish_lanes.proofs.SoFar.{far_self}
-use Rattle.fish_lanes.specs.Advancing.{HasFinished, HasGone, IsOn, IsOnAnyhow, IsShort, IsSoFar}
+use Rattle.fish_lanes.specs.within.Advancing.{HasFinished, HasGone, IsOn, IsOnAnyhow, IsShort, IsSoFar}
 use Rattle.fish_lanes.specs.Causes.{HasCause, IsUndamaged}
-use Rattle.fish_lanes.specs.Full.{IsNotFull, TellsLast}
+use Rattle.fish_lanes.specs.Full.{IsNotFull}
+use Rattle.fish_lanes.specs.within.Full.{TellsLast}
 use Rattle.fish_lanes.specs.Outcome.{Stops}
-use Rattle.fish_lanes.specs.Pasts.{WasHere}
-use Rattle.fish_lanes.specs.Running.{CanBegin, HasDone, HasRun, SayPlans}
+use Rattle.fish_lanes.specs.within.Pasts.{WasHere}
+use Rattle.fish_lanes.specs.within.Running.{CanBegin, HasDone, HasRun, SayPlans}
 use Rattle.fish_lanes.specs.Spans.{IsAnswer}
 use Rattle.fish_lanes.specs.declared.lane.Lane.{Lane}
 use Rattle.fish_lanes.specs.declared.lane.Seated.{Seated}

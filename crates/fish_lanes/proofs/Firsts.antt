@@ -3,7 +3,8 @@ use Rattle.std.proofs.Common.{◌≡◌, ℕ, ◌+◌, zero, suc, List, [], ◌�
 use Rattle.std.proofs.Common.{◌∙◌, None, ap, length, sym}
 use Rattle.std.specs.Prelude.{All}
 use Rattle.fish_lanes.proofs.Lists.{some_once}
-use Rattle.fish_lanes.specs.Blocks.{AreKept, AreLanes, CanGive, IsKept, IsNewLane}
+use Rattle.fish_lanes.specs.Blocks.{AreKept, AreLanes, IsKept, IsNewLane}
+use Rattle.fish_lanes.specs.within.Blocks.{CanGive}
 use Rattle.fish_lanes.specs.Outcome.{AreVacant}
 use Rattle.fish_lanes.specs.Ending.{HasEnd}
 use Rattle.fish_lanes.specs.Registering.{IsAcceptable}

@@ -9,11 +9,11 @@ use Rattle.fish_cold.specs.Carries.{CarriesTable}
 use Rattle.fish_cold.specs.declared.cold.Cold.{Cold}
 use Rattle.fish_lanes.proofs.Across.{none_selected}
 use Rattle.fish_lanes.proofs.Answered.{named_version, rise_above}
-use Rattle.fish_lanes.specs.Doing.{FitsExplained, FitsRefused, FitsScanned, IsAnswerBehind, IsAnswerHere, IsExplainedAnswer}
-use Rattle.fish_lanes.specs.Doing.{IsRefusedAt, IsRefusedItem}
-use Rattle.fish_lanes.specs.Doing.{cause_of, explained_item, refusal_of, scanned_item}
+use Rattle.fish_lanes.specs.within.Doing.{FitsExplained, FitsRefused, FitsScanned, IsAnswerBehind, IsAnswerHere, IsExplainedAnswer}
+use Rattle.fish_lanes.specs.within.Doing.{IsRefusedAt, IsRefusedItem, cause_of, refusal_of}
+use Rattle.fish_lanes.specs.Doing.{explained_item, scanned_item}
 use Rattle.fish_lanes.specs.Loading.{LoadsInTable}
-use Rattle.fish_lanes.specs.Pasts.{IsHere, anywhere}
+use Rattle.fish_lanes.specs.within.Pasts.{IsHere, anywhere}
 use Rattle.fish_psf.specs.Records.{evaluation}
 use Rattle.fish_psf.specs.Select.{select}
 use Rattle.fish_report.specs.declared.item.Item.{Item}

@@ -4,14 +4,18 @@ use Rattle.std.proofs.Common.{⊎_elim, subst, Ok, Err}
 use Rattle.std.specs.Prelude.{is_some}
 use Rattle.fish_lanes.proofs.Lists.{all_more}
 use Rattle.fish_lanes.proofs.Showing.{full_fit}
-use Rattle.fish_lanes.specs.Advancing.{HasNext}
-use Rattle.fish_lanes.specs.Controlling.{HasPolled}
-use Rattle.fish_lanes.specs.Doing.{IsFit}
-use Rattle.fish_lanes.specs.Full.{AreFullLast, EndsFull, HasFound, IsNotFull, TellsLast}
+use Rattle.fish_lanes.specs.within.Advancing.{HasNext}
+use Rattle.fish_lanes.specs.within.Causes.{fault_at}
+use Rattle.fish_lanes.specs.within.Controlling.{HasPolled}
+use Rattle.fish_lanes.specs.within.Doing.{IsFit}
+use Rattle.fish_lanes.specs.Full.{AreFullLast, EndsFull, IsNotFull}
+use Rattle.fish_lanes.specs.within.Full.{HasFound, TellsLast}
 use Rattle.fish_lanes.specs.Gains.{WasShut}
-use Rattle.fish_lanes.specs.Pasts.{anywhere}
-use Rattle.fish_lanes.specs.Running.{IsFullItem}
-use Rattle.fish_lanes.specs.Sizes.{TellsClaim, TellsShut}
+use Rattle.fish_lanes.specs.within.Pasts.{anywhere}
+use Rattle.fish_lanes.specs.within.Running.{IsFullItem}
+use Rattle.fish_lanes.specs.Sizes.{TellsClaim}
+use Rattle.fish_lanes.specs.within.Sizes.{TellsShut}
+use Rattle.fish_lanes.specs.declared.statements.Stop.{Stop}
 use Rattle.fish_lanes.specs.declared.statements.Stop.TheVariants as stop
 use Rattle.fish_lanes.specs.declared.work.LaneFault.{LaneFault}
 use Rattle.fish_lanes.specs.declared.work.LaneFault.TheVariants as fault
@@ -117,14 +121,12 @@ module _ (u t : View) (w : Work) (old new : List Item) (unshut : u.shut ≡ None
   pub next_found : (done : Unit {0}) → HasNext u t w old new (Ok done) → HasFound t new
   next_found done n = subst (HasFound t) (sym n.1) (found_more anywhere u t w old n.0 unshut none n.2.fit n.2.shuts)
 
-  -- it is a scan of older records
-  pub older_found : HasNext u t w old new (Err stop.Older) → HasFound t new
-  older_found n = subst (HasFound t) (sym n.0) (inl (ap (λ (z : View). z.shut) n.1.2.frame ∙ unshut, none))
-
-  -- memory ran out
-  pub memory_found : HasNext u t w old new (Err stop.Memory) → TellsLast t new fault.Memory
-  memory_found n = subst (λ (z : List Item). TellsLast t z fault.Memory) (sym n.0)
+  -- it has none: memory ran out, or it is a scan of older records
+  pub stopped_found : (why : Stop) → HasNext u t w old new (Err why) → TellsLast t new (fault_at why)
+  stopped_found stop.Memory n = subst (λ (z : List Item). TellsLast t z fault.Memory) (sym n.0)
       (fault_tells t old fault.Memory (λ e. absurd cc) none)
+  stopped_found stop.Older n = found_tells t new fault.None
+      (subst (HasFound t) (sym n.0) (inl (ap (λ (z : View). z.shut) n.1.2.frame ∙ unshut, none)))
 
 -- ---- a look for a boundary
 

@@ -8,8 +8,10 @@ use Rattle.fish_ingest.specs.declared.refusal.IngestRefusal.TheVariants as refus
 use Rattle.fish_ingest.specs.Ingestion.{CanStart, HasIngested}
 use Rattle.fish_lanes.proofs.RowLists.{ascends_append, owned_append, told_append, told_later}
 use Rattle.fish_flush.specs.Carrying.{Reads}
-use Rattle.fish_lanes.specs.Gains.{AreTold, Gains, IsFullBy, IsMarkAt, IsShutTold, KeepsLane, KeepsShut}
-use Rattle.fish_lanes.specs.Records.{LaneRow, owned}
+use Rattle.fish_lanes.specs.Gains.{IsMarkAt, IsShutTold, KeepsShut}
+use Rattle.fish_lanes.specs.within.Gains.{AreTold, Gains, IsFullBy, KeepsLane}
+use Rattle.fish_lanes.specs.Records.{LaneRow}
+use Rattle.fish_lanes.specs.within.Records.{owned}
 use Rattle.fish_rule.specs.declared.view.Epoch.TheVariants.{Out}
 use Rattle.fish_rule.specs.declared.view.Own.{Own}
 use Rattle.std.proofs.Math.Decide.{dec_lt}

@@ -1,7 +1,7 @@
 -- One statement more.
 use Rattle.std.proofs.Common.{◌≡◌, ◌+◌, ℕ, arith, List, [], ◌∷◌, ◌++◌, refl, sym, ap, ◌∙◌, subst}
 use Rattle.std.proofs.Common.{append_assoc, append-nil, take}
-pub use Rattle.fish_lanes.specs.Advancing.{TellsAll, made, shown_in}
+pub use Rattle.fish_lanes.specs.within.Advancing.{TellsAll, made, shown_in}
 use Rattle.fish_lanes.specs.Records.{LaneRow, contents}
 use Rattle.fish_lanes.specs.Seen.{Shown, shown_by}
 use Rattle.fish_lanes.specs.Spans.{Span, behind, made_by}

@@ -1,7 +1,7 @@
 -- What leaves the definitions as they are, and what knows them.
 use Rattle.std.proofs.Common.{refl, ap, ◌∙◌}
 use Rattle.fish_ingest.specs.Passing.{OnlyIngests}
-use Rattle.fish_lanes.specs.Registering.{KeepsRegistry}
+use Rattle.fish_lanes.specs.within.Registering.{KeepsRegistry}
 use Rattle.fish_rule.specs.declared.view.View.{View}
 use Rattle.fish_scan.specs.Scans.{OnlyScans}
 use Rattle.fish_walk.specs.Settling.{OnlySettles}

@@ -9,15 +9,15 @@ use Rattle.fish_lanes.proofs.Lists.{filter_first}
 use Rattle.fish_lanes.proofs.Plans.{plans_longer}
 use Rattle.fish_lanes.proofs.Saying.{said_cut}
 use Rattle.fish_lanes.proofs.Single.{none_there, only_last}
-use Rattle.fish_lanes.specs.Advancing.{IsOn, IsSoFar}
+use Rattle.fish_lanes.specs.within.Advancing.{IsOn, IsSoFar}
 use Rattle.fish_lanes.specs.Causes.{HasCause, IsUndamaged}
-use Rattle.fish_lanes.specs.Controlling.{HasControlled}
-use Rattle.fish_lanes.specs.Full.{IsHandedBack, StopsFull, TellsLast, done_of}
+use Rattle.fish_lanes.specs.within.Controlling.{HasControlled}
+use Rattle.fish_lanes.specs.within.Full.{IsHandedBack, StopsFull, TellsLast, done_of}
 use Rattle.fish_lanes.specs.Gains.{WasShut}
 use Rattle.fish_lanes.specs.Plans.{KnowsRows}
 use Rattle.fish_lanes.specs.Records.{LaneRow, contents}
 use Rattle.fish_lanes.specs.Registering.{registry_of}
-use Rattle.fish_lanes.specs.Running.{HasRun, SayPlans}
+use Rattle.fish_lanes.specs.within.Running.{HasRun, SayPlans}
 use Rattle.fish_lanes.specs.Seen.{Shown, shown_by}
 use Rattle.fish_lanes.specs.Single.{TellsSingle}
 use Rattle.fish_lanes.specs.Spans.{IsAnswer, Span, answers, behind, is_answer}

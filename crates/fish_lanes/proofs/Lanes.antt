@@ -5,9 +5,11 @@ use Rattle.std.proofs.Math.Decide.{ℕ_discrete, dec_lt}
 use Rattle.fish_ingest.specs.Ingestion.{CanStart}
 use Rattle.fish_lanes.proofs.Keeping.{keeps_self}
 use Rattle.fish_lanes.proofs.Lists.{empty_list, some_once}
-use Rattle.fish_lanes.specs.Blocks.{AreJoined, CanGive, CanTake, HasGiven, HasSeat, HasTakenAll, HasTakenSeat, IsBack}
-use Rattle.fish_lanes.specs.Blocks.{IsNewLane, IsOfLane, IsSeated, IsShutOfLane}
-use Rattle.fish_lanes.specs.Running.{CanBegin, HasDone, IsReady, IsShared}
+use Rattle.fish_lanes.specs.within.Blocks.{AreJoined, CanGive, CanTake, HasGiven, HasSeat, HasTakenAll, HasTakenSeat, IsBack}
+use Rattle.fish_lanes.specs.Blocks.{IsNewLane}
+use Rattle.fish_lanes.specs.within.Blocks.{IsOfLane, IsSeated, IsShutOfLane}
+use Rattle.fish_lanes.specs.Running.{IsShared}
+use Rattle.fish_lanes.specs.within.Running.{CanBegin, HasDone, IsReady}
 use Rattle.fish_lanes.specs.declared.lane.Lane.{Lane}
 use Rattle.fish_lanes.specs.declared.lane.Seated.{Seated}
 use Rattle.fish_rule.proofs.laws.Clocks.{later_both, later_noted, later_self, later_ticked}

@@ -12,10 +12,12 @@ use Rattle.fish_lanes.proofs.Lists.{at_places, some_once}
 use Rattle.fish_lanes.proofs.Moments.{Closes, get_there, learns_same}
 use Rattle.fish_lanes.proofs.Plans.{plans_later}
 use Rattle.fish_lanes.proofs.Registrations.{registry_later}
-use Rattle.fish_lanes.specs.Blocks.{At, IsShutOfLane}
-use Rattle.fish_lanes.specs.Course.{AllBack, AllRan, HasFoundEnd}
+use Rattle.fish_lanes.specs.Blocks.{At}
+use Rattle.fish_lanes.specs.within.Blocks.{IsShutOfLane}
+use Rattle.fish_lanes.specs.within.Course.{AllBack, AllRan, HasFoundEnd}
 use Rattle.fish_lanes.specs.Ending.{HasEnd}
-use Rattle.fish_lanes.specs.Full.{AreFullLast, StopsFull}
+use Rattle.fish_lanes.specs.Full.{AreFullLast}
+use Rattle.fish_lanes.specs.within.Full.{StopsFull}
 use Rattle.fish_lanes.specs.Gains.{WasShut}
 use Rattle.fish_lanes.specs.Outcome.{HandsBack, IsCutShort, IsFullIn, LanesSayPlans, TellFullLast, TellsShutBy}
 use Rattle.fish_lanes.specs.Plans.{AreSoPlans, KnowsRows}

@@ -4,7 +4,7 @@ use Rattle.std.specs.Prelude.{IsSome}
 use Rattle.fish_cold.specs.declared.cold.Cold.{Cold}
 use Rattle.fish_disk.specs.Content.{StillReads}
 use Rattle.fish_image.specs.Reached.{Reached}
-use Rattle.fish_lanes.specs.Pasts.{IsHere}
+use Rattle.fish_lanes.specs.within.Pasts.{IsHere}
 use Rattle.fish_rule.specs.declared.view.Key.{Key}
 use Rattle.fish_scan.proofs.Carrying.{carried_last, stays_both, stays_none}
 use Rattle.fish_store.proofs.Running.{on_table, told_still}

@@ -1,10 +1,10 @@
 -- A statement as a part of itself, and what scans and plans leave.
 use Rattle.std.proofs.Common.{◌≡◌, ℕ, ◌+◌, ◌<◌, zero, suc, List, [], ◌∷◌, ◌++◌, length, take, drop, get_or, refl, ap, ◌∙◌, arith}
 use Rattle.std.proofs.Common.{Result, Ok, Err, None, Bool, true, false, sym, inl}
-use Rattle.std.specs.Prelude.{IfErr, IfOk, OnErr, OnOk, is_err}
+use Rattle.std.specs.Prelude.{IfErr, IfOk, IsErrOf, OnErr, OnOk, is_err}
 use Rattle.fish_lanes.proofs.Gaining.{gains_scans}
 use Rattle.fish_lanes.proofs.Keeping.{keeps_scans}
-use Rattle.fish_lanes.specs.Doing.{GainsFirst, IsFit, IsItem, IsPart}
+use Rattle.fish_lanes.specs.within.Doing.{GainsFirst, IsFit, IsItem, IsPart}
 use Rattle.fish_lanes.specs.Records.{contents}
 use Rattle.fish_lanes.specs.Telling.{content_of, count_of}
 use Rattle.fish_lanes.specs.declared.work.Work.{Work}
@@ -25,6 +25,10 @@ around (x ∷ xs) (suc i) w h is =
     let next : suc i + 1 ≡ suc (i + 1) = omega arith in
     ap (λ (n : ℕ). x ∷ (take i xs ++ w ∷ drop n (x ∷ xs))) next
     ∙ ap (λ (z : List Work). x ∷ z) (around xs i w (omega arith) is)
+
+-- a result that has an error has no other
+pub same_fault : {A B : Type 0} (x y : B) → IsErrOf {T = A} (Err x) y → x ≡ y
+same_fault x y is = cc
 
 -- what holds anyway holds at a fault
 pub err_any : {A B : Type 0} (r : Result A B) (P : Type 0) → P → IfErr r (λ _. P)

@@ -1,7 +1,7 @@
 -- The looks at lanes that items of pending registrations have behind them, with one step or one item more.
 use Rattle.std.proofs.Common.{◌≡◌, ◌⊎◌, ℕ, List, [], ◌∷◌, ◌++◌, refl, sym, ap, ◌∙◌, subst, inl, inr, ⊎_elim, Option, None, Some}
 use Rattle.fish_lanes.proofs.Registrations.{after_more}
-use Rattle.fish_lanes.specs.Controlling.{HasLooked, HasPolled, RollsBy}
+use Rattle.fish_lanes.specs.within.Controlling.{HasLooked, HasPolled, RollsBy}
 use Rattle.fish_lanes.specs.Pending.{AreFound, HasFoundOlder, IsFoundBy}
 use Rattle.fish_lanes.specs.Registering.{IsSo, Registry, after, after_all, registry_of, waiting_id}
 use Rattle.fish_registry.specs.declared.registrar.Registrar.{Registrar}

@@ -8,8 +8,9 @@ use Rattle.fish_epoch.specs.Definitions.{rows_of, version_of}
 use Rattle.fish_epoch.specs.declared.definitions.Known.{Known}
 use Rattle.fish_lanes.proofs.Covering.{are_listed, gap_so, plan_so}
 use Rattle.fish_lanes.proofs.Lists.{filter_first, filter_skip}
-use Rattle.fish_lanes.specs.Doing.{IsFit, IsRefusedAt}
-use Rattle.fish_lanes.specs.Plans.{AreBoundsIn, AreReadBounds, AreSoPlans, IsNamedAt, TellsFirstPlans, TellsPlans, TellsPlansOf}
+use Rattle.fish_lanes.specs.within.Doing.{IsFit, IsRefusedAt}
+use Rattle.fish_lanes.specs.Plans.{AreSoPlans, IsNamedAt, TellsFirstPlans, TellsPlans, TellsPlansOf}
+use Rattle.fish_lanes.specs.within.Plans.{AreBoundsIn, AreReadBounds}
 use Rattle.fish_lanes.specs.Plans.{KnowsRows, TellsUncovered, works_behind}
 use Rattle.fish_lanes.specs.Registering.{KnowsRegistry, Registry, after, after_all}
 use Rattle.fish_lanes.specs.Spans.{answers, is_answer}

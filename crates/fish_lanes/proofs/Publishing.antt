@@ -1,7 +1,7 @@
 -- Numbers that a pass knows to be published.
 use Rattle.std.proofs.Common.{◌≡◌, ℕ, ◌<◌, ◌≤◌, ap, arith}
 use Rattle.fish_catalog.specs.declared.entry.Entry.{Entry}
-use Rattle.fish_lanes.specs.Published.{IsPublished}
+use Rattle.fish_lanes.specs.within.Published.{IsPublished}
 use Rattle.fish_rule.proofs.laws.Moments.{entry_word}
 use Rattle.fish_rule.proofs.laws.Learning.{learns_both}
 use Rattle.fish_rule.specs.Logs.{Learns, Tells}

@@ -18,9 +18,10 @@ use Rattle.fish_ingest.specs.Ingestion.{CanStart}
 use Rattle.fish_lanes.proofs.Gaining.{gains_both, gains_scans, gains_start, marks_same}
 use Rattle.fish_lanes.proofs.Keeping.{keeps_scans}
 use Rattle.fish_lanes.proofs.Versions.{same_version}
-use Rattle.fish_lanes.specs.Controlling.{Does, KnowsAll, TellsBegun, WaitsFor}
-use Rattle.fish_lanes.specs.Gains.{Gains}
-use Rattle.fish_lanes.specs.Registering.{KeepsRegistry, KnowsRegistry, Registry, after, after_all, begun, bound, registry_of, waiting_id}
+use Rattle.fish_lanes.specs.within.Controlling.{Does, KnowsAll, TellsBegun, WaitsFor}
+use Rattle.fish_lanes.specs.within.Gains.{Gains}
+use Rattle.fish_lanes.specs.Registering.{KnowsRegistry, Registry, after, after_all, begun, bound, registry_of, waiting_id}
+use Rattle.fish_lanes.specs.within.Registering.{KeepsRegistry}
 use Rattle.fish_lang.specs.Canonical.{definition_text}
 use Rattle.fish_lang.specs.Definition.{definition_of}
 use Rattle.fish_lang.specs.declared.definition.Def.{Def}

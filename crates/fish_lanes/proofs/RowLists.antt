@@ -1,8 +1,9 @@
 -- Rows behind other rows.
 use Rattle.std.proofs.Common.{◌≡◌, ℕ, ◌<◌, ◌≤◌, suc, List, [], ◌∷◌, ◌++◌, refl, sym, ap, inl, inr, ◌⊎◌, ⊎_elim, arith}
 use Rattle.fish_rule.proofs.laws.Alone.{tells_later}
-use Rattle.fish_lanes.specs.Gains.{AreTold}
-use Rattle.fish_lanes.specs.Records.{Ascends, Content, HasNumber, LaneRow, contents, entry_of, owned}
+use Rattle.fish_lanes.specs.within.Gains.{AreTold}
+use Rattle.fish_lanes.specs.Records.{Content, HasNumber, LaneRow, contents}
+use Rattle.fish_lanes.specs.within.Records.{Ascends, entry_of, owned}
 use Rattle.fish_rule.specs.Logs.{Learns}
 use Rattle.fish_rule.specs.Views.{Among}
 use Rattle.fish_rule.specs.declared.view.Own.{Own}

@@ -4,11 +4,11 @@ use Rattle.fish_lanes.proofs.Controls.{free_after, plans_on}
 use Rattle.fish_lanes.proofs.Covering.{read_later}
 use Rattle.fish_lanes.proofs.Plans.{fit_so, plans_longer, plans_more}
 use Rattle.fish_lanes.proofs.Registrations.{after_more, registry_later}
-pub use Rattle.fish_lanes.specs.Advancing.{HasSaid}
-use Rattle.fish_lanes.specs.Doing.{IsFit}
+pub use Rattle.fish_lanes.specs.within.Advancing.{HasSaid}
+use Rattle.fish_lanes.specs.within.Doing.{IsFit}
 use Rattle.fish_lanes.specs.Plans.{KnowsRows, TellsPlans}
 use Rattle.fish_lanes.specs.Registering.{Registry, after}
-use Rattle.fish_lanes.specs.Running.{IsFree, SayPlans}
+use Rattle.fish_lanes.specs.within.Running.{IsFree, SayPlans}
 use Rattle.fish_lanes.specs.Spans.{answers}
 use Rattle.fish_lanes.specs.declared.work.Work.{Work}
 use Rattle.fish_report.specs.declared.item.Item.{Item}

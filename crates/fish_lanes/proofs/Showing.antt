@@ -2,10 +2,10 @@
 use Rattle.std.proofs.Common.{◌≡◌, ◌<◌, ◌≤◌, ℕ, List, [], ◌∷◌, refl, sym, ap, subst, inl, inr, arith, true}
 use Rattle.fish_lanes.proofs.Answered.{range_published}
 use Rattle.fish_lanes.proofs.Publishing.{settled_published}
-use Rattle.fish_lanes.specs.Doing.{FitsCheckpoint, FitsScanned, IsFit}
-use Rattle.fish_lanes.specs.Gains.{IsFullBy}
-use Rattle.fish_lanes.specs.Published.{IsPublished}
-use Rattle.fish_lanes.specs.Running.{IsFree, IsFullItem}
+use Rattle.fish_lanes.specs.within.Doing.{FitsCheckpoint, FitsScanned, IsFit}
+use Rattle.fish_lanes.specs.within.Gains.{IsFullBy}
+use Rattle.fish_lanes.specs.within.Published.{IsPublished}
+use Rattle.fish_lanes.specs.within.Running.{IsFree, IsFullItem}
 use Rattle.fish_lanes.specs.Seen.{IsShown, Shown, claimed, range, settled, shown_by}
 use Rattle.fish_lanes.specs.Spans.{is_answer, made_by}
 use Rattle.fish_lanes.specs.declared.work.Work.{Work}

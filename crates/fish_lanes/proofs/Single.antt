@@ -10,16 +10,15 @@ use Rattle.fish_epoch.proofs.Reading.{knows_later}
 use Rattle.fish_epoch.specs.Definitions.{rows_of, version_of}
 use Rattle.fish_epoch.specs.declared.definitions.Known.{Known}
 use Rattle.fish_lanes.proofs.Covering.{cover_by}
-use Rattle.fish_lanes.specs.Controlling.{RollsBy, TellsTail}
-use Rattle.fish_lanes.specs.Doing.{FitsExplained, FitsRefused, FitsScanned, IsFit, IsRefusedAt}
+use Rattle.fish_lanes.specs.within.Controlling.{RollsBy, TellsTail}
+use Rattle.fish_lanes.specs.within.Doing.{FitsExplained, FitsRefused, FitsScanned, IsFit, IsRefusedAt}
 use Rattle.fish_lanes.specs.Ending.{HasEnd}
 use Rattle.fish_lanes.specs.Loading.{LoadsAcross, LoadsInTable, LoadsWithin}
-use Rattle.fish_lanes.specs.Plans.{AreBoundsIn, AreReadBounds}
+use Rattle.fish_lanes.specs.within.Plans.{AreBoundsIn, AreReadBounds}
 use Rattle.fish_lanes.specs.Registering.{IsDeregisterItem, KnowsRegistry, Registry}
-use Rattle.fish_lanes.specs.Running.{IsFree}
+use Rattle.fish_lanes.specs.within.Running.{IsFree}
 use Rattle.fish_lanes.specs.Single.{IsBoundaryAt, IsCauseAt, IsCauseTold, IsCoverOf, IsPlanFor, IsPlanTold, IsReadBy, IsScanWork}
-use Rattle.fish_lanes.specs.Single.{IsWhole, NamesNone, TellsOnly}
-use Rattle.fish_lanes.specs.Single.{TellsSingle, TellsWhole}
+use Rattle.fish_lanes.specs.Single.{IsWhole, NamesNone, TellsOnly, TellsSingle, TellsWhole}
 use Rattle.fish_lanes.specs.Spans.{answers}
 use Rattle.fish_lanes.specs.declared.work.Work.{Work}
 use Rattle.fish_lanes.specs.declared.work.Work.TheVariants as work

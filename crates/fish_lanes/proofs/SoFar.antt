@@ -12,14 +12,16 @@ use Rattle.fish_lanes.proofs.Lists.{all_more}
 use Rattle.fish_lanes.proofs.Parts.{around}
 use Rattle.fish_lanes.proofs.Saying.{said_cut, said_more, said_self}
 use Rattle.fish_lanes.proofs.Showing.{fit_answer, free_made}
-use Rattle.fish_lanes.specs.Advancing.{HasNext, HasSaid, HasTold, IsSoFar}
-use Rattle.fish_lanes.specs.Controlling.{IsControlled}
-use Rattle.fish_lanes.specs.Doing.{IsFit, IsItem, IsPart}
-use Rattle.fish_lanes.specs.Gains.{Gains}
+use Rattle.fish_lanes.specs.within.Advancing.{HasNext, HasSaid, HasTold, IsOn, IsShort, IsSoFar}
+use Rattle.fish_lanes.specs.within.Causes.{fault_at}
+use Rattle.fish_lanes.specs.within.Controlling.{IsControlled}
+use Rattle.fish_lanes.specs.within.Doing.{IsFit, IsItem, IsPart}
+use Rattle.fish_lanes.specs.within.Gains.{Gains}
 use Rattle.fish_lanes.specs.Loading.{LoadsWithin}
 use Rattle.fish_lanes.specs.Records.{LaneRow, contents}
-use Rattle.fish_lanes.specs.Running.{HasRun, IsFree, IsShared, SayPlans}
-use Rattle.fish_lanes.specs.Pasts.{anywhere}
+use Rattle.fish_lanes.specs.Running.{IsShared}
+use Rattle.fish_lanes.specs.within.Running.{HasRun, IsFree, SayPlans}
+use Rattle.fish_lanes.specs.within.Pasts.{anywhere}
 use Rattle.fish_lanes.specs.Spans.{IsAnswer, answers}
 use Rattle.fish_lanes.specs.Telling.{content_of}
 use Rattle.fish_lanes.specs.declared.statements.Stop.{Stop}
@@ -208,14 +210,12 @@ module _ {Past : Whole → Type 0} (v u t : View) (works : List Work) (old new :
   next_done done shared stands n = subst (IsSoFar Past v t works) (sym n.1)
       (far_next v u t works old h w less is n.0 shared stands (item_fewer anywhere Past u t w n.0 (λ past behind. tt) n.2))
 
-  -- memory ran out
-  pub next_memory : HasNext u t w old new (Err stop.Memory) → HasRun Past v t works new fault.Memory × SayPlans v t works new
-  next_memory n = subst (λ (z : List Item). HasRun Past v t works z fault.Memory × SayPlans v t works z) (sym n.0)
+  -- it has none: memory ran out, or it is a scan of older records, and the lane is as far as it was
+  pub next_stopped : (why : Stop) → u.epoch ≡ Out → u.flight ≡ None → HasNext u t w old new (Err why)
+      → IsOn Past v t works new (fault_at why)
+  next_stopped stop.Memory outside idle n = subst (λ (z : List Item). IsOn Past v t works z fault.Memory) (sym n.0)
       (far_part v u t works old w fault.Memory h less is (λ e. absurd cc) n.1)
-
-  -- it is a scan of older records
-  pub next_older : u.epoch ≡ Out → u.flight ≡ None → HasNext u t w old new (Err stop.Older) → IsSoFar Past v t works new
-  next_older outside idle n = subst (IsSoFar Past v t works) (sym n.0)
+  next_stopped stop.Older outside idle n = subst (IsSoFar Past v t works) (sym n.0)
       (far_on v u t works old h (gains_scans u t outside idle n.1.2) (ap (λ (z : View). z.shut) n.1.2.frame))
 
 -- its item is an answer
@@ -225,6 +225,11 @@ next_answers u t w old new (Ok done) n h =
     subst (AllOf IsAnswer) (sym n.1) (all_more IsAnswer old n.0 h (fit_answer anywhere u t w n.0 n.2.fit))
 next_answers u t w old new (Err stop.Memory) n h = subst (AllOf IsAnswer) (sym n.0) h
 next_answers u t w old new (Err stop.Older) n h = subst (AllOf IsAnswer) (sym n.0) h
+
+-- a lane stops so for want of memory alone
+pub stopped_short : (why : Stop) → IsShort (fault_at why)
+stopped_short stop.Memory = inr refl
+stopped_short stop.Older = inl refl
 
 -- no item is lost
 pub next_more : (u t : View) (w : Work) (old new : List Item) (r : Result (Unit {0}) Stop) → HasNext u t w old new r

@@ -4,8 +4,15 @@ use Rattle.fish_catalog.specs.declared.row.CatRow.{CatRow}
 use Rattle.fish_disk.proofs.Moments.{leaves_none}
 use Rattle.fish_rule.specs.Logs.{Learns}
 use Rattle.fish_rule.specs.declared.view.View.{View}
+use Rattle.fish_registry.specs.declared.registrar.Registrar.{Registrar}
+use Rattle.fish_rule.specs.Passes.{view}
+use Rattle.fish_rule.specs.declared.table.Log.{Log}
+use Rattle.fish_rule.specs.declared.table.Pass.{Pass}
+use Rattle.fish_store.proofs.Running.{here_both, here_stays, may_stays}
 use Rattle.fish_store.proofs.Same.{still_self, table_same}
-use Rattle.fish_store.specs.Sound.{Point, RowsGoOn, Stays}
+use Rattle.fish_store.specs.Points.{point_of}
+use Rattle.fish_store.specs.Sound.{GoesOnHere, MayGoOn, Point, RowsGoOn, Stays}
+use Rattle.fish_store.specs.declared.file.StoreFile.{StoreFile}
 
 -- the same rows go on
 pub rows_self : (v : View) (rows : List CatRow) → RowsGoOn v rows rows
@@ -24,3 +31,26 @@ stays_pass content images since moment p rows u learns grows = record {
   crash = leaves_none images since moment p.disk (images p.disk) (λ i here. here);
   table = λ t. table_same (content p.disk) (content p.disk) p.view.about p.cold p.cold refl refl t;
 }
+
+-- ---- after a look at the registration that waits
+
+-- the store goes on
+pub looked_goes : {D : Type 0} (content : D → Option (List ℕ)) (images : D → List ℕ → Type 0) (since : D → ℕ → List ℕ → Type 0)
+    (moment : D → ℕ) (before : Point D) (disk : D) (file : StoreFile) (log : Log) (p q : Pass) (r s : Registrar)
+    → GoesOnHere content images since moment before (point_of disk file log p r) → Learns (view p) (view q)
+    → RowsGoOn (view p) r.catalog s.catalog → GoesOnHere content images since moment before (point_of disk file log q s)
+looked_goes content images since moment before disk file log p q r s goes learns grows =
+    let now = point_of disk file log p r in
+    let looked = point_of disk file log q s in
+    here_both content images since moment before now looked goes (here_stays content images since moment now looked
+    (stays_pass content images since moment now s.catalog (view q) learns grows))
+
+-- and may be committed
+pub looked_may : {D : Type 0} (content : D → Option (List ℕ)) (images : D → List ℕ → Type 0) (since : D → ℕ → List ℕ → Type 0)
+    (moment : D → ℕ) (disk : D) (file : StoreFile) (log : Log) (p q : Pass) (r s : Registrar)
+    → MayGoOn images (point_of disk file log p r) → Learns (view p) (view q) → RowsGoOn (view p) r.catalog s.catalog
+    → MayGoOn images (point_of disk file log q s)
+looked_may content images since moment disk file log p q r s may learns grows =
+    let now = point_of disk file log p r in
+    may_stays content images since moment now (point_of disk file log q s)
+    (stays_pass content images since moment now s.catalog (view q) learns grows) may

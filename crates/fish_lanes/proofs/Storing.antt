@@ -16,14 +16,14 @@ use Rattle.fish_json.specs.Reading.{record_of}
 use Rattle.fish_lanes.proofs.Gaining.{full_by, gains_both, gains_left, gains_one, gains_self, keeps_refused, marks_refused, marks_same}
 use Rattle.fish_lanes.proofs.Keeping.{keeps_both, keeps_ingests, keeps_self}
 use Rattle.fish_lanes.proofs.RowLists.{contents_append}
-use Rattle.fish_lanes.specs.Doing.{GainsFirst, IsItem, IsPart}
-use Rattle.fish_lanes.specs.Pasts.{anywhere}
-use Rattle.fish_lanes.specs.Gains.{Gains}
+use Rattle.fish_lanes.specs.within.Doing.{GainsFirst, IsItem, IsPart}
+use Rattle.fish_lanes.specs.within.Pasts.{anywhere}
+use Rattle.fish_lanes.specs.within.Gains.{Gains}
 use Rattle.fish_lanes.specs.Records.{Content, contents}
-use Rattle.fish_lanes.specs.Registering.{KeepsRegistry}
-use Rattle.fish_lanes.specs.Sizes.{IsSizeBetween}
-use Rattle.fish_lanes.specs.Storing.{EndsWith, FindsFull, IsFullAt, IsPartStored, IsStoredUpTo, TakesLine}
-use Rattle.fish_lanes.specs.Storing.{item_of, nothing, one_refused, one_stored}
+use Rattle.fish_lanes.specs.within.Registering.{KeepsRegistry}
+use Rattle.fish_lanes.specs.within.Sizes.{IsSizeBetween}
+use Rattle.fish_lanes.specs.within.Storing.{EndsWith, FindsFull, IsFullAt, IsPartStored, IsStoredUpTo, TakesLine}
+use Rattle.fish_lanes.specs.within.Storing.{item_of, nothing, one_refused, one_stored}
 use Rattle.fish_lanes.specs.Telling.{AreCounted, all_of}
 use Rattle.fish_lanes.specs.declared.ingesting.Tally.{Tally}
 use Rattle.fish_lanes.specs.declared.work.Work.{Work}

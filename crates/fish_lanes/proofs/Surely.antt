@@ -7,8 +7,9 @@ use Rattle.fish_catalog.specs.declared.entry.Entry.TheVariants as entry
 use Rattle.fish_lanes.proofs.Exact.{StandAt, rows_exact}
 use Rattle.fish_lanes.proofs.RowLists.{ascends_lower}
 use Rattle.fish_lanes.specs.Ending.{HasEnd}
-use Rattle.fish_lanes.specs.Gains.{AreTold}
-use Rattle.fish_lanes.specs.Records.{Ascends, HasNumber, LaneRow, entry_of, rows_of_lane}
+use Rattle.fish_lanes.specs.within.Gains.{AreTold}
+use Rattle.fish_lanes.specs.Records.{HasNumber, LaneRow, rows_of_lane}
+use Rattle.fish_lanes.specs.within.Records.{Ascends, entry_of}
 use Rattle.fish_rule.proofs.laws.ClosedLogs.{always_closed, entry_at, settled_within}
 use Rattle.fish_rule.proofs.laws.Moments.{before_mark, claimed, entry_word, get_here, stored_by, there_is}
 use Rattle.fish_rule.proofs.laws.Learning.{learns_self}

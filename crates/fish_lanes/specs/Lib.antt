@@ -1,18 +1,14 @@
-pub mod Advancing
 pub mod Blocks
 pub mod Causes
 pub mod Controlling
-pub mod Course
 pub mod Doing
 pub mod Ending
 pub mod Full
 pub mod Gains
 pub mod Loading
 pub mod Outcome
-pub mod Pasts
 pub mod Pending
 pub mod Plans
-pub mod Published
 pub mod Records
 pub mod Registering
 pub mod Running
@@ -21,5 +17,5 @@ pub mod Seen
 pub mod Single
 pub mod Sizes
 pub mod Spans
-pub mod Storing
 pub mod Telling
+pub mod within

@@ -18,7 +18,6 @@ use Rattle.fish_report.specs.declared.item.Item.TheVariants as item
 use Rattle.fish_rule.specs.Views.{AllOf, Among}
 use Rattle.fish_rule.specs.declared.view.Shut.{Shut}
 use Rattle.fish_rule.specs.declared.view.View.{View}
-use Rattle.fish_store.specs.Sound.{MayGoOn, Point}
 use Rattle.fish_whole.specs.Whole.{Whole}
 
 -- ---- a full log
@@ -97,7 +96,3 @@ pub record Stops (Past : Whole → Type 0) (before now : ℕ) (x : Lane) : Type 
   pub later : before ≤ now
   pub cause : HasCause before now x.fault
   pub whole : (past : Whole) → Past past → IsUndamaged x.fault
-
--- a checkpoint may follow, unless the lane met a fault of the disk
-pub record GoesAgain {D : Type 0} (images : D → List ℕ → Type 0) (p : Point D) (x : Lane) : Type 0 where
-  pub again : (x.fault ≡ cause.Disk → ⊥) → MayGoOn images p

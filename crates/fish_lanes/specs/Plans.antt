@@ -1,6 +1,6 @@
 -- What plans, and refusals of a range that no index covers, say of the definitions: where pieces by an index lie, and that no number is
 -- read one by one that an index was known to hold.
-use Rattle.std.specs.Prelude.{ℕ, ◌≡◌, ◌≢◌, ◌<◌, ◌≤◌, suc, cond, drop, List, [], ◌∷◌, Some, slice_get, ⊤}
+use Rattle.std.specs.Prelude.{ℕ, ◌≡◌, ◌≢◌, ◌<◌, ◌≤◌, cond, drop, List, [], ◌∷◌, Some, slice_get, ⊤}
 use Rattle.fish_catalog.specs.declared.listed.Listed.{Listed}
 use Rattle.fish_catalog.specs.declared.row.CatRow.{CatRow}
 use Rattle.fish_lanes.specs.Registering.{Registry, after}
@@ -9,12 +9,11 @@ use Rattle.fish_lanes.specs.declared.work.Work.{Work}
 use Rattle.fish_lanes.specs.declared.work.Work.TheVariants as work
 use Rattle.fish_plan.specs.declared.pieces.Piece.{Piece}
 use Rattle.fish_plan.specs.declared.pieces.Piece.TheVariants.{Full, Index}
-use Rattle.fish_registry.specs.Knowing.{HasBegunBy, IsRead}
+use Rattle.fish_registry.specs.Knowing.{HasBegunBy}
 use Rattle.fish_report.specs.declared.item.Item.{Item}
 use Rattle.fish_report.specs.declared.item.Item.TheVariants as item
 use Rattle.fish_report.specs.declared.item.ScanCause.TheVariants as cause
-use Rattle.fish_rule.specs.Registry.{KnowsDefinitions, row_at}
-use Rattle.fish_rule.specs.Views.{Among}
+use Rattle.fish_rule.specs.Registry.{KnowsDefinitions}
 use Rattle.fish_rule.specs.declared.view.View.{View}
 use Rattle.fish_scan.specs.Naming.{IsNewest}
 use Rattle.fish_scan.specs.declared.ask.Ask.{Ask}
@@ -108,22 +107,3 @@ abbrev pub AreSoPlans : (ℕ → List Listed → Type 0) → Registry → List C
 AreSoPlans Are r rows from works [] = ⊤
 AreSoPlans Are r rows from works (x ∷ items) = TellsFirstPlans Are r.rows rows from works x
     × AreSoPlans Are (after r x) rows from (works_behind x works) items
-
--- ---- on the way
-
--- the boundaries of the rows are words that the pass has read
-abbrev pub AreReadBounds : View → List CatRow → Type 0
-AreReadBounds v rows = (id : ℕ) (row : CatRow) → slice_get rows id ≡ Some row
-    → IsRead v (row_at id 0) row.from × IsRead v (row_at id 1) row.to
-
--- the boundary words that the pass has read are those of the rows
-pub record AreBoundsIn (v : View) (rows : List CatRow) : Type 0 where
-  pub from : (id n : ℕ) → id < 256 → Among (record { index = row_at id 0; value = suc n }) v.learned.words
-      → (row : CatRow) × (slice_get rows id ≡ Some row) × (row.from ≡ Some n)
-  pub to : (id n : ℕ) → id < 256 → Among (record { index = row_at id 1; value = suc n }) v.learned.words
-      → (row : CatRow) × (slice_get rows id ≡ Some row) × (row.to ≡ Some n)
-
--- between two views, the items of a lane say this of any rows whose boundaries its pass has read behind them
-abbrev pub PlansAreSoBy : View → View → Registry → List Work → List Item → Type 0
-PlansAreSoBy v u r works items = (rows : List CatRow) (from : ℕ) → AreBoundsIn u rows → from ≤ v.learned.settled
-    → AreSoPlans (KnowsRows u) r rows from works items

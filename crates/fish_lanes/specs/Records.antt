@@ -1,10 +1,9 @@
 -- The records that a lane stores in a block, in order, and those of a lane in a log.
-use Rattle.std.specs.Prelude.{ℕ, ◌≡◌, ◌⊎◌, ◌-◌, ◌≤◌, suc, List, [], ◌∷◌, take, drop}
+use Rattle.std.specs.Prelude.{ℕ, ◌≡◌, ◌⊎◌, ◌-◌, suc, List, [], ◌∷◌, take, drop}
 use Rattle.std.proofs.Math.Decide.{ℕ_discrete}
 use Rattle.fish_catalog.specs.declared.entry.Entry.{Entry}
 use Rattle.fish_catalog.specs.declared.entry.Entry.TheVariants as entry
 use Rattle.fish_layout.specs.Cleared.{choose}
-use Rattle.fish_rule.specs.declared.view.Own.{Own}
 use Rattle.fish_value.specs.declared.field.Form.{Form}
 
 -- a record of a lane
@@ -20,20 +19,6 @@ Content = Form × List ℕ
 abbrev pub contents : List LaneRow → List Content
 contents [] = []
 contents (r ∷ rows) = (r.form, r.payload) ∷ contents rows
-
--- the entry that a record of a lane is
-abbrev pub entry_of : ℕ → LaneRow → Entry
-entry_of lane r = entry.Stored lane r.form r.payload
-
--- the rows as records of a lane
-abbrev pub owned : ℕ → List LaneRow → List Own
-owned lane [] = []
-owned lane (r ∷ rows) = record { lane = lane; number = r.number } ∷ owned lane rows
-
--- the numbers ascend from one on, below another
-abbrev pub Ascends : ℕ → List LaneRow → ℕ → Type 0
-Ascends from [] to = from ≤ to
-Ascends from (r ∷ rows) to = (from ≤ r.number) × Ascends (suc r.number) rows to
 
 -- one of the rows has the number
 abbrev pub HasNumber : ℕ → List LaneRow → Type 0
@@ -51,7 +36,3 @@ rows_from lane n (entry.Void ∷ entries) = rows_from lane (suc n) entries
 -- the records of a lane in a log, from a number on and below another
 abbrev pub rows_of_lane : List Entry → ℕ → ℕ → ℕ → List LaneRow
 rows_of_lane log from to lane = rows_from lane from (take (to - from) (drop from log))
-
--- their forms and payloads
-abbrev pub of_lane : List Entry → ℕ → ℕ → ℕ → List Content
-of_lane log from to lane = contents (rows_of_lane log from to lane)

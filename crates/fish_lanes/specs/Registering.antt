@@ -140,12 +140,6 @@ waiting_id (Some w) = Some w.id
 abbrev pub registry_of : View → Registrar → Registry
 registry_of v r = record { rows = r.catalog; waiting = waiting_id r.waiting; version = v.learned.version }
 
--- the definitions, what was stored of them and what waits are the same in the second view
-pub record KeepsRegistry (v u : View) : Type 0 where
-  pub rows : u.rows ≡ v.rows
-  pub main_words : u.main_words ≡ v.main_words
-  pub round : u.round ≡ v.round
-
 -- ---- statements
 
 -- the item of a registration of this name and text

@@ -1,5 +1,5 @@
 -- How many lines the record of a payload takes, and which claim a refusal by a full log tells of.
-use Rattle.std.specs.Prelude.{ℕ, ◌≡◌, ◌⊎◌, ◌≤◌, List, Option, Some}
+use Rattle.std.specs.Prelude.{ℕ, ◌≡◌, ◌⊎◌, List, Option, Some}
 use Rattle.fish_catalog.specs.Listing.{active_texts}
 use Rattle.fish_catalog.specs.declared.listed.Listed.{Listed}
 use Rattle.fish_lanes.specs.Scanning.{HasRows}
@@ -10,10 +10,8 @@ use Rattle.fish_layout.specs.declared.parts.BodyParts.{BodyParts}
 use Rattle.fish_report.specs.declared.item.Item.{Item}
 use Rattle.fish_report.specs.declared.item.Item.TheVariants as item
 use Rattle.fish_rule.specs.Keys.{HasKeys}
-use Rattle.fish_rule.specs.Registry.{KnowsDefinitions}
 use Rattle.fish_rule.specs.Views.{Among}
 use Rattle.fish_rule.specs.declared.view.Shut.{Shut}
-use Rattle.fish_rule.specs.declared.view.View.{View}
 use Rattle.fish_value.specs.declared.field.Form.{Form}
 use Rattle.fish_whole.specs.Whole.{Whole}
 
@@ -32,14 +30,6 @@ pub record IsSizeOf (w : Whole) (s : Span) (form : Form) (payload : List ℕ) (l
   pub version : ℕ
   pub rows : List Listed
   pub has : HasRows w s version rows
-  pub size : HasSize rows form payload lines
-
--- so they are at a version that the pass knew between the two views
-pub record IsSizeBetween (v u : View) (form : Form) (payload : List ℕ) (lines : ℕ) : Type 0 where
-  pub version : ℕ
-  pub least : v.learned.version ≤ version
-  pub rows : List Listed
-  pub knows : KnowsDefinitions u.about u.learned version rows
   pub size : HasSize rows form payload lines
 
 -- ---- claims
@@ -61,7 +51,3 @@ TellsClaim c items = (file : List ℕ) × (stored : ℕ) × (refused : ℕ)
 pub record NamesOneClaim (full : Option Shut) (items : List Item) : Type 0 where
   pub one : (c d : Shut) → TellsClaim c items → TellsClaim d items → c ≡ d
   pub given : (c d : Shut) → full ≡ Some c → TellsClaim d items → d ≡ c
-
--- what shuts the pass did so before, or an item tells of it
-abbrev pub TellsShut : View → View → List Item → Type 0
-TellsShut v u items = (c : Shut) → u.shut ≡ Some c → (v.shut ≡ Some c) ⊎ TellsClaim c items

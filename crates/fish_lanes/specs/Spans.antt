@@ -1,11 +1,8 @@
 -- Between which numbers of the log, and between which versions, a block lies.
-use Rattle.std.specs.Prelude.{ℕ, ◌≡◌, ◌+◌, ◌<◌, ◌≤◌, Bool, List, Option, false, filter, true}
+use Rattle.std.specs.Prelude.{ℕ, ◌≡◌, ◌+◌, Bool, List, Option, false, filter, true}
 use Rattle.fish_report.specs.declared.item.Item.{Item}
 use Rattle.fish_report.specs.declared.item.Item.TheVariants as item
-use Rattle.fish_rule.specs.LoadSteps.{IsAlone}
 use Rattle.fish_rule.specs.declared.view.Shut.{Shut}
-use Rattle.fish_rule.specs.declared.view.View.{View}
-use Rattle.fish_walk.specs.Looks.{KnowsEntry}
 
 -- the log's end before the block and behind it, the versions there, how many lanes the block has, and the claim that had found the log
 -- full before it
@@ -16,19 +13,6 @@ pub record Span : Type 0 where
   pub last : ℕ
   pub lanes : ℕ
   pub full : Option Shut
-
--- what a lane's pass knew at its start and knows at its end lies within the block, which begins in the pass's table; what it knows to be
--- settled or an entry lies below the block's end
-pub record IsWithinSpan (v u : View) (s : Span) : Type 0 where
-  pub first : s.first ≤ v.learned.version
-  pub last : u.learned.version ≤ s.last
-  pub above : v.about.number ≤ s.from
-  pub settled : s.from ≤ v.learned.settled
-  pub counted : s.from ≤ v.learned.count
-  pub near : u.learned.count ≤ s.to + 16
-  pub alone : s.lanes ≡ 1 → IsAlone v
-  pub stored : u.learned.settled ≤ s.to
-  pub entries : (n : ℕ) → KnowsEntry u n → n < s.to
 
 -- how many versions the item says were made
 abbrev pub made_by : Item → ℕ

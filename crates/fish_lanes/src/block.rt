@@ -2,25 +2,25 @@
 
 ghost use Rattle.std.specs.Prelude.{◌≡◌, ◌≤◌, ◌<◌, ◌+◌, ◌∷◌, ℕ, length, slice_get, Some, [], All};
 ghost use Rattle.std.specs.Thread.{IsSync};
-ghost use Rattle.fish_lanes.specs.Advancing.{HasGone};
-ghost use Rattle.fish_lanes.specs.Blocks.{At, AreEnded, AreGone, AreJoined, AreKept, AreLanes, AreReady, AreSeated, CanGive};
-ghost use Rattle.fish_lanes.specs.Blocks.{CanTake, HasGiven, HasRegistered, HasRunFirst, HasSeat, HasTaken, HasTakenAll, IsBlockSpan};
-ghost use Rattle.fish_lanes.specs.Blocks.{IsFirst, IsKept, IsNewLane, NameMarks, TellsBlock, WasTaken, WereTaken};
+ghost use Rattle.fish_lanes.specs.Blocks.{At, AreEnded, AreKept, AreLanes, HasRegistered, IsBlockSpan, IsKept, IsNewLane};
+ghost use Rattle.fish_lanes.specs.Blocks.{NameMarks, TellsBlock};
 ghost use Rattle.fish_lanes.specs.Controlling.{CanControl, IsCommitted};
-ghost use Rattle.fish_lanes.specs.Course.{HasFoundEnd, HasRunLanes};
 ghost use Rattle.fish_lanes.specs.Ending.{HasEnd};
 ghost use Rattle.fish_lanes.specs.Gains.{WasShut};
-ghost use Rattle.fish_lanes.specs.Outcome.{AreVacant, GoesAgain, HandsBack, LanesSayPlans, LeaveNone, Stops, TellFullLast};
+ghost use Rattle.fish_lanes.specs.Outcome.{AreVacant, HandsBack, LanesSayPlans, LeaveNone, Stops, TellFullLast};
 ghost use Rattle.fish_lanes.specs.Outcome.{TellsAlone, TellsAloneBy, TellsShutBy};
 ghost use Rattle.fish_lanes.specs.Plans.{KnowsRows};
 ghost use Rattle.fish_lanes.specs.Registering.{IsAcceptable, KnowsRegistry, registry_of};
-ghost use Rattle.fish_lanes.specs.Running.{IsReady};
 ghost use Rattle.fish_lanes.specs.Spans.{Span};
 ghost use Rattle.fish_lanes.specs.declared.work.LaneFault.TheVariants as cause;
+ghost use Rattle.fish_lanes.specs.within.Advancing.{HasGone};
+ghost use Rattle.fish_lanes.specs.within.Blocks.{AreGone, AreReady, CanGive, HasRunFirst, IsFirst};
+ghost use Rattle.fish_lanes.specs.within.Course.{HasFoundEnd, HasRunLanes};
+ghost use Rattle.fish_lanes.specs.within.Outcome.{GoesAgain};
+ghost use Rattle.fish_lanes.specs.within.Running.{IsReady};
 ghost use Rattle.fish_rule.specs.LoadSteps.{IsAlone};
-ghost use Rattle.fish_rule.specs.Passes.{IsPassOf, view};
+ghost use Rattle.fish_rule.specs.Passes.{view};
 ghost use Rattle.fish_rule.specs.Views.{AllOf};
-ghost use Rattle.fish_rule.specs.SeatSteps.{CanSplitPass, split_left, split_right};
 ghost use Rattle.fish_scan.specs.Colder.{IsBelow};
 ghost use Rattle.fish_store.specs.Points.{point_at, point_of};
 ghost use Rattle.fish_store.specs.Sound.{GoesOnHere, IsSoundBehind, MayGoOn, RowsGoOn};
@@ -32,12 +32,13 @@ use crate::gate::Gate;
 use crate::handing::hand_back;
 use crate::lane::{Lane, Seated};
 use crate::registering::find_last;
+use crate::seats::{give_all, take_all};
 use crate::statements::{is_full, run_works};
 use crate::work::LaneFault;
 use fish_disk::Disk;
 use fish_epoch::Defs;
 use fish_registry::Registrar;
-use fish_rule::{Log, Pass, join_pass, split_pass};
+use fish_rule::{Log, Pass};
 use fish_store::{Store, StoreFile};
 use fish_walk::settle;
 use std::alloc::Global;
@@ -142,58 +143,6 @@ fn run_first<D: Disk, G: Gate>(
         gate,
     );
     lane.fault = hand_back(&mut lane.works, &mut lane.left, &lane.items, fault);
-}
-
-/// Gives a lane its pass.
-fn give(log: &Log, main: &mut Pass, lane: &mut Lane)
-    requires pass { IsPassOf log.now main.old }
-    requires can { CanSplitPass (view main.old) lane.old.number }
-    ensures pass { IsPassOf log.now main.new }
-    ensures left { view main.new ≡ split_left lane.old.number (view main.old) }
-    ensures seat { HasSeat log.now (split_right lane.old.number (view main.old)) lane.old lane.new }
-{
-    let pass = split_pass(log, main, lane.number);
-    lane.seat = Some(Seated { pass });
-}
-
-/// Gives each lane its pass.
-fn give_all(log: &Log, main: &mut Pass, lanes: &mut [Lane])
-    requires pass { IsPassOf log.now main.old }
-    requires can { CanGive (view main.old) lanes.old }
-    ensures pass { IsPassOf log.now main.new }
-    ensures given { HasGiven (view main.old) (view main.new) (length lanes.old) }
-    ensures seated { AreSeated log.now (view main.old) lanes.old lanes.new }
-{
-    for i in 0..lanes.len() {
-        give(log, main, &mut lanes[i]);
-    }
-}
-
-/// Takes back the pass of a lane.
-fn take_back(log: &Log, main: &mut Pass, lane: &mut Lane)
-    requires pass { IsPassOf log.now main.old }
-    requires can { CanTake log.now (view main.old) lane.old }
-    ensures pass { IsPassOf log.now main.new }
-    ensures taken { HasTaken (view main.old) (view main.new) lane.old }
-    ensures lane { WasTaken lane.old lane.new }
-{
-    let Some(Seated { pass }) = lane.seat.take() else {
-        unreachable!()
-    };
-    join_pass(log, main, pass);
-}
-
-/// Takes back the pass of each lane.
-fn take_all(log: &Log, main: &mut Pass, lanes: &mut [Lane])
-    requires pass { IsPassOf log.now main.old }
-    requires can { AreJoined log.now (view main.old) lanes.old }
-    ensures pass { IsPassOf log.now main.new }
-    ensures taken { HasTakenAll (view main.old) (view main.new) lanes.old (length lanes.old) }
-    ensures lanes { WereTaken lanes.old lanes.new }
-{
-    for i in 0..lanes.len() {
-        take_back(log, main, &mut lanes[i]);
-    }
 }
 
 /// Does the statements of all lanes at once: those of the first by the control pass, and those of every other one up to its first

@@ -4,9 +4,10 @@
 ghost use Rattle.std.specs.Prelude.{◌≡◌, ◌≢◌, ◌≤◌, ◌⊎◌, [], All, IfErr, IfOk, IsErrOf, None, length};
 ghost use Rattle.fish_epoch.specs.Definitions.{IsDefsOf};
 ghost use Rattle.fish_lanes.specs.Causes.{HasCause, IsUndamaged};
-ghost use Rattle.fish_lanes.specs.Controlling.{CanControl, HasControlled, IsCommitted, IsControlled, IsPartControlled};
-ghost use Rattle.fish_lanes.specs.Doing.{FitsCheckpoint};
-ghost use Rattle.fish_lanes.specs.Full.{TellsLast, done_of};
+ghost use Rattle.fish_lanes.specs.Controlling.{CanControl, IsCommitted};
+ghost use Rattle.fish_lanes.specs.within.Controlling.{HasControlled, IsControlled, IsPartControlled};
+ghost use Rattle.fish_lanes.specs.within.Doing.{FitsCheckpoint};
+ghost use Rattle.fish_lanes.specs.within.Full.{TellsLast, done_of};
 ghost use Rattle.fish_lanes.specs.Gains.{WasShut};
 ghost use Rattle.fish_lanes.specs.Registering.{IsAcceptable, KnowsRegistry, registry_of};
 ghost use Rattle.fish_lanes.specs.Spans.{answers};
@@ -34,7 +35,7 @@ use fish_store::StoreFile;
 use std::alloc::Global;
 
 /// Does statements in order, up to the first fault or until the pass has found the log full, unless it was so at the start,
-/// with definitions that are read anew.
+/// with definitions that are read anew. Before each it looks whether the index of the registration that waits begins.
 pub(crate) fn run_control<D: Disk, G: Gate>(
     alloc: Global,
     log: &Log,
@@ -71,49 +72,6 @@ pub(crate) fn run_control<D: Disk, G: Gate>(
         (D.content disk.new) past → IsUndamaged result }
 {
     let mut defs = Defs::new(alloc);
-    run_statements(
-        alloc, log, pass, registrar, file, disk, &mut defs, works, items, gate,
-    )
-}
-
-/// Does statements in order, up to the first fault or until the pass has found the log full, unless it was so at the start.
-/// Before each it looks whether the index of the registration that waits begins.
-fn run_statements<D: Disk, G: Gate>(
-    alloc: Global,
-    log: &Log,
-    pass: &mut Pass,
-    registrar: &mut Registrar,
-    file: &mut StoreFile,
-    disk: &mut D,
-    defs: &mut Defs,
-    works: &[Work],
-    items: &mut Items,
-    gate: &G,
-) -> LaneFault
-    requires can { CanControl log.now pass.old registrar.old }
-    requires defs { IsDefsOf (view pass.old) defs.old }
-    requires known { KnowsRegistry (view pass.old) (registry_of (view pass.old) registrar.old) }
-    requires commit { MayGoOn D.images (point_of disk.old file.old log.now pass.old registrar.old) }
-    requires below { IsBelow log.now.key file.old.cold }
-    requires acceptable { All IsAcceptable works.now }
-    requires empty { items.old ≡ [] }
-    ensures can { CanControl log.now pass.new registrar.new }
-    ensures below { IsBelow log.now.key file.new.cold }
-    ensures goes { GoesOnHere D.content D.images D.since D.moment (point_of disk.old file.old log.now pass.old registrar.old)
-        (point_of disk.new file.new log.now pass.new registrar.new) }
-    ensures again { (result ≡ cause.Disk → ⊥) → MayGoOn D.images (point_of disk.new file.new log.now pass.new registrar.new) }
-    ensures run { HasControlled (IsSoundBehind D.content D.images (point_of disk.old file.old log.now pass.old registrar.old)
-        (D.content disk.new)) (view pass.old) (view pass.new) registrar.old registrar.new
-        (done_of result (length (answers items.new)) works.now) items.new result }
-    ensures all { result ≡ cause.None → (length works.now ≤ length (answers items.new))
-        ⊎ (((view pass.old).shut ≡ None) × WasShut (view pass.new)) }
-    ensures last { (view pass.old).shut ≡ None → TellsLast (view pass.new) items.new result }
-    ensures committed { AllOf (IsCommitted file.new.flusher.count) items.new }
-    ensures cause { HasCause (D.faults disk.old) (D.faults disk.new) result }
-    ensures later { D.faults disk.old ≤ D.faults disk.new }
-    ensures whole { (past : Whole) → IsSoundBehind D.content D.images (point_of disk.old file.old log.now pass.old registrar.old)
-        (D.content disk.new) past → IsUndamaged result }
-{
     let full = is_full(pass);
     let mut place: u32 = 0;
     for work in works {
@@ -124,7 +82,9 @@ fn run_statements<D: Disk, G: Gate>(
         if find_boundary(log, pass, registrar, items).is_err() {
             return LaneFault::Memory;
         }
-        let item = match run_statement(alloc, log, pass, registrar, file, disk, defs, work, gate) {
+        let item = match run_statement(
+            alloc, log, pass, registrar, file, disk, &mut defs, work, gate,
+        ) {
             Ok(item) => item,
             Err(fault) => return fault,
         };

@@ -5,15 +5,17 @@ ghost use Rattle.std.specs.Prelude.{◌≡◌, ◌≢◌, ◌≤◌, ◌⊎◌, 
 ghost use Rattle.fish_cold.specs.Carries.{CarriesTable};
 ghost use Rattle.fish_epoch.specs.Definitions.{IsDefsOf};
 ghost use Rattle.fish_ingest.specs.Ingestion.{CanStart};
-ghost use Rattle.fish_lanes.specs.Advancing.{FinishesBy, HasFinished, IsShort};
-ghost use Rattle.fish_lanes.specs.Blocks.{AreReady, At, Both};
+ghost use Rattle.fish_lanes.specs.within.Advancing.{FinishesBy, HasFinished, IsShort};
+ghost use Rattle.fish_lanes.specs.Blocks.{At, Both};
+ghost use Rattle.fish_lanes.specs.within.Blocks.{AreReady};
 ghost use Rattle.fish_lanes.specs.Causes.{HasCause, IsUndamaged};
-ghost use Rattle.fish_lanes.specs.Doing.{IsItem, IsPart};
-ghost use Rattle.fish_lanes.specs.Full.{HasFound, TellsLast};
+ghost use Rattle.fish_lanes.specs.within.Doing.{IsItem, IsPart};
+ghost use Rattle.fish_lanes.specs.within.Full.{HasFound, TellsLast};
 ghost use Rattle.fish_lanes.specs.Gains.{WasShut};
 ghost use Rattle.fish_lanes.specs.Outcome.{Stops};
-ghost use Rattle.fish_lanes.specs.Pasts.{IsHere, WasHere};
-ghost use Rattle.fish_lanes.specs.Running.{CanBegin, IsReady, IsShared};
+ghost use Rattle.fish_lanes.specs.within.Pasts.{IsHere, WasHere};
+ghost use Rattle.fish_lanes.specs.Running.{IsShared};
+ghost use Rattle.fish_lanes.specs.within.Running.{CanBegin, IsReady};
 ghost use Rattle.fish_lanes.specs.Spans.{IsAnswer};
 ghost use Rattle.fish_lanes.specs.declared.work.LaneFault.TheVariants as cause;
 ghost use Rattle.fish_rule.specs.Passes.{IsPassOf, view};
@@ -24,11 +26,10 @@ ghost use Rattle.fish_whole.specs.Whole.{Whole};
 
 use crate::gate::{Gate, Point};
 use crate::handing::hand_back;
-use crate::ingesting::ingest_file;
 use crate::lane::{Lane, Seated};
-use crate::scanning::{explain_range, scan_older};
-use crate::statements::{finds_full, place_of};
-use crate::work::{LaneFault, Work, or_memory};
+use crate::scanning::scan_older;
+use crate::statements::{finds_full, place_of, run_work};
+use crate::work::{LaneFault, Work};
 use fish_disk::Disk;
 use fish_epoch::Defs;
 use fish_report::{Item, Items};
@@ -188,24 +189,11 @@ pub(crate) fn run_shared<D: Disk, G: Gate>(
     ensures whole { CarriesTable (D.content disk.new) log.now.key file.old.cold → IfErr result IsUndamaged }
 {
     match work {
-        Work::Register { .. } | Work::Deregister { .. } | Work::Checkpoint => unreachable!(),
-        Work::Ingest {
-            form,
-            begin,
-            name,
-            file: bytes,
-        } => or_memory(ingest_file(
-            alloc,
-            log,
-            pass,
-            defs,
-            *form,
-            *begin,
-            name,
-            bytes.as_bytes(),
-            gate,
-        )),
         Work::Scan { ask } => scan_older(alloc, log, pass, file, disk, defs, ask),
-        Work::Explain { ask } => or_memory(explain_range(alloc, log, pass, defs, ask)),
+        _ => match run_work(alloc, log, pass, defs, work, gate) {
+            Ok(item) => Ok(item),
+            // none but a scan waits for the file
+            Err(_) => Err(LaneFault::Memory),
+        },
     }
 }

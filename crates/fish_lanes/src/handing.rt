@@ -1,7 +1,7 @@
 //! What a lane hands back: the statements that it hasn't begun when it stops since it found the log full.
 
 ghost use Rattle.std.specs.Prelude.{◌≡◌, [], length};
-ghost use Rattle.fish_lanes.specs.Full.{IsHandedBack};
+ghost use Rattle.fish_lanes.specs.within.Full.{IsHandedBack};
 ghost use Rattle.fish_lanes.specs.Spans.{answers};
 
 use crate::work::{LaneFault, Works};

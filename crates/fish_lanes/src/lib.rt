@@ -10,6 +10,7 @@ mod ingesting;
 mod lane;
 mod registering;
 mod scanning;
+mod seats;
 mod statements;
 mod work;
 

@@ -3,10 +3,12 @@
 ghost use Rattle.std.specs.Prelude.{◌≡◌, ◌≢◌, ◌<◌, IfErr, IfOk, Some};
 ghost use Rattle.fish_cold.specs.Carries.{CarriesTable};
 ghost use Rattle.fish_epoch.specs.Definitions.{IsDefsOf};
-ghost use Rattle.fish_lanes.specs.Causes.{HasCause, IsUndamaged, fault_of};
-ghost use Rattle.fish_lanes.specs.Doing.{IsAnswerHere, IsExplainedAnswer, IsFit, IsRefusedItem, cause_of, explained_item, scanned_item};
+ghost use Rattle.fish_lanes.specs.Causes.{HasCause, IsUndamaged};
+ghost use Rattle.fish_lanes.specs.within.Causes.{fault_of};
+ghost use Rattle.fish_lanes.specs.Doing.{explained_item, scanned_item};
+ghost use Rattle.fish_lanes.specs.within.Doing.{IsAnswerHere, IsExplainedAnswer, IsFit, IsRefusedItem, cause_of};
 ghost use Rattle.fish_lanes.specs.Loading.{LoadsInTable};
-ghost use Rattle.fish_lanes.specs.Pasts.{IsHere, anywhere};
+ghost use Rattle.fish_lanes.specs.within.Pasts.{IsHere, anywhere};
 ghost use Rattle.fish_lanes.specs.declared.work.LaneFault.TheVariants as cause;
 ghost use Rattle.fish_lanes.specs.declared.work.Work.TheVariants as work;
 ghost use Rattle.fish_report.specs.declared.item.Item.TheVariants as item;
@@ -45,7 +47,8 @@ pub(crate) fn scan_range(
     ensures defs { IsDefsOf (view pass.new) defs.new }
     ensures fits { IfOk result (IsFit anywhere (view pass.old) (view pass.new) (work.Scan ask.now)) }
 {
-    match scan_counted(alloc, log, pass, defs, ask) {
+    let (parses, loads) = (Blank::new(1), Blank::new(1));
+    match scan_with::<Brand, Brand>(alloc, parses, loads, log, pass, defs, ask) {
         Ok(answer) => or_stop(scanned(alloc, ask, answer, defs.version())),
         Err(ScanRefusal::ColdRange { .. }) => Err(Stop::Older),
         Err(refusal) => or_stop(refused(alloc, ask, refusal, defs.version())),
@@ -79,7 +82,8 @@ pub(crate) fn scan_older<D: Disk>(
     ensures cause { IfErr result (HasCause (D.faults disk.old) (D.faults disk.new)) }
     ensures whole { CarriesTable (D.content disk.new) log.now.key file.old.cold → IfErr result IsUndamaged }
 {
-    match older_counted(alloc, log, pass, file, disk, defs, ask) {
+    let (parses, loads) = (Blank::new(1), Blank::new(1));
+    match older_with::<Brand, Brand, D>(alloc, parses, loads, log, pass, file, disk, defs, ask) {
         Ok(answer) => or_memory(scanned(alloc, ask, answer, defs.version())),
         Err(refusal) => match fault_of(refusal) {
             Some(fault) => Err(fault),
@@ -236,27 +240,7 @@ fn cause_of(refusal: ScanRefusal) -> Option<ScanCause>
     }
 }
 
-/// Scans, with counters of parses and loads that nobody reads.
-fn scan_counted(
-    alloc: Global,
-    log: &Log,
-    pass: &mut Pass,
-    defs: &mut Defs,
-    ask: &Ask,
-) -> Result<Answer, ScanRefusal>
-    requires pass { IsPassOf log.now pass.old }
-    requires defs { IsDefsOf (view pass.old) defs.old }
-    ensures pass { IsPassOf log.now pass.new }
-    ensures only { OnlyScans (view pass.old) (view pass.new) }
-    ensures defs { IsDefsOf (view pass.new) defs.new }
-    ensures answer { IfOk result (IsAnswer (view pass.old) (view pass.new) defs.new.known ask.now) }
-    ensures loads { IfOk result (LoadsInTable (view pass.old) (view pass.new) ask.now.value) }
-    ensures refused { IfErr result (IsRefused (view pass.old) (view pass.new) defs.new.known ask.now) }
-{
-    scan_with::<Brand, Brand>(alloc, Blank::new(1), Blank::new(1), log, pass, defs, ask)
-}
-
-/// The same with counters of two blanks.
+/// Scans, with counters of parses and loads that begin with two blanks, and that nobody reads.
 fn scan_with<P: Ledger, L: Ledger>(
     alloc: Global,
     parses: Blank,
@@ -286,47 +270,7 @@ fn scan_with<P: Ledger, L: Ledger>(
     scan(alloc, log, pass, defs, ask, &mut parses, &mut loads)
 }
 
-/// Scans on both sides of the table's base, with counters that nobody reads.
-fn older_counted<D: Disk>(
-    alloc: Global,
-    log: &Log,
-    pass: &mut Pass,
-    file: &mut StoreFile,
-    disk: &mut D,
-    defs: &mut Defs,
-    ask: &Ask,
-) -> Result<Answer, ScanRefusal>
-    requires pass { IsPassOf log.now pass.old }
-    requires defs { IsDefsOf (view pass.old) defs.old }
-    requires base { IsBelow log.now.key file.old.cold }
-    ensures pass { IsPassOf log.now pass.new }
-    ensures only { OnlyScans (view pass.old) (view pass.new) }
-    ensures defs { IsDefsOf (view pass.new) defs.new }
-    ensures base { IsBelow log.now.key file.new.cold }
-    ensures flusher { file.new.flusher ≡ file.old.flusher }
-    ensures reads { ReadsPages D.content D.images D.since D.moment D.faults log.now.key file.old.cold file.new.cold disk.old
-        disk.new }
-    ensures explained { IfOk result (IsExplainedAnswer (view pass.old) (view pass.new) defs.new.known ask.now) }
-    ensures answer { IfOk result (IsAnswerHere (D.content disk.new) log.now.key file.old.cold (view pass.old) (view pass.new)
-        defs.new.known ask.now) }
-    ensures refused { IfErr result (IsRefusedWith (view pass.old) (view pass.new) defs.new.known ask.now) }
-    ensures fault { IsScanFault (D.faults disk.old) (D.faults disk.new) result }
-    ensures whole { CarriesTable (D.content disk.new) log.now.key file.old.cold → IfErr result IsUndamagedScan }
-{
-    older_with::<Brand, Brand, D>(
-        alloc,
-        Blank::new(1),
-        Blank::new(1),
-        log,
-        pass,
-        file,
-        disk,
-        defs,
-        ask,
-    )
-}
-
-/// The same with counters of two blanks.
+/// The same on both sides of the table's base.
 fn older_with<P: Ledger, L: Ledger, D: Disk>(
     alloc: Global,
     parses: Blank,

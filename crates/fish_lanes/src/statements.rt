@@ -3,11 +3,12 @@
 ghost use Rattle.std.specs.Prelude.{◌≡◌, ◌≤◌, ◌&&◌, not, is_some, None, All, IfErr, IfOk, length};
 ghost use Rattle.fish_epoch.specs.Definitions.{IsDefsOf};
 ghost use Rattle.fish_ingest.specs.Ingestion.{CanStart};
-ghost use Rattle.fish_lanes.specs.Advancing.{GoesOnBy, HasNext, IsShort};
-ghost use Rattle.fish_lanes.specs.Causes.{or_stop};
-ghost use Rattle.fish_lanes.specs.Doing.{IsItem, IsStopped};
-ghost use Rattle.fish_lanes.specs.Full.{IsNotFull, TellsLast};
-ghost use Rattle.fish_lanes.specs.Pasts.{anywhere};
+ghost use Rattle.fish_lanes.specs.within.Advancing.{GoesOnBy, HasNext, IsShort};
+ghost use Rattle.fish_lanes.specs.within.Causes.{fault_at, or_stop};
+ghost use Rattle.fish_lanes.specs.within.Doing.{IsItem, IsStopped};
+ghost use Rattle.fish_lanes.specs.Full.{IsNotFull};
+ghost use Rattle.fish_lanes.specs.within.Full.{TellsLast};
+ghost use Rattle.fish_lanes.specs.within.Pasts.{anywhere};
 ghost use Rattle.fish_lanes.specs.Running.{IsShared};
 ghost use Rattle.fish_lanes.specs.Spans.{IsAnswer};
 ghost use Rattle.fish_rule.specs.Passes.{IsPassOf, view};
@@ -71,11 +72,20 @@ pub(crate) fn run_works<G: Gate>(
         }
         match run_next(alloc, log, pass, defs, &works[next], items, gate) {
             Ok(()) => {}
-            Err(Stop::Memory) => return LaneFault::Memory,
-            Err(Stop::Older) => return LaneFault::None,
+            Err(stop) => return fault_at(stop),
         }
     }
     LaneFault::None
+}
+
+/// The fault with which a lane stops at a statement without an item: none where it stays before it.
+fn fault_at(stop: Stop) -> LaneFault
+    ensures { result ≡ fault_at stop }
+{
+    match stop {
+        Stop::Memory => LaneFault::Memory,
+        Stop::Older => LaneFault::None,
+    }
 }
 
 /// Whether the pass found the log full since it began its statements, where it is told whether it was so then.
@@ -129,8 +139,8 @@ pub(crate) fn place_of(items: &Items) -> u32 {
     items.len().min(u32::MAX as usize) as u32
 }
 
-/// Does one statement that a lane behind the first may have.
-fn run_work<G: Gate>(
+/// Does one statement that any lane may have, by the table alone.
+pub(crate) fn run_work<G: Gate>(
     alloc: Global,
     log: &Log,
     pass: &mut Pass,

@@ -1,7 +1,7 @@
 //! What a lane is to do.
 
 ghost use Rattle.std.specs.Prelude.{◌≡◌, ◌++◌, ◌∷◌, ◌≤◌, [], drop, length, take, IfOk, OnErr, OnOk};
-ghost use Rattle.fish_lanes.specs.Causes.{or_memory};
+ghost use Rattle.fish_lanes.specs.within.Causes.{or_memory};
 
 use fish_lang::Def;
 use fish_lines::Begin;

@@ -8,7 +8,7 @@ use Rattle.std.proofs.lemmas.Grind.{common_steps, flat_map-append}
 use Rattle.std.proofs.lemmas.List.{take-append-drop, take_all}
 use Rattle.fish_outside.specs.Told.{Gained, GainedPart}
 use Rattle.fish_outside.proofs.ToldLemmas.{Gained_refl, Gained_trans}
-use Rattle.fish_report.specs.Writing.{Passes, PassesPart}
+use Rattle.fish_report.specs.within.Writing.{Passes, PassesPart}
 
 -- a text that only waits
 pub Passes_wait : (content : Option (List ℕ)) (waiting left text : List ℕ) → left ≡ waiting ++ text

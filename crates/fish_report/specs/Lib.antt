@@ -3,3 +3,4 @@ pub mod RefusalText
 pub mod ReportText
 pub mod StatementText
 pub mod Writing
+pub mod within

@@ -1,7 +1,6 @@
 -- What a sink gets of a text that is written by pieces.
-use Rattle.std.specs.Prelude.{◌≡◌, ℕ, ◌≤◌, List, ◌++◌, Option, Result, IsErrOf}
+use Rattle.std.specs.Prelude.{ℕ, ◌≤◌, Result, IsErrOf}
 use Rattle.fish_outside.specs.Causes.{Rose}
-use Rattle.fish_outside.specs.Told.{Gained}
 use Rattle.fish_report.specs.declared.writing.WriteRefusal.{WriteRefusal}
 use Rattle.fish_report.specs.declared.writing.WriteRefusal.TheVariants.{Failed}
 
@@ -9,17 +8,3 @@ use Rattle.fish_report.specs.declared.writing.WriteRefusal.TheVariants.{Failed}
 pub record HasWriteCause {T : Type 0} (before now : ℕ) (result : Result T WriteRefusal) : Type 0 where
   pub later : before ≤ now
   pub failed : IsErrOf result Failed → Rose before now
-
--- how many bytes a piece has at least, the last one aside
-abbrev pub piece_size : ℕ
-piece_size = 65536
-
--- a text was put behind what waited; the sink got a first part of the two, and what is left of them waits
-pub record Passes (old new : Option (List ℕ)) (waiting left text : List ℕ) : Type 0 where
-  pub sent : List ℕ
-  pub gained : Gained old new sent
-  pub all : sent ++ left ≡ waiting ++ text
-
--- the sink got a first part of what waited and of a text
-abbrev pub PassesPart : Option (List ℕ) → Option (List ℕ) → List ℕ → List ℕ → Type 0
-PassesPart old new waiting text = (left : List ℕ) × Passes old new waiting left text

@@ -7,7 +7,8 @@ ghost use Rattle.std.specs.Prelude.{◌≡◌, ◌<◌, [], OnOk, OnErr, string_
 ghost use Rattle.fish_outside.specs.Told.{Gained, GainedPart};
 ghost use Rattle.fish_report.specs.Parts.{row_text, rows_text};
 ghost use Rattle.fish_report.specs.ReportText.{item_text, report_text};
-ghost use Rattle.fish_report.specs.Writing.{HasWriteCause, Passes, PassesPart, piece_size};
+ghost use Rattle.fish_report.specs.Writing.{HasWriteCause};
+ghost use Rattle.fish_report.specs.within.Writing.{Passes, PassesPart, piece_size};
 
 use crate::head::{push_head, rows_of};
 use crate::item::Item;

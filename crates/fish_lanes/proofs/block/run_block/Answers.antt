@@ -3,7 +3,8 @@ use Rattle.std.proofs.Common.{◌≡◌, ◌≤◌, ◌+◌, ◌∙◌, [], ◌�
 use Rattle.fish_lanes.proofs.Firsts.{kept_both, alone_first, first_acceptable, first_new, first_there, lanes_again, others_many, others_new}
 use Rattle.fish_lanes.proofs.Firsts.{vacant_both}
 use Rattle.fish_lanes.proofs.Kept.{left_none}
-use Rattle.fish_lanes.specs.Blocks.{AreEnded, AreKept, At, CanGive, HasRegistered, IsKept, IsNewLane, NameMarks, TellsBlock}
+use Rattle.fish_lanes.specs.Blocks.{AreEnded, AreKept, At, HasRegistered, IsKept, IsNewLane, NameMarks, TellsBlock}
+use Rattle.fish_lanes.specs.within.Blocks.{CanGive}
 use Rattle.fish_lanes.specs.Controlling.{IsCommitted}
 use Rattle.fish_lanes.specs.Outcome.{AreVacant, HandsBack, LanesSayPlans, Stops, TellFullLast, TellsAloneBy, TellsShutBy}
 use Rattle.fish_lanes.specs.Plans.{KnowsRows}

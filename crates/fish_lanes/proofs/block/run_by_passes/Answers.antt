@@ -11,7 +11,7 @@ use Rattle.fish_lanes.proofs.Lists.{at_places}
 use Rattle.fish_lanes.proofs.Moments.{get_there}
 use Rattle.fish_lanes.specs.Controlling.{IsCommitted}
 use Rattle.fish_lanes.specs.Outcome.{Stops}
-use Rattle.fish_lanes.specs.Pasts.{WasHere}
+use Rattle.fish_lanes.specs.within.Pasts.{WasHere}
 use Rattle.fish_rule.proofs.laws.Learning.{learns_same}
 use Rattle.fish_rule.specs.Passes.{view}
 use Rattle.fish_rule.specs.Views.{AllOf}

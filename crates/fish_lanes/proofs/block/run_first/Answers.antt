@@ -1,8 +1,8 @@
 -- What the lane did it did of the statements that it keeps.
 use Rattle.std.proofs.Common.{◌≡◌, ◌≤◌, ◌⊎◌, List, None, length, refl, subst}
 use Rattle.fish_lanes.proofs.Kept.{first_handed, first_stops, handed_cause, handed_disk, handed_parts, handed_whole}
-use Rattle.fish_lanes.specs.Controlling.{HasControlled}
-use Rattle.fish_lanes.specs.Full.{done_of}
+use Rattle.fish_lanes.specs.within.Controlling.{HasControlled}
+use Rattle.fish_lanes.specs.within.Full.{done_of}
 use Rattle.fish_lanes.specs.Gains.{WasShut}
 use Rattle.fish_lanes.specs.Spans.{answers}
 use Rattle.fish_lanes.specs.declared.work.LaneFault.TheVariants as cause

@@ -3,7 +3,7 @@ use Rattle.std.proofs.Common.{sym, subst}
 use Rattle.std.proofs.Crossing.{crosses}
 use denote.Param.Send.{sendable}
 use Rattle.fish_lanes.proofs.Crossing.{lane_send}
-use Rattle.fish_lanes.specs.Running.{IsReady}
+use Rattle.fish_lanes.specs.within.Running.{IsReady}
 use Rattle.fish_rule.proofs.laws.Crossing.{log_sync}
 use Rattle.fish_lanes.proofs.block.run_others.Goals as goal
 

@@ -1,6 +1,6 @@
 -- What the pass of the lane left.
 use Rattle.std.proofs.Common.{◌≡◌, ◌∙◌, refl, sym, subst, List, true, false}
-use Rattle.fish_lanes.specs.Advancing.{GoesOnBy}
+use Rattle.fish_lanes.specs.within.Advancing.{GoesOnBy}
 use Rattle.fish_lanes.specs.declared.work.Work.{Work}
 use Rattle.fish_rule.specs.Passes.{view}
 use Rattle.fish_lanes.proofs.block.run_seated.Goals as goal

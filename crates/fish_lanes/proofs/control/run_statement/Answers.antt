@@ -13,8 +13,9 @@ use Rattle.fish_lanes.proofs.Registrations.{knows_kept, registry_same}
 use Rattle.fish_lanes.proofs.Single.{end_closed, end_rolls}
 use Rattle.fish_lanes.proofs.SoFar.{items_anywhere, items_fewer, shared_free, shared_of}
 use Rattle.fish_lanes.proofs.Stepping.{rows_self, stays_pass}
-use Rattle.fish_lanes.specs.Controlling.{IsCommitted, IsControlled, IsPartControlled}
-use Rattle.fish_lanes.specs.Pasts.{IsHere, anywhere}
+use Rattle.fish_lanes.specs.Controlling.{IsCommitted}
+use Rattle.fish_lanes.specs.within.Controlling.{IsControlled, IsPartControlled}
+use Rattle.fish_lanes.specs.within.Pasts.{IsHere, anywhere}
 use Rattle.fish_lanes.specs.Registering.{IsAcceptable}
 use Rattle.fish_lanes.specs.declared.work.LaneFault.{LaneFault}
 use Rattle.fish_lanes.specs.declared.work.Work.{Work}

@@ -2,9 +2,9 @@
 use Rattle.std.proofs.Common.{◌≡◌, ◌≤◌, ◌⊎◌, ◌++◌, ◌∙◌, List, ⊎_elim, append-nil, ap, false, length, refl, sym, subst, arith}
 use Rattle.fish_lanes.proofs.Finished.{on_ended, on_far, short_stops}
 use Rattle.fish_lanes.proofs.Kept.{all_answers, handed_cause, handed_last, handed_left, handed_parts, handed_whole, on_handed}
-use Rattle.fish_lanes.specs.Advancing.{IsOn, IsSoFar}
+use Rattle.fish_lanes.specs.within.Advancing.{IsOn, IsSoFar}
 use Rattle.fish_lanes.specs.Gains.{WasShut}
-use Rattle.fish_lanes.specs.Pasts.{WasHere}
+use Rattle.fish_lanes.specs.within.Pasts.{WasHere}
 use Rattle.fish_lanes.specs.Spans.{answers}
 use Rattle.fish_lanes.specs.declared.work.Work.{Work}
 use Rattle.fish_report.specs.declared.item.Item.{Item}

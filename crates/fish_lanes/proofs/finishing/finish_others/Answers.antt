@@ -6,10 +6,10 @@ use Rattle.fish_lanes.proofs.Finished.{finished_fewer, stops_before, stops_later
 use Rattle.fish_lanes.proofs.Lists.{get_set_else, get_set_here, read_at, some_once}
 use Rattle.fish_lanes.proofs.Moments.{get_there}
 use Rattle.fish_lanes.proofs.Pages.{here_on, pages_both, pages_none, pages_told}
-use Rattle.fish_lanes.specs.Advancing.{HasFinished, IsShort}
+use Rattle.fish_lanes.specs.within.Advancing.{HasFinished, IsShort}
 use Rattle.fish_lanes.specs.Outcome.{Stops}
-use Rattle.fish_lanes.specs.Pasts.{WasHere}
-use Rattle.fish_lanes.specs.Running.{IsReady}
+use Rattle.fish_lanes.specs.within.Pasts.{WasHere}
+use Rattle.fish_lanes.specs.within.Running.{IsReady}
 use Rattle.fish_lanes.specs.declared.lane.Lane.{Lane}
 use Rattle.fish_whole.specs.Whole.{Whole}
 use Rattle.fish_lanes.proofs.finishing.finish_others.Goals as goal

@@ -1,8 +1,8 @@
 -- The lanes so far are finished, with what was read of the file.
 use Rattle.std.proofs.Common.{◌≡◌, ℕ, ◌<◌, ◌≤◌, Some, slice_get}
-use Rattle.fish_lanes.specs.Advancing.{HasFinished}
+use Rattle.fish_lanes.specs.within.Advancing.{HasFinished}
 use Rattle.fish_lanes.specs.Outcome.{Stops}
-use Rattle.fish_lanes.specs.Pasts.{WasHere}
+use Rattle.fish_lanes.specs.within.Pasts.{WasHere}
 use Rattle.fish_lanes.specs.declared.lane.Lane.{Lane}
 use Rattle.fish_scan.specs.Colder.{IsBelow}
 use Rattle.fish_store.specs.Sound.{ReadsPages}

@@ -9,9 +9,9 @@ use Rattle.fish_lanes.proofs.Lists.{all_more}
 use Rattle.fish_lanes.proofs.Pages.{here_on, here_same, pages_both, pages_none, pages_told}
 use Rattle.fish_lanes.proofs.Showing.{fit_answer}
 use Rattle.fish_lanes.proofs.SoFar.{far_next, far_part, item_fewer}
-use Rattle.fish_lanes.specs.Advancing.{IsOn, IsSoFar}
-use Rattle.fish_lanes.specs.Full.{HasFound, TellsLast}
-use Rattle.fish_lanes.specs.Pasts.{IsHere, WasHere}
+use Rattle.fish_lanes.specs.within.Advancing.{IsOn, IsSoFar}
+use Rattle.fish_lanes.specs.within.Full.{HasFound, TellsLast}
+use Rattle.fish_lanes.specs.within.Pasts.{IsHere, WasHere}
 use Rattle.fish_lanes.specs.Running.{IsShared}
 use Rattle.fish_lanes.specs.Spans.{IsAnswer}
 use Rattle.fish_lanes.specs.Telling.{count_of}

@@ -3,9 +3,9 @@ use Rattle.std.proofs.Common.{◌≡◌, ℕ, List, Option, false, length}
 use Rattle.std.specs.Prelude.{IsSome}
 use Rattle.fish_epoch.specs.Definitions.{IsDefsOf}
 use Rattle.fish_ingest.specs.Ingestion.{CanStart}
-use Rattle.fish_lanes.specs.Advancing.{IsSoFar}
-use Rattle.fish_lanes.specs.Full.{HasFound}
-use Rattle.fish_lanes.specs.Pasts.{WasHere}
+use Rattle.fish_lanes.specs.within.Advancing.{IsSoFar}
+use Rattle.fish_lanes.specs.within.Full.{HasFound}
+use Rattle.fish_lanes.specs.within.Pasts.{WasHere}
 use Rattle.fish_lanes.specs.Spans.{IsAnswer}
 use Rattle.fish_rule.specs.Passes.{IsPassOf, view}
 use Rattle.fish_rule.specs.Views.{AllOf}

@@ -5,9 +5,9 @@ use Rattle.fish_lanes.proofs.Parts.{err_any}
 use Rattle.fish_lanes.proofs.Gaining.{gains_self}
 use Rattle.fish_lanes.proofs.Keeping.{keeps_self}
 use Rattle.fish_lanes.proofs.Storing.{file_item, file_part, nothing_part}
-use Rattle.fish_lanes.specs.Doing.{IsItem, IsPart}
-use Rattle.fish_lanes.specs.Pasts.{anywhere}
-use Rattle.fish_lanes.specs.Storing.{item_of}
+use Rattle.fish_lanes.specs.within.Doing.{IsItem, IsPart}
+use Rattle.fish_lanes.specs.within.Pasts.{anywhere}
+use Rattle.fish_lanes.specs.within.Storing.{item_of}
 use Rattle.fish_lanes.specs.declared.work.Work.TheVariants as work
 use Rattle.fish_report.specs.declared.item.Item.TheVariants as item
 use Rattle.fish_rule.specs.Passes.{view}

@@ -7,7 +7,7 @@ use Rattle.fish_lanes.proofs.Parts.{err_any}
 use Rattle.fish_lanes.proofs.Keeping.{keeps_ingests}
 use Rattle.fish_lanes.proofs.Storing.{full_line, gains_unclaimed, json_record, json_refused, stored_later}
 use Rattle.fish_lanes.proofs.Storing.{stored_line, stored_none, stored_starts, takes_one, takes_shut}
-use Rattle.fish_lanes.specs.Storing.{FindsFull, IsPartStored, IsStoredUpTo, TakesLine}
+use Rattle.fish_lanes.specs.within.Storing.{FindsFull, IsPartStored, IsStoredUpTo, TakesLine}
 use Rattle.fish_lanes.specs.declared.ingesting.Tally.{Tally}
 use Rattle.fish_lines.specs.Left.{left}
 use Rattle.fish_lines.specs.Resuming.{outcomes_from}

@@ -3,7 +3,7 @@ use Rattle.std.proofs.Common.{◌≡◌, ◌+◌, ◌≤◌, length, map}
 use Rattle.fish_epoch.specs.Definitions.{IsDefsOf}
 use Rattle.fish_ingest.specs.Ingestion.{CanStart}
 use Rattle.fish_json.specs.Lines as json
-use Rattle.fish_lanes.specs.Storing.{IsStoredUpTo}
+use Rattle.fish_lanes.specs.within.Storing.{IsStoredUpTo}
 use Rattle.fish_lines.specs.Left.{left}
 use Rattle.fish_lines.specs.Resuming.{outcomes_from}
 use Rattle.fish_rule.specs.Passes.{IsPassOf, view}

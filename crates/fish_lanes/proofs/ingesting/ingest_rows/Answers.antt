@@ -8,7 +8,7 @@ use Rattle.fish_lanes.proofs.Gaining.{gains_self}
 use Rattle.fish_lanes.proofs.Keeping.{keeps_ingests, keeps_self}
 use Rattle.fish_lanes.proofs.Storing.{full_line, gains_unclaimed, head_record, stored_later, stored_line, stored_none}
 use Rattle.fish_lanes.proofs.Storing.{stored_none_more, stored_starts, takes_one, takes_shut}
-use Rattle.fish_lanes.specs.Storing.{FindsFull, IsPartStored, IsStoredUpTo, TakesLine}
+use Rattle.fish_lanes.specs.within.Storing.{FindsFull, IsPartStored, IsStoredUpTo, TakesLine}
 use Rattle.fish_lanes.specs.declared.ingesting.Tally.{Tally}
 use Rattle.fish_rule.specs.Passes.{view}
 use Rattle.fish_rule.specs.declared.view.Shut.{Shut}

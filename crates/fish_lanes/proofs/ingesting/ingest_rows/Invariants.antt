@@ -3,7 +3,7 @@ use Rattle.std.proofs.Common.{◌≡◌, ◌+◌, ◌≤◌, length}
 use Rattle.fish_csv.specs.Left.{left}
 use Rattle.fish_epoch.specs.Definitions.{IsDefsOf}
 use Rattle.fish_ingest.specs.Ingestion.{CanStart}
-use Rattle.fish_lanes.specs.Storing.{IsStoredUpTo}
+use Rattle.fish_lanes.specs.within.Storing.{IsStoredUpTo}
 use Rattle.fish_rule.specs.Passes.{IsPassOf, view}
 use Rattle.fish_value.specs.Limits.{longest_file}
 use Rattle.fish_value.specs.declared.field.Form.TheVariants.{Csv}

@@ -8,7 +8,7 @@ use Rattle.fish_lanes.proofs.Gaining.{gains_both}
 use Rattle.fish_lanes.proofs.Single.{alone_changes}
 use Rattle.fish_lanes.proofs.Growing.{rows_begun, rows_both}
 use Rattle.fish_lanes.proofs.Registrations.{gains_changes, registry_later}
-use Rattle.fish_lanes.specs.Controlling.{TellsBegun}
+use Rattle.fish_lanes.specs.within.Controlling.{TellsBegun}
 use Rattle.fish_lanes.specs.Registering.{IsRegisterCause, registry_of}
 use Rattle.fish_registry.proofs.Changing.{learns_changes}
 use Rattle.fish_rule.specs.Passes.{view}

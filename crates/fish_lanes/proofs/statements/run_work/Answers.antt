@@ -4,8 +4,8 @@ use Rattle.std.specs.Prelude.{IfErr, IfOk}
 use Rattle.fish_ingest.proofs.IngestionStart.{idle_law}
 use Rattle.fish_lanes.proofs.Faults.{scan_stopped, stop_ok, stop_part}
 use Rattle.fish_lanes.proofs.Parts.{explain_items, explain_part, scan_items}
-use Rattle.fish_lanes.specs.Doing.{IsItem, IsStopped}
-use Rattle.fish_lanes.specs.Pasts.{anywhere}
+use Rattle.fish_lanes.specs.within.Doing.{IsItem, IsStopped}
+use Rattle.fish_lanes.specs.within.Pasts.{anywhere}
 use Rattle.fish_lanes.specs.declared.statements.Stop.{Stop}
 use Rattle.fish_lanes.specs.declared.work.Work.{Work}
 use Rattle.fish_lanes.specs.declared.work.Work.TheVariants as work

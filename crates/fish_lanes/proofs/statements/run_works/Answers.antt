@@ -3,11 +3,12 @@ use Rattle.std.proofs.Common.{Ok, Err, ◌≡◌, ◌∙◌, ◌+◌, ℕ, List,
 use Rattle.std.proofs.Common.{arith, inl}
 use Rattle.std.specs.Prelude.{is_some}
 use Rattle.fish_ingest.proofs.IngestionStart.{idle_law}
-use Rattle.fish_lanes.proofs.Full.{found_none, found_tells, memory_found, next_found, older_found, open_test}
-use Rattle.fish_lanes.proofs.SoFar.{next_answers, next_done, next_memory, next_more, next_older, next_start}
-use Rattle.fish_lanes.specs.Advancing.{HasNext}
+use Rattle.fish_lanes.proofs.Full.{found_none, found_tells, next_found, open_test, stopped_found}
+use Rattle.fish_lanes.proofs.SoFar.{next_answers, next_done, next_more, next_start, next_stopped, stopped_short}
+use Rattle.fish_lanes.specs.within.Full.{TellsLast}
+use Rattle.fish_lanes.specs.within.Advancing.{IsOn, IsShort}
+use Rattle.fish_lanes.specs.within.Pasts.{WasHere}
 use Rattle.fish_lanes.specs.Running.{IsShared}
-use Rattle.fish_lanes.specs.declared.statements.Stop.{Stop}
 use Rattle.fish_lanes.specs.declared.work.LaneFault.TheVariants as fault
 use Rattle.fish_report.specs.declared.item.Item.{Item}
 use Rattle.fish_rule.specs.Passes.{view}
@@ -62,8 +63,8 @@ loop-next-preserved g c =
       answers = λ all. next_answers u t w old new (Ok tt) n (inv.answers all);
     }
 
-pub returns-in-Err-Memory-clause-goes : goal.returns-in-Err-Memory-clause-goes
-returns-in-Err-Memory-clause-goes g c start content k cold later before =
+pub returns-in-Err-clause-goes : goal.returns-in-Err-clause-goes
+returns-in-Err-clause-goes g c start content k cold later before =
     let inv = c.loop-next.invariant in
     let works = c.args.works.now in
     let old = c.loop-next.items in
@@ -74,93 +75,45 @@ returns-in-Err-Memory-clause-goes g c start content k cold later before =
     let test = c.loop-next-test.true in
     let end = c.loop-next.auto.next-end in
     let place = inv.place in
-    let idle = idle_law u inv.of.stands inv.start in
     let at : w ≡ get_or works (length old) w = subst (λ (n : ℕ). w ≡ get_or works n w) (sym place) c.index-works-next.is in
-    next_memory start u t works old new w (inv.far start content k cold later before) (omega arith) at
-    (subst (λ (z : Stop). HasNext u t w old new (Err z)) c.in-Err-Memory.field-0-is c.in-Err-Memory.ensures.next)
+    subst (IsOn (WasHere content k cold later) start t works new) (sym c.fault_at.ensures)
+    (next_stopped start u t works old new w (inv.far start content k cold later before) (omega arith) at c.in-Err.stop
+    inv.start.outside (idle_law u inv.of.stands inv.start) c.in-Err.ensures.next)
 
-pub returns-in-Err-Older-clause-goes : goal.returns-in-Err-Older-clause-goes
-returns-in-Err-Older-clause-goes g c start content k cold later before =
-    let inv = c.loop-next.invariant in
-    let works = c.args.works.now in
-    let old = c.loop-next.items in
-    let new = c.run_next.new.items in
-    let w = c.index-works-next.result in
-    let u = view c.loop-next.pass in
-    let t = view c.run_next.new.pass in
-    let test = c.loop-next-test.true in
-    let end = c.loop-next.auto.next-end in
-    let place = inv.place in
-    let idle = idle_law u inv.of.stands inv.start in
-    let at : w ≡ get_or works (length old) w = subst (λ (n : ℕ). w ≡ get_or works n w) (sym place) c.index-works-next.is in
-    next_older start u t works old new w (inv.far start content k cold later before) (omega arith) at inv.start.outside idle
-    (subst (λ (z : Stop). HasNext u t w old new (Err z)) c.in-Err-Older.field-0-is c.in-Err-Older.ensures.next)
-
-pub returns-in-Err-Memory-clause-start : goal.returns-in-Err-Memory-clause-start
-returns-in-Err-Memory-clause-start g c =
+pub returns-in-Err-clause-start : goal.returns-in-Err-clause-start
+returns-in-Err-clause-start g c =
     let inv = c.loop-next.invariant in
     let u = view c.loop-next.pass in
-    next_start u (view c.run_next.new.pass) c.index-works-next.result c.loop-next.items c.run_next.new.items
-    (Err c.in-Err-Memory.field-0)
-    (idle_law u inv.of.stands inv.start) inv.start c.in-Err-Memory.ensures.next
+    next_start u (view c.run_next.new.pass) c.index-works-next.result c.loop-next.items c.run_next.new.items (Err c.in-Err.stop)
+    (idle_law u inv.of.stands inv.start) inv.start c.in-Err.ensures.next
 
-pub returns-in-Err-Memory-clause-more : goal.returns-in-Err-Memory-clause-more
-returns-in-Err-Memory-clause-more g c =
+pub returns-in-Err-clause-more : goal.returns-in-Err-clause-more
+returns-in-Err-clause-more g c =
     let before = c.loop-next.invariant.more in
     let grown = next_more (view c.loop-next.pass) (view c.run_next.new.pass) c.index-works-next.result c.loop-next.items
-    c.run_next.new.items (Err c.in-Err-Memory.field-0) c.in-Err-Memory.ensures.next in
+    c.run_next.new.items (Err c.in-Err.stop) c.in-Err.ensures.next in
     omega arith
 
-pub returns-in-Err-Memory-clause-answers : goal.returns-in-Err-Memory-clause-answers
-returns-in-Err-Memory-clause-answers g c all =
+pub returns-in-Err-clause-answers : goal.returns-in-Err-clause-answers
+returns-in-Err-clause-answers g c all =
     next_answers (view c.loop-next.pass) (view c.run_next.new.pass) c.index-works-next.result c.loop-next.items
-    c.run_next.new.items (Err c.in-Err-Memory.field-0) c.in-Err-Memory.ensures.next (c.loop-next.invariant.answers all)
+    c.run_next.new.items (Err c.in-Err.stop) c.in-Err.ensures.next (c.loop-next.invariant.answers all)
 
-pub returns-in-Err-Older-clause-start : goal.returns-in-Err-Older-clause-start
-returns-in-Err-Older-clause-start g c =
-    let inv = c.loop-next.invariant in
-    let u = view c.loop-next.pass in
-    next_start u (view c.run_next.new.pass) c.index-works-next.result c.loop-next.items c.run_next.new.items
-    (Err c.in-Err-Older.field-0)
-    (idle_law u inv.of.stands inv.start) inv.start c.in-Err-Older.ensures.next
+pub returns-in-Err-clause-short : goal.returns-in-Err-clause-short
+returns-in-Err-clause-short g c = subst IsShort (sym c.fault_at.ensures) (stopped_short c.in-Err.stop)
 
-pub returns-in-Err-Older-clause-more : goal.returns-in-Err-Older-clause-more
-returns-in-Err-Older-clause-more g c =
-    let before = c.loop-next.invariant.more in
-    let grown = next_more (view c.loop-next.pass) (view c.run_next.new.pass) c.index-works-next.result c.loop-next.items
-    c.run_next.new.items (Err c.in-Err-Older.field-0) c.in-Err-Older.ensures.next in
-    omega arith
-
-pub returns-in-Err-Older-clause-answers : goal.returns-in-Err-Older-clause-answers
-returns-in-Err-Older-clause-answers g c all =
-    next_answers (view c.loop-next.pass) (view c.run_next.new.pass) c.index-works-next.result c.loop-next.items
-    c.run_next.new.items (Err c.in-Err-Older.field-0) c.in-Err-Older.ensures.next (c.loop-next.invariant.answers all)
-
-pub returns-in-Err-Memory-clause-last : goal.returns-in-Err-Memory-clause-last
-returns-in-Err-Memory-clause-last g c unshut none =
+pub returns-in-Err-clause-last : goal.returns-in-Err-clause-last
+returns-in-Err-clause-last g c unshut none =
     let inv = c.loop-next.invariant in
     let old = c.loop-next.items in
     let new = c.run_next.new.items in
-    let w = c.index-works-next.result in
     let u = view c.loop-next.pass in
     let t = view c.run_next.new.pass in
     let free = open_test u.shut c.is_full-full.result c.finds_full.result c.finds_full.ensures c.if-finds_full.false
     (c.is_full-full.ensures ∙ ap is_some unshut) in
-    memory_found u t w old new free (found_none u old (inv.last unshut none) free)
-    (subst (λ (z : Stop). HasNext u t w old new (Err z)) c.in-Err-Memory.field-0-is c.in-Err-Memory.ensures.next)
-
-pub returns-in-Err-Older-clause-last : goal.returns-in-Err-Older-clause-last
-returns-in-Err-Older-clause-last g c unshut none =
-    let inv = c.loop-next.invariant in
-    let old = c.loop-next.items in
-    let new = c.run_next.new.items in
-    let w = c.index-works-next.result in
-    let u = view c.loop-next.pass in
-    let t = view c.run_next.new.pass in
-    let free = open_test u.shut c.is_full-full.result c.finds_full.result c.finds_full.ensures c.if-finds_full.false
-    (c.is_full-full.ensures ∙ ap is_some unshut) in
-    found_tells t new fault.None (older_found u t w old new free (found_none u old (inv.last unshut none) free)
-    (subst (λ (z : Stop). HasNext u t w old new (Err z)) c.in-Err-Older.field-0-is c.in-Err-Older.ensures.next))
+    subst (TellsLast t new) (sym c.fault_at.ensures)
+    (stopped_found u t c.index-works-next.result old new free (found_none u old (inv.last unshut none) free) c.in-Err.stop
+    c.in-Err.ensures.next)
 
 pub returns-then-finds_full-clause-goes : goal.returns-then-finds_full-clause-goes
 returns-then-finds_full-clause-goes g c start content k cold later before =

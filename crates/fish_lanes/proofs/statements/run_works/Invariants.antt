@@ -3,9 +3,10 @@ use Rattle.std.proofs.Common.{◌≡◌, ◌≤◌, ℕ, List, Option, None, len
 use Rattle.fish_cold.specs.declared.cold.Cold.{Cold}
 use Rattle.fish_epoch.specs.Definitions.{IsDefsOf}
 use Rattle.fish_ingest.specs.Ingestion.{CanStart}
-use Rattle.fish_lanes.specs.Advancing.{IsSoFar}
-use Rattle.fish_lanes.specs.Full.{HasFound, IsNotFull}
-use Rattle.fish_lanes.specs.Pasts.{WasHere}
+use Rattle.fish_lanes.specs.within.Advancing.{IsSoFar}
+use Rattle.fish_lanes.specs.Full.{IsNotFull}
+use Rattle.fish_lanes.specs.within.Full.{HasFound}
+use Rattle.fish_lanes.specs.within.Pasts.{WasHere}
 use Rattle.fish_lanes.specs.Spans.{IsAnswer}
 use Rattle.fish_rule.specs.Passes.{IsPassOf, view}
 use Rattle.fish_rule.specs.Views.{AllOf}

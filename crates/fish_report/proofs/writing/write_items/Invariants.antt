@@ -2,7 +2,7 @@
 use Rattle.std.proofs.Common.{◌≤◌, [], take}
 use Rattle.std.specs.Prelude.{string_bytes}
 use Rattle.fish_report.specs.ReportText.{report_text}
-use Rattle.fish_report.specs.Writing.{Passes}
+use Rattle.fish_report.specs.within.Writing.{Passes}
 use Rattle.fish_report.proofs.writing.write_items.Given as goal
 
 abbrev pub invariant-loop-item : goal.invariant-loop-item

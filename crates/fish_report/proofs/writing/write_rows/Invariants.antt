@@ -2,7 +2,7 @@
 use Rattle.std.proofs.Common.{◌<◌, ◌≤◌, take}
 use Rattle.std.specs.Prelude.{string_bytes, string_len}
 use Rattle.fish_report.specs.Parts.{rows_text}
-use Rattle.fish_report.specs.Writing.{Passes, piece_size}
+use Rattle.fish_report.specs.within.Writing.{Passes, piece_size}
 use Rattle.fish_report.proofs.writing.write_rows.Given as goal
 
 abbrev pub invariant-loop-row : goal.invariant-loop-row

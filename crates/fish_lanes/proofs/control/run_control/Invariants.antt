@@ -4,7 +4,7 @@ use Rattle.std.proofs.Common.{◌≡◌, ◌≤◌, None, take}
 use Rattle.fish_epoch.specs.Definitions.{IsDefsOf}
 use Rattle.fish_lanes.proofs.Controls.{Held}
 use Rattle.fish_lanes.specs.Controlling.{CanControl, IsCommitted}
-use Rattle.fish_lanes.specs.Full.{HasFound}
+use Rattle.fish_lanes.specs.within.Full.{HasFound}
 use Rattle.fish_lanes.specs.Pending.{AreFound}
 use Rattle.fish_lanes.specs.Registering.{registry_of}
 use Rattle.fish_rule.specs.Passes.{view}
@@ -12,7 +12,7 @@ use Rattle.fish_rule.specs.Views.{AllOf}
 use Rattle.fish_scan.specs.Colder.{IsBelow}
 use Rattle.fish_store.specs.Points.{point_of}
 use Rattle.fish_store.specs.Sound.{GoesOnHere, IsSoundBehind, MayGoOn}
-use Rattle.fish_lanes.proofs.control.run_statements.Given as goal
+use Rattle.fish_lanes.proofs.control.run_control.Given as goal
 
 abbrev pub invariant-loop-work : goal.invariant-loop-work
 invariant-loop-work g l =

@@ -1,5 +1,5 @@
 -- Each counter's ledger is that of its blank.
-use Rattle.fish_lanes.proofs.scanning.older_counted.Given as goal
+use Rattle.fish_lanes.proofs.scanning.scan_older.Given as goal
 
 abbrev pub ghosts-older_with-P-Ledger : goal.ghosts-older_with-P-Ledger
 ghosts-older_with-P-Ledger g a = record { name = a.parses.name; parts = a.parses.parts }

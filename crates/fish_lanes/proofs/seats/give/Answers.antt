@@ -1,6 +1,6 @@
 -- A pass that was split off, with definitions of which nothing was read.
 use Rattle.std.proofs.Common.{refl}
-use Rattle.fish_lanes.proofs.block.give.Goals as goal
+use Rattle.fish_lanes.proofs.seats.give.Goals as goal
 
 pub returns-clause-seat : goal.returns-clause-seat
 returns-clause-seat c = record {

@@ -1,9 +1,9 @@
 -- The passes so far came back, and the other lanes are as they were.
 use Rattle.std.proofs.Common.{◌≡◌, ℕ, ◌<◌, ◌≤◌, Some, slice_get}
-use Rattle.fish_lanes.specs.Blocks.{HasTakenAll, WasTaken}
+use Rattle.fish_lanes.specs.within.Blocks.{HasTakenAll, WasTaken}
 use Rattle.fish_lanes.specs.declared.lane.Lane.{Lane}
 use Rattle.fish_rule.specs.Passes.{IsPassOf, view}
-use Rattle.fish_lanes.proofs.block.take_all.Given as goal
+use Rattle.fish_lanes.proofs.seats.take_all.Given as goal
 
 abbrev pub invariant-loop-i : goal.invariant-loop-i
 invariant-loop-i l = record {

@@ -1,7 +1,7 @@
 -- What a block goes through, from its start to its end.
 use Rattle.std.specs.Prelude.{ℕ, ◌≡◌, ◌≤◌, List, length, None}
-use Rattle.fish_lanes.specs.Blocks.{AreDone, AreSeated, HasGiven, HasRunFirst, HasTakenAll, WereTaken}
-use Rattle.fish_lanes.specs.Controlling.{IsFound}
+use Rattle.fish_lanes.specs.within.Blocks.{AreDone, AreSeated, HasGiven, HasRunFirst, HasTakenAll, WereTaken}
+use Rattle.fish_lanes.specs.within.Controlling.{IsFound}
 use Rattle.fish_lanes.specs.declared.block.BlockEnd.{BlockEnd}
 use Rattle.fish_lanes.specs.declared.lane.Lane.{Lane}
 use Rattle.fish_registry.specs.Changing.{Changes}

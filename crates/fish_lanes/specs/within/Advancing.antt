@@ -1,18 +1,21 @@
--- How far the statements of a lane are done. Private clauses speak of it.
+-- How far the statements of a lane are done.
 use Rattle.std.specs.Prelude.{ℕ, ◌≡◌, ◌≢◌, ◌⊎◌, ◌+◌, ◌≤◌, List, [], ◌∷◌, ◌++◌, Option, Some, None, Result, Ok, Err, length, take}
 use Rattle.std.specs.Prelude.{Bool, false}
 use Rattle.fish_cold.specs.declared.cold.Cold.{Cold}
-use Rattle.fish_lanes.specs.Doing.{IsItem, IsStopped}
-use Rattle.fish_lanes.specs.Full.{IsNotFull, TellsLast}
-use Rattle.fish_lanes.specs.Gains.{Gains, WasShut}
-use Rattle.fish_lanes.specs.Pasts.{WasHere, anywhere}
-use Rattle.fish_lanes.specs.Published.{IsPublished}
+use Rattle.fish_lanes.specs.within.Doing.{IsItem, IsStopped}
+use Rattle.fish_lanes.specs.Full.{IsNotFull}
+use Rattle.fish_lanes.specs.within.Full.{TellsLast}
+use Rattle.fish_lanes.specs.Gains.{WasShut}
+use Rattle.fish_lanes.specs.within.Gains.{Gains}
+use Rattle.fish_lanes.specs.within.Pasts.{WasHere, anywhere}
+use Rattle.fish_lanes.specs.within.Published.{IsPublished}
 use Rattle.fish_lanes.specs.Records.{LaneRow, contents}
 use Rattle.fish_lanes.specs.Registering.{Registry, after_all}
-use Rattle.fish_lanes.specs.Running.{CanBegin, HasRun, IsFullItem, SayPlans}
+use Rattle.fish_lanes.specs.within.Running.{CanBegin, HasRun, IsFullItem, SayPlans}
 use Rattle.fish_lanes.specs.Seen.{IsShown, Shown, settled, shown_by}
-use Rattle.fish_lanes.specs.Sizes.{TellsShut}
-use Rattle.fish_lanes.specs.Spans.{IsAnswer, IsWithinSpan, Span, answers, behind, made_by}
+use Rattle.fish_lanes.specs.within.Sizes.{TellsShut}
+use Rattle.fish_lanes.specs.Spans.{IsAnswer, Span, answers, behind, made_by}
+use Rattle.fish_lanes.specs.within.Spans.{IsWithinSpan}
 use Rattle.fish_lanes.specs.Telling.{TellsItem, content_of, count_of}
 use Rattle.fish_lanes.specs.declared.lane.Lane.{Lane}
 use Rattle.fish_lanes.specs.declared.lane.Seated.{Seated}
@@ -28,8 +31,6 @@ use Rattle.fish_rule.specs.declared.table.Log.{Log}
 use Rattle.fish_rule.specs.declared.view.Key.{Key}
 use Rattle.fish_rule.specs.declared.view.View.{View}
 use Rattle.fish_whole.specs.Whole.{SureUpTo, Whole}
-
--- ---- items so far
 
 -- all that items show
 abbrev pub shown_in : List Item → List Shown
@@ -71,8 +72,6 @@ pub record HasSaid (v u : View) (works : List Work) (items : List Item) : Type 0
   pub same : (r : Registry) → after_all r items ≡ r
   pub learns : Learns v u
   pub plans : SayPlans v u works items
-
--- ---- a lane behind the first
 
 -- its first statements are told by its items, one each
 pub record IsSoFar (Past : Whole → Type 0) (v u : View) (works : List Work) (items : List Item) : Type 0 where

@@ -1,9 +1,9 @@
 -- The lanes so far have their passes, and the others are as they were.
 use Rattle.std.proofs.Common.{◌≡◌, ℕ, ◌<◌, ◌≤◌, Some, slice_get}
-use Rattle.fish_lanes.specs.Blocks.{HasGiven, IsSeated}
+use Rattle.fish_lanes.specs.within.Blocks.{HasGiven, IsSeated}
 use Rattle.fish_lanes.specs.declared.lane.Lane.{Lane}
 use Rattle.fish_rule.specs.Passes.{IsPassOf, view}
-use Rattle.fish_lanes.proofs.block.give_all.Given as goal
+use Rattle.fish_lanes.proofs.seats.give_all.Given as goal
 
 abbrev pub invariant-loop-i : goal.invariant-loop-i
 invariant-loop-i l = record {

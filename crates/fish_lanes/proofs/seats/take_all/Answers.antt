@@ -4,10 +4,10 @@ use Rattle.std.proofs.Math.Decide.{ℕ_discrete}
 use Rattle.std.proofs.lemmas.Option.{slice_get_within}
 use Rattle.fish_lanes.proofs.Lanes.{can_take, taken_more, taken_none}
 use Rattle.fish_lanes.proofs.Lists.{get_set_else, get_set_here, read_at, some_once}
-use Rattle.fish_lanes.specs.Blocks.{CanTake, HasTaken, HasTakenAll, WasTaken}
+use Rattle.fish_lanes.specs.within.Blocks.{CanTake, HasTaken, HasTakenAll, WasTaken}
 use Rattle.fish_lanes.specs.declared.lane.Lane.{Lane}
 use Rattle.fish_rule.specs.Passes.{view}
-use Rattle.fish_lanes.proofs.block.take_all.Goals as goal
+use Rattle.fish_lanes.proofs.seats.take_all.Goals as goal
 
 pub loop-i-init : goal.loop-i-init
 loop-i-init c = record {

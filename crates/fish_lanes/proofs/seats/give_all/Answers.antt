@@ -4,13 +4,13 @@ use Rattle.std.proofs.Math.Decide.{ℕ_discrete}
 use Rattle.std.proofs.lemmas.Option.{slice_get_within}
 use Rattle.fish_lanes.proofs.Lanes.{can_split, given_more, given_none, seated_by}
 use Rattle.fish_lanes.proofs.Lists.{get_set_else, get_set_here, read_at, some_once}
-use Rattle.fish_lanes.specs.Blocks.{HasGiven, HasSeat, IsSeated}
+use Rattle.fish_lanes.specs.within.Blocks.{HasGiven, HasSeat, IsSeated}
 use Rattle.fish_lanes.specs.declared.lane.Lane.{Lane}
 use Rattle.fish_rule.specs.Passes.{view}
 use Rattle.fish_rule.specs.SeatSteps.{CanSplitPass, split_left, split_right}
 use Rattle.fish_rule.specs.declared.table.Log.{Log}
 use Rattle.fish_rule.specs.declared.view.View.{View}
-use Rattle.fish_lanes.proofs.block.give_all.Goals as goal
+use Rattle.fish_lanes.proofs.seats.give_all.Goals as goal
 
 pub loop-i-init : goal.loop-i-init
 loop-i-init c = record {

@@ -1,5 +1,5 @@
 -- Each counter's ledger is that of its blank.
-use Rattle.fish_lanes.proofs.scanning.scan_counted.Given as goal
+use Rattle.fish_lanes.proofs.scanning.scan_range.Given as goal
 
 abbrev pub ghosts-scan_with-P-Ledger : goal.ghosts-scan_with-P-Ledger
 ghosts-scan_with-P-Ledger a = record { name = a.parses.name; parts = a.parses.parts }

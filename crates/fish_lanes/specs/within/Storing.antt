@@ -2,10 +2,10 @@
 use Rattle.std.specs.Prelude.{ℕ, ◌≡◌, ◌+◌, ◌⊎◌, ◌++◌, List, [], ◌∷◌, Option, Some, None, false, true}
 use Rattle.fish_ingest.specs.Ingestion.{HasIngested}
 use Rattle.fish_ingest.specs.Refusal.{HasNotClaimed, IsFull}
-use Rattle.fish_lanes.specs.Gains.{Gains, IsFullBy}
+use Rattle.fish_lanes.specs.within.Gains.{Gains, IsFullBy}
 use Rattle.fish_lanes.specs.Records.{LaneRow, contents}
-use Rattle.fish_lanes.specs.Registering.{KeepsRegistry}
-use Rattle.fish_lanes.specs.Sizes.{IsSizeBetween}
+use Rattle.fish_lanes.specs.within.Registering.{KeepsRegistry}
+use Rattle.fish_lanes.specs.within.Sizes.{IsSizeBetween}
 use Rattle.fish_lanes.specs.Telling.{AreCounted, all_of}
 use Rattle.fish_lanes.specs.declared.ingesting.Tally.{Tally}
 use Rattle.fish_lines.specs.File.{accepted}
@@ -25,8 +25,6 @@ abbrev pub item_of : List ℕ → Tally → Option Shut → Item
 item_of name tally None = item.Ingested name tally.stored tally.refused
 item_of name tally (Some shut) = item.IngestFull name shut.line shut.lines shut.end tally.stored tally.refused
 
--- ---- one line
-
 -- one more is stored
 abbrev pub one_stored : Tally → Tally
 one_stored t = record t { stored = t.stored + 1 }
@@ -43,8 +41,6 @@ TakesLine v u form payload t t' = ((number : ℕ) × HasIngested v form payload 
 -- the payload is a record, and found the log full
 abbrev pub FindsFull : View → View → Form → List ℕ → Tally → Tally → Shut → Type 0
 FindsFull v u form payload t t' shut = (is_record form payload ≡ true) × IsFull v form payload shut u × (t' ≡ t)
-
--- ---- lines
 
 -- those in front are stored, those behind aren't read yet
 pub record IsStoredUpTo (v u : View) (form : Form) (outs behind : List (Option (List ℕ))) (tally : Tally) : Type 0 where

@@ -1,0 +1,19 @@
+-- What private clauses cite, and no promise rests on.
+pub mod Advancing
+pub mod Blocks
+pub mod Causes
+pub mod Controlling
+pub mod Course
+pub mod Doing
+pub mod Full
+pub mod Gains
+pub mod Outcome
+pub mod Pasts
+pub mod Plans
+pub mod Published
+pub mod Records
+pub mod Registering
+pub mod Running
+pub mod Sizes
+pub mod Spans
+pub mod Storing
