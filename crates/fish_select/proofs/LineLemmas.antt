@@ -12,8 +12,8 @@ use Rattle.fish_psf.specs.Select.{has_value}
 use Rattle.fish_psf.proofs.RecordLemmas.{json_fields}
 use Rattle.fish_value.specs.declared.field.Form.TheVariants.{Json}
 use Rattle.fish_value.specs.declared.value.Value.{Value}
-use Rattle.fish_select.specs.Selection.{is_selected}
-use Rattle.fish_select.specs.Tally.{kept_if, with_outcome, with_record}
+use Rattle.fish_select.specs.within.Selection.{is_selected}
+use Rattle.fish_select.specs.within.Tally.{kept_if, with_outcome, with_record}
 use Rattle.fish_select.specs.declared.tally.Tally.{Tally}
 
 -- a line is a record: it is a text, and its payload is the line

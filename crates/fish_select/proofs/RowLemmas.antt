@@ -12,7 +12,7 @@ use Rattle.fish_psf.specs.Select.{has_value}
 use Rattle.fish_psf.proofs.RecordLemmas.{csv_fields}
 use Rattle.fish_value.specs.declared.field.Form.TheVariants.{Csv}
 use Rattle.fish_value.specs.declared.value.Value.{Value}
-use Rattle.fish_select.specs.Selection.{is_selected}
+use Rattle.fish_select.specs.within.Selection.{is_selected}
 
 -- a text that was kept passed the test
 chosen : (test : Bool) (stored text : List ℕ) → (if test then Some stored else None) ≡ Some text

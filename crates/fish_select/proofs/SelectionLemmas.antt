@@ -13,8 +13,9 @@ use Rattle.fish_report.specs.declared.item.Item.TheVariants as item
 use Rattle.fish_value.specs.declared.field.Form.{Form}
 use Rattle.fish_value.specs.declared.row.Row.{Row}
 use Rattle.fish_value.specs.declared.value.Value.{Value}
-use Rattle.fish_select.specs.Selection.{is_selected, log_of, rows_of, selection_of}
-use Rattle.fish_select.specs.Tally.{kept_if, nothing, rows_with, with_outcome, with_outcomes}
+use Rattle.fish_select.specs.Selection.{log_of, rows_of, selection_of}
+use Rattle.fish_select.specs.within.Selection.{is_selected}
+use Rattle.fish_select.specs.within.Tally.{kept_if, nothing, rows_with, with_outcome, with_outcomes}
 use Rattle.fish_select.specs.declared.tally.Tally.{Tally}
 
 -- the row of a payload and its number, where the payload passes a test

@@ -1,2 +1,2 @@
 pub mod Selection
-pub mod Tally
+pub mod within

@@ -3,16 +3,12 @@ use Rattle.std.specs.Prelude.{ℕ, List, [], length, map, Bool, Option}
 use Rattle.fish_lang.specs.Definition.{Definition}
 use Rattle.fish_lines.specs.File.{accepted, outcomes, refused}
 use Rattle.fish_psf.specs.Records.{evaluation}
-use Rattle.fish_psf.specs.Select.{Entry, has_value, select, stored}
+use Rattle.fish_psf.specs.Select.{Entry, select, stored}
 use Rattle.fish_report.specs.declared.item.Item.{Item}
 use Rattle.fish_report.specs.declared.item.Item.TheVariants as item
 use Rattle.fish_value.specs.declared.field.Form.{Form}
 use Rattle.fish_value.specs.declared.row.Row.{Row}
 use Rattle.fish_value.specs.declared.value.Value.{Value}
-
--- the definition has the value on a payload of a form
-abbrev pub is_selected : Definition → Value → Form → List ℕ → Bool
-is_selected def v form payload = has_value (evaluation def form payload) v
 
 -- payloads of a form as a log: each is stored, at its place
 abbrev pub log_of : Form → List (List ℕ) → List Entry

@@ -5,8 +5,8 @@ ghost use Rattle.fish_json.specs.Lines.{outcomes, payload_of};
 ghost use Rattle.fish_lang.specs.Definition.{definition_of};
 ghost use Rattle.fish_psf.specs.Eval.{values};
 ghost use Rattle.fish_psf.specs.Select.{has_value};
-ghost use Rattle.fish_select.specs.Selection.{is_selected};
-ghost use Rattle.fish_select.specs.Tally.{kept_if, nothing, with_outcome, with_outcomes};
+ghost use Rattle.fish_select.specs.within.Selection.{is_selected};
+ghost use Rattle.fish_select.specs.within.Tally.{kept_if, nothing, with_outcome, with_outcomes};
 ghost use Rattle.fish_value.specs.Limits.{longest_file};
 ghost use Rattle.fish_value.specs.declared.field.Form.TheVariants.{Json};
 

@@ -5,8 +5,8 @@ ghost use Rattle.fish_csv.specs.Left.{left};
 ghost use Rattle.fish_csv.specs.Reading.{row_of};
 ghost use Rattle.fish_csv.specs.Rows.{outcomes};
 ghost use Rattle.fish_lang.specs.Definition.{definition_of};
-ghost use Rattle.fish_select.specs.Selection.{is_selected};
-ghost use Rattle.fish_select.specs.Tally.{kept_if, nothing, with_outcome, with_outcomes};
+ghost use Rattle.fish_select.specs.within.Selection.{is_selected};
+ghost use Rattle.fish_select.specs.within.Tally.{kept_if, nothing, with_outcome, with_outcomes};
 ghost use Rattle.fish_value.specs.Limits.{longest_file};
 ghost use Rattle.fish_value.specs.declared.field.Form.TheVariants.{Csv};
 

@@ -3,8 +3,9 @@
 ghost use Rattle.std.specs.Prelude.{◌≡◌, ◌≤◌, length, IfOk};
 ghost use Rattle.fish_lang.specs.Definition.{definition_of};
 ghost use Rattle.fish_lines.specs.File.{outcomes};
-ghost use Rattle.fish_select.specs.Selection.{is_selected, selection};
-ghost use Rattle.fish_select.specs.Tally.{nothing, with_outcomes};
+ghost use Rattle.fish_select.specs.Selection.{selection};
+ghost use Rattle.fish_select.specs.within.Selection.{is_selected};
+ghost use Rattle.fish_select.specs.within.Tally.{nothing, with_outcomes};
 ghost use Rattle.fish_value.specs.Limits.{longest_file};
 
 use crate::lines::tally_of_lines;

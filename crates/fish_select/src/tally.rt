@@ -17,7 +17,7 @@ pub(crate) struct Tally {
 }
 
 impl Tally {
-    ghost use Rattle.fish_select.specs.Tally.{nothing, with_outcome, with_record};
+    ghost use Rattle.fish_select.specs.within.Tally.{nothing, with_outcome, with_record};
 
     /// Nothing yet. Takes no memory.
     pub(crate) fn new(alloc: Global) -> Tally

@@ -5,8 +5,8 @@ use Rattle.fish_json.specs.Lines.{outcomes, payload_of}
 use Rattle.fish_lang.specs.Definition.{definition_of}
 use Rattle.fish_lines.specs.Left.{left}
 use Rattle.fish_value.specs.declared.field.Form.TheVariants.{Json}
-use Rattle.fish_select.specs.Selection.{is_selected}
-use Rattle.fish_select.specs.Tally.{nothing, with_outcomes}
+use Rattle.fish_select.specs.within.Selection.{is_selected}
+use Rattle.fish_select.specs.within.Tally.{nothing, with_outcomes}
 use Rattle.fish_select.proofs.lines.tally_of_lines.Given as goal
 
 abbrev pub invariant-loop-line : goal.invariant-loop-line

@@ -5,8 +5,8 @@ use Rattle.fish_csv.specs.Left.{left}
 use Rattle.fish_lang.specs.Definition.{definition_of}
 use Rattle.fish_value.specs.Limits.{longest_file}
 use Rattle.fish_value.specs.declared.field.Form.TheVariants.{Csv}
-use Rattle.fish_select.specs.Selection.{is_selected}
-use Rattle.fish_select.specs.Tally.{nothing, with_outcomes}
+use Rattle.fish_select.specs.within.Selection.{is_selected}
+use Rattle.fish_select.specs.within.Tally.{nothing, with_outcomes}
 use Rattle.fish_select.proofs.rows.tally_of_left.Given as goal
 
 abbrev pub invariant-loop-reader : goal.invariant-loop-reader

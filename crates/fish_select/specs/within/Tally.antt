@@ -1,5 +1,5 @@
 -- What has been found in the lines or rows so far, and what one more adds. Private clauses speak of it.
-use Rattle.std.specs.Prelude.{ℕ, ◌+◌, ◌++◌, List, [], ◌∷◌, Bool, Option, Some, None, if◌then◌else◌}
+use Rattle.std.specs.Prelude.{ℕ, ◌+◌, ◌++◌, List, [], ◌∷◌, Bool, if◌then◌else◌, Option, Some, None}
 use Rattle.fish_value.specs.declared.row.Row.{Row}
 use Rattle.fish_select.specs.declared.tally.Tally.{Tally}
 

@@ -1,0 +1,3 @@
+-- What private clauses cite, and no promise rests on.
+pub mod Selection
+pub mod Tally
