@@ -36,3 +36,7 @@ rows_from lane n (entry.Void ∷ entries) = rows_from lane (suc n) entries
 -- the records of a lane in a log, from a number on and below another
 abbrev pub rows_of_lane : List Entry → ℕ → ℕ → ℕ → List LaneRow
 rows_of_lane log from to lane = rows_from lane from (take (to - from) (drop from log))
+
+-- their forms and payloads
+abbrev pub of_lane : List Entry → ℕ → ℕ → ℕ → List Content
+of_lane log from to lane = contents (rows_of_lane log from to lane)

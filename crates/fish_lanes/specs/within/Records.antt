@@ -3,7 +3,7 @@ use Rattle.std.specs.Prelude.{ℕ, ◌≤◌, suc, List, [], ◌∷◌}
 use Rattle.fish_catalog.specs.declared.entry.Entry.{Entry}
 use Rattle.fish_catalog.specs.declared.entry.Entry.TheVariants as entry
 use Rattle.fish_rule.specs.declared.view.Own.{Own}
-use Rattle.fish_lanes.specs.Records.{Content, LaneRow, contents, rows_of_lane}
+use Rattle.fish_lanes.specs.Records.{LaneRow}
 
 -- the entry that a record of a lane is
 abbrev pub entry_of : ℕ → LaneRow → Entry
@@ -18,7 +18,3 @@ owned lane (r ∷ rows) = record { lane = lane; number = r.number } ∷ owned la
 abbrev pub Ascends : ℕ → List LaneRow → ℕ → Type 0
 Ascends from [] to = from ≤ to
 Ascends from (r ∷ rows) to = (from ≤ r.number) × Ascends (suc r.number) rows to
-
--- their forms and payloads
-abbrev pub of_lane : List Entry → ℕ → ℕ → ℕ → List Content
-of_lane log from to lane = contents (rows_of_lane log from to lane)
