@@ -1,0 +1,76 @@
+-- Works that a lane may do, and queues of them.
+use Rattle.std.proofs.Common.{◌≡◌, ◌⊎◌, ℕ, List, [], ◌∷◌, ◌++◌, append_assoc, inl, inr, refl, sym, ap, ◌∙◌, subst}
+use Rattle.std.proofs.Common.{Bool, true, false, Option, Some}
+use Rattle.std.specs.Prelude.{Err, IfErr, IfOk, IsErr, Ok, Result, option_to_list}
+use Rattle.fish_feed.specs.Queues.{AreFit, AreFitTodos, IsFit, IsFitTodo, IsQueue, MayDo, MayDoAll, MayEnd}
+use Rattle.fish_feed.specs.Works.{AreDone}
+use Rattle.fish_feed.specs.declared.queue.Queue.{Queue}
+use Rattle.fish_feed.specs.declared.queue.Todo.{Todo}
+use Rattle.fish_lanes.specs.declared.work.Work.{Work}
+use Rattle.fish_lanes.specs.declared.work.Work.TheVariants as work
+use Rattle.fish_lines.specs.declared.resuming.Begin.{Begin}
+use Rattle.fish_outside.specs.Told.{Files}
+use Rattle.fish_script.specs.declared.script.Statement.{Statement}
+use Rattle.fish_value.specs.declared.field.Form.{Form}
+
+-- any lane may store a file
+pub ingest_may : (first : Bool) (form : Form) (begin : Begin) (name file : List ℕ) → MayDo first (work.Ingest form begin name file)
+ingest_may true form begin name file = tt
+ingest_may false form begin name file = tt
+
+pub may_push : (first : Bool) (ws : List Work) (w : Work) → MayDoAll first ws → MayDo first w → MayDoAll first (ws ++ w ∷ [])
+may_push first [] w h one = (one, tt)
+may_push first (x ∷ ws) w h one = (h.0, may_push first ws w h.1 one)
+
+-- a work that was taken is given after the others
+pub given_more : (given works more : List Work) (found : Option Work) (w : Work) → found ≡ Some w → more ≡ works ++ w ∷ []
+    → (given ++ works) ++ option_to_list found ≡ given ++ more
+given_more given works more found w is pushed = ap (λ (z : Option Work). (given ++ works) ++ option_to_list z) is
+    ∙ append_assoc given works (w ∷ []) ∙ ap (λ (z : List Work). given ++ z) (sym pushed)
+
+-- whether one more is the first
+abbrev pub is_first : {A : Type 0} → Bool → List A → Bool
+is_first first [] = first
+is_first first (x ∷ xs) = false
+
+never_first : {A : Type 0} (xs : List A) → is_first false xs ≡ false
+never_first [] = refl
+never_first (x ∷ xs) = refl
+
+module _ {F : Type 0} (faults : F → ℕ) where
+  pub todos_push : (first : Bool) (ts : List (Todo F)) (t : Todo F) → AreFitTodos faults first ts → IsFitTodo faults first t
+      → AreFitTodos faults first (ts ++ t ∷ [])
+  todos_push first [] t h one = (one, tt)
+  todos_push first (x ∷ ts) t h one = (h.0, todos_push first ts t h.1 one)
+
+  -- a queue more, which is the first one or another
+  pub fit_push : (first : Bool) (qs : List (Queue F)) (q : Queue F) → AreFit faults first qs → IsFit faults (is_first first qs) q
+      → AreFit faults first (qs ++ q ∷ [])
+  fit_push first [] q h one = (one, tt)
+  fit_push first (x ∷ qs) q h one = (h.0, fit_push false qs q h.1 (subst (λ (b : Bool). IsFit faults b q) (sym (never_first qs)) one))
+
+module _ {F : Type 0} (told : Option Files) (left : F → Option (List ℕ)) (ss : List Statement) (given : List Work) (q : Queue F) where
+  -- what may end after more works may end after fewer
+  pub may_front : (ws : List Work) → MayEnd told left ss (given ++ ws) q → MayEnd told left ss given q
+  may_front ws h = (
+    ws ++ h.0,
+    subst (λ (z : List Work). IsQueue told left ss z q ⊎ AreDone told ss z) (append_assoc given ws h.0) h.1,
+  )
+
+  pub may_queue : (ws : List Work) → IsQueue told left ss (given ++ ws) q → MayEnd told left ss given q
+  may_queue ws h = (ws, inl h)
+
+  pub may_done : (ws : List Work) → AreDone told ss (given ++ ws) → MayEnd told left ss given q
+  may_done ws h = (ws, inr h)
+
+-- ---- results
+
+-- what is so in any case is so where there is an error
+pub if_err : {T E : Type 0} (r : Result T E) (P : Type 0) → P → IfErr r (λ _. P)
+if_err (Ok x) P h = tt
+if_err (Err e) P h = h
+
+-- what is asked where there is none, where there is one
+pub if_ok : {T E : Type 0} (r : Result T E) (P : T → Type 0) → IsErr r → IfOk r P
+if_ok (Ok x) P bad = absurd cc
+if_ok (Err e) P bad = tt

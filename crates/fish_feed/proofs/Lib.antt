@@ -1,0 +1,9 @@
+pub mod Fit
+pub mod Giving
+pub mod Lists
+pub mod Opening
+pub mod Parts
+pub mod Queues
+pub mod Reading
+pub mod Told
+pub mod Triples

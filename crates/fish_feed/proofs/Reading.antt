@@ -1,0 +1,111 @@
+-- What a step of reading a file leaves.
+use Rattle.std.proofs.Common.{◌≡◌, ◌≤◌, ◌<◌, ◌+◌, ℕ, zero, suc, length-append, List, [], ◌∷◌, ◌++◌, append-nil, append_assoc, length, take, refl}
+use Rattle.std.proofs.Common.{sym, ap, ◌∙◌, subst, Option, Some, None, arith}
+use Rattle.std.proofs.lemmas.List.{take_all}
+use Rattle.std.specs.Prelude.{IfSome}
+use Rattle.fish_feed.specs.Parts.{longest_read}
+use Rattle.fish_feed.specs.Queues.{CanRead, HasRead, IsCutOff, IsPartOf, IsRestOf}
+use Rattle.fish_feed.specs.declared.part.OpenFile.{OpenFile}
+use Rattle.fish_lanes.specs.declared.work.Work.{Work}
+use Rattle.fish_lanes.specs.declared.work.Work.TheVariants as work
+use Rattle.fish_outside.proofs.ToldLemmas.{Took_trans}
+use Rattle.fish_outside.specs.Causes.{Rose}
+use Rattle.fish_outside.specs.Told.{IsAtEnd, Took}
+
+-- as many as there are of the front
+take_front : {A : Type 0} (n : ℕ) (xs ys : List A) → length xs ≡ n → take n (xs ++ ys) ≡ xs
+take_front zero [] ys is = refl
+take_front (suc n) [] ys is = absurd cc
+take_front zero (x ∷ xs) ys is = absurd cc
+take_front {A = A} (suc n) (x ∷ xs) ys is = ap (λ (zs : List A). x ∷ zs) (take_front n xs ys (omega (is, arith)))
+
+-- and one of which lines were cut off
+pub can_cut : {F : Type 0} (faults : F → ℕ) (o u : OpenFile F) (w : Work) → CanRead faults o → IsCutOff o u w → CanRead faults u
+can_cut faults o u w can c = record {
+  short =
+      let all : length o.rest ≡ length c.part + length u.rest = ap length c.cut ∙ length-append c.part u.rest in
+      let most = can.short in
+      omega (all, most, arith);
+  failed = λ is. subst (λ (z : _). Rose 0 (faults z)) (sym c.feed_is) (can.failed (sym c.failed_is ∙ is));
+}
+
+-- a file of which all was given may be read
+pub can_none : {F : Type 0} (faults : F → ℕ) (o u : OpenFile F) → CanRead faults o → u.rest ≡ [] → u.feed ≡ o.feed → u.failed ≡ o.failed
+    → CanRead faults u
+can_none faults o u can none feed failed = record {
+  short = subst (λ (z : List ℕ). length z ≤ longest_read) (sym none) (omega arith);
+  failed = λ is. subst (λ (z : _). Rose 0 (faults z)) (sym feed) (can.failed (sym failed ∙ is));
+}
+
+module _ {F : Type 0} (left : F → Option (List ℕ)) where
+  pub read_both : (o m u : OpenFile F) → HasRead left o m → HasRead left m u → HasRead left o u
+  read_both o m u h k = record {
+    more = h.more ++ k.more;
+    took = Took_trans (left o.feed) (left m.feed) (left u.feed) h.more k.more h.took k.took;
+    rest_is = k.rest_is ∙ ap (λ (z : List ℕ). z ++ k.more) h.rest_is ∙ append_assoc o.rest h.more k.more;
+    form_is = k.form_is ∙ h.form_is;
+    begin_is = k.begin_is ∙ h.begin_is;
+    name_is = k.name_is ∙ h.name_is;
+    room_is = k.room_is ∙ h.room_is;
+  }
+
+  -- lines were cut off once bytes had come
+  pub part_of : (o m u : OpenFile F) (w : Work) → HasRead left o m → IsCutOff m u w → IsPartOf left o w u
+  part_of o m u w h c = record {
+    part = c.part;
+    more = h.more;
+    json = sym h.form_is ∙ c.json;
+    line = c.line;
+    took = subst (λ (z : F). Took (left o.feed) (left z) h.more) (sym c.feed_is) h.took;
+    cut = sym h.rest_is ∙ c.cut;
+    is = c.is ∙ (λ i. work.Ingest (h.form_is i) (h.begin_is i) (h.name_is i) c.part);
+    form_is = c.form_is ∙ h.form_is;
+    begin_is = c.begin_is;
+    name_is = c.name_is ∙ h.name_is;
+    less = subst (λ (n : ℕ). u.room < n) h.room_is c.less;
+  }
+
+  module _ (o m u : OpenFile F) (w : Work) (h : HasRead left o m) (few : length m.rest ≤ longest_read)
+      (is : w ≡ work.Ingest m.form m.begin m.name m.rest) (feed : u.feed ≡ m.feed) where
+    is_here : w ≡ work.Ingest o.form o.begin o.name m.rest
+    is_here = is ∙ (λ i. work.Ingest (h.form_is i) (h.begin_is i) (h.name_is i) m.rest)
+
+    abbrev All : Option (List ℕ) → Type 0
+    All x = IfSome x (λ z. (l : List ℕ) × (left o.feed ≡ Some l) × (m.rest ≡ take longest_read (o.rest ++ l)))
+
+    -- all that came is the rest, where no more comes
+    pub rest_at_end : IsAtEnd (left m.feed) → IsRestOf left o w u
+    rest_at_end end = record {
+      bytes = m.rest;
+      few = few;
+      is = is_here;
+      all = subst (λ (z : F). All (left z)) (sym feed) (by (left m.feed) h.took end);
+    }
+      where
+        by : (x : Option (List ℕ)) → Took (left o.feed) x h.more → IsAtEnd x → All x
+        by None took end = tt
+        by (Some z) took end = (
+          h.more ++ z,
+          took,
+          sym (ap (λ (y : List ℕ). take longest_read (o.rest ++ (h.more ++ y))) end
+              ∙ ap (λ (y : List ℕ). take longest_read (o.rest ++ y)) (append-nil h.more)
+              ∙ ap (take longest_read) (sym h.rest_is) ∙ take_all longest_read m.rest few),
+        )
+
+    -- or where no more may be given at once
+    pub rest_full : longest_read ≤ length m.rest → IsRestOf left o w u
+    rest_full many = record {
+      bytes = m.rest;
+      few = few;
+      is = is_here;
+      all = subst (λ (z : F). All (left z)) (sym feed) (by (left m.feed) h.took);
+    }
+      where
+        by : (x : Option (List ℕ)) → Took (left o.feed) x h.more → All x
+        by None took = tt
+        by (Some z) took = (
+          h.more ++ z,
+          took,
+          sym (ap (take longest_read) (sym (append_assoc o.rest h.more z) ∙ ap (λ (y : List ℕ). y ++ z) (sym h.rest_is))
+              ∙ take_front longest_read m.rest z (omega (few, many, arith))),
+        )

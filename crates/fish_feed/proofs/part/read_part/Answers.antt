@@ -1,0 +1,25 @@
+-- What came is all that may be given at once.
+use Rattle.std.proofs.Common.{rules, ◌≡◌, None, false}
+use Rattle.fish_feed.proofs.Reading.{can_none, read_both, rest_full}
+use Rattle.fish_feed.proofs.part.read_part.Goals as goal
+
+pub returns-clause-part : goal.returns-clause-part
+returns-clause-part g c =
+    let left = g.F.Source.left in
+    let o = c.args.file.now in
+    let m = c.read_until.new.file in
+    let n = c.read_until-2.new.file in
+    let none : c.in_ok-part.field-0 ≡ None = search rules in
+    let none_2 : c.in_ok-part-2.field-0 ≡ None = search rules in
+    let well : n.failed ≡ false = search rules in
+    record {
+      one = λ last. absurd cc;
+      rest = λ last. rest_full left o n c.rest_of.new.file c.in_ok-work.work
+          (read_both left o m n (c.in_ok-part.ensures.none none) (c.in_ok-part-2.ensures.none none_2)) c.in_ok-part-2.ensures.can.short
+          c.in_ok-work.ensures.work c.rest_of.ensures.feed (c.in_ok-part-2.ensures.full none_2 well);
+    }
+
+pub returns-clause-can : goal.returns-clause-can
+returns-clause-can g c =
+    can_none g.F.Source.faults c.read_until-2.new.file c.rest_of.new.file c.in_ok-part-2.ensures.can c.in_ok-work.ensures.rest
+    c.rest_of.ensures.feed c.rest_of.ensures.failed

@@ -1,0 +1,30 @@
+-- All that came is the rest of the file, where it has no more.
+use Rattle.std.proofs.Common.{rules, ◌≡◌, Option, subst, true}
+use Rattle.std.specs.Prelude.{IfSome}
+use Rattle.fish_feed.proofs.Reading.{can_cut, can_none, rest_at_end}
+use Rattle.fish_feed.specs.Queues.{IsCutOff}
+use Rattle.fish_lanes.specs.declared.work.Work.{Work}
+use Rattle.fish_feed.proofs.part.read_until.Goals as goal
+
+pub returns-then-branch-clause-some : goal.returns-then-branch-clause-some
+returns-then-branch-clause-some g c =
+    let source = g.F.Source in
+    let m = c.read_ahead.new.file in
+    let u = c.rest_of.new.file in
+    let end : c.in_ok-read_ahead.field-0 ≡ true = search rules in
+    let e = c.in_ok-read_ahead.ensures in
+    record {
+      one = λ last. absurd cc;
+      rest = λ last. rest_at_end source.left c.args.file.now m u c.in_ok-work.work e.read e.can.short c.in_ok-work.ensures.work
+          c.rest_of.ensures.feed (e.end end);
+    }
+
+pub returns-then-branch-clause-can : goal.returns-then-branch-clause-can
+returns-then-branch-clause-can g c =
+    can_none g.F.Source.faults c.read_ahead.new.file c.rest_of.new.file c.in_ok-read_ahead.ensures.can c.in_ok-work.ensures.rest
+    c.rest_of.ensures.feed c.rest_of.ensures.failed
+
+pub returns-in-Some-clause-can : goal.returns-in-Some-clause-can
+returns-in-Some-clause-can g c =
+    can_cut g.F.Source.faults c.read_ahead.new.file c.cut_off.new.file c.in-Some.work c.in_ok-read_ahead.ensures.can
+    (subst (λ (z : Option Work). IfSome z (IsCutOff c.read_ahead.new.file c.cut_off.new.file)) c.in-Some.is c.in_ok-work-2.ensures.some)

@@ -1,0 +1,117 @@
+-- One statement more.
+use Rattle.std.proofs.Common.{◌≡◌, ◌<◌, ◌++◌, ◌∷◌, ◌∙◌, [], List, Option, Some, append-nil, ap, arith, inl, inr, refl, subst, sym, ⊎_elim}
+use Rattle.std.specs.Prelude.{IfSome, option_to_list}
+use Rattle.fish_feed.proofs.Fit.{given_more, may_front, may_push, may_queue}
+use Rattle.fish_feed.proofs.Giving.{lane_with}
+use Rattle.fish_feed.proofs.Told.{still_self}
+use Rattle.fish_feed.specs.Queues.{IsQueue, MayDo, MayDoAll, left_of}
+use Rattle.fish_lanes.specs.declared.work.Work.{Work}
+use Rattle.fish_outside.proofs.ToldLemmas.{StillTold_trans}
+use Rattle.fish_feed.proofs.queue.give_one.Goals as goal
+
+pub loop-most-init : goal.loop-most-init
+loop-most-init g c = record {
+  given = λ ss given h. subst (λ (z : List Work). IsQueue (g.H.Host.files c.args.host.now) g.H.Feed.Source.left ss z c.args.queue.now)
+      (sym (ap (λ (z : List Work). given ++ z) c.requires.empty ∙ append-nil given)) h;
+  most = omega arith;
+  lane = refl;
+  fit = λ first h. (h, subst (MayDoAll first) (sym c.requires.empty) tt);
+  down = omega arith;
+  falls = inl refl;
+  told = still_self (g.H.Host.files c.args.host.now);
+  later = omega arith;
+}
+
+pub next-requires-clause-fit : goal.next-requires-clause-fit
+next-requires-clause-fit g c κs within =
+    (c.requires.fit.0, (c.loop-most.invariant.fit c.requires.fit.0 c.requires.fit.1).0)
+
+pub returns-in-Err-clause-failed : goal.returns-in-Err-clause-failed
+returns-in-Err-clause-failed g c = λ ss given h.
+    may_front (g.H.Host.files c.next.new.host) g.H.Feed.Source.left ss given c.next.new.queue c.loop-most.lane.works
+    (c.in-Err.ensures.failed ss (given ++ c.loop-most.lane.works) (c.loop-most.invariant.given ss given h))
+
+pub returns-in-Err-clause-fit : goal.returns-in-Err-clause-fit
+returns-in-Err-clause-fit g c = λ first h.
+    let before = c.loop-most.invariant.fit first h in
+    ((c.in-Err.ensures.fit first before.0).0, before.1)
+
+pub loop-most-preserved : goal.loop-most-preserved
+loop-most-preserved g c =
+    let was = g.H.Host.files c.args.host.now in
+    let mid = g.H.Host.files c.loop-most.host in
+    let new = g.H.Host.files c.next.new.host in
+    let left = g.H.Feed.Source.left in
+    let works = c.loop-most.lane.works in
+    let w = c.in-Ok-Some.work in
+    let inv = c.loop-most.invariant in
+    let q = c.next.new.queue in
+    let is : c.in-Ok-Some.field-0 ≡ Some w = c.in-Ok-Some.field-0-is in
+    let pushed : c.push.new.self ≡ works ++ w ∷ [] = c.in-Ok.ensures.ok in
+    let less : left_of q < left_of c.loop-most.queue =
+    subst (λ (z : Option Work). IfSome z (λ _. left_of q < left_of c.loop-most.queue)) is c.in-Ok-Some.ensures.some in
+    let down = inv.down in
+    let sub = c.saturating_sub-most.ensures in
+    let most = inv.most in
+    let cause = c.in-Ok-Some.ensures.cause.later in
+    let later = inv.later in
+    record {
+      given = λ ss given h. subst (λ (z : List Work). IsQueue new left ss z q)
+          (given_more given works c.push.new.self c.in-Ok-Some.field-0 w is pushed)
+          (c.in-Ok-Some.ensures.given ss (given ++ works) (inv.given ss given h));
+      most = omega (sub, most, arith);
+      lane = lane_with c.loop-most.lane c.args.lane.now c.push.new.self inv.lane;
+      fit = λ first h.
+          let before = inv.fit first h in
+          let one = c.in-Ok-Some.ensures.fit first before.0 in
+          let may : MayDo first w = (subst (λ (o : Option Work). MayDoAll first (option_to_list o)) is one.1).0 in
+          (one.0, subst (MayDoAll first) (sym pushed) (may_push first works w before.1 may));
+      down = omega (less, down, arith);
+      falls = inr (omega (less, down, arith));
+      told = StillTold_trans was mid new inv.told c.in-Ok-Some.ensures.told;
+      later = omega (cause, later, arith);
+    }
+
+pub returns-in-Err-push-clause-failed : goal.returns-in-Err-push-clause-failed
+returns-in-Err-push-clause-failed g c = λ ss given h.
+    let new = g.H.Host.files c.next.new.host in
+    let left = g.H.Feed.Source.left in
+    let works = c.loop-most.lane.works in
+    let w = c.in-Ok-Some.work in
+    let q = c.next.new.queue in
+    let is : c.in-Ok-Some.field-0 ≡ Some w = c.in-Ok-Some.field-0-is in
+    may_queue new left ss given q (works ++ w ∷ [])
+    (subst (λ (z : List Work). IsQueue new left ss z q)
+    (given_more given works (works ++ w ∷ []) c.in-Ok-Some.field-0 w is refl)
+    (c.in-Ok-Some.ensures.given ss (given ++ works) (c.loop-most.invariant.given ss given h)))
+
+pub returns-in-Err-push-clause-fit : goal.returns-in-Err-push-clause-fit
+returns-in-Err-push-clause-fit g c = λ first h.
+    let before = c.loop-most.invariant.fit first h in
+    ((c.in-Ok-Some.ensures.fit first before.0).0, subst (MayDoAll first) (sym c.in-Err-push.ensures.err) before.1)
+
+pub returns-in-Ok-None-clause-given : goal.returns-in-Ok-None-clause-given
+returns-in-Ok-None-clause-given g c = λ ss given h.
+    let new = g.H.Host.files c.next.new.host in
+    let left = g.H.Feed.Source.left in
+    let works = c.loop-most.lane.works in
+    subst (λ (z : List Work). IsQueue new left ss z c.next.new.queue)
+    (ap (λ (o : Option Work). (given ++ works) ++ option_to_list o) c.in-Ok-None.field-0-is ∙ append-nil (given ++ works))
+    (c.in-Ok-None.ensures.given ss (given ++ works) (c.loop-most.invariant.given ss given h))
+
+pub returns-in-Ok-None-clause-fit : goal.returns-in-Ok-None-clause-fit
+returns-in-Ok-None-clause-fit g c = λ first h.
+    let before = c.loop-most.invariant.fit first h in
+    ((c.in-Ok-None.ensures.fit first before.0).0, before.1)
+
+pub returns-clause-given : goal.returns-clause-given
+returns-clause-given g c = λ ss given h. c.loop-most.invariant.given ss given h
+
+pub returns-clause-less : goal.returns-clause-less
+returns-clause-less g c =
+    let test = c.loop-most-test.false in
+    let down = c.loop-most.invariant.down in
+    record {
+      down = down;
+      falls = λ some. ⊎_elim (λ full. absurd (omega (full, test, arith))) (λ less. less) c.loop-most.invariant.falls;
+    }

@@ -1,0 +1,35 @@
+-- The next statement, or what the file gives that is being read.
+use Rattle.std.proofs.Common.{rules, ◌≡◌, ◌++◌, ◌∙◌, List, None, append-nil, ap, subst}
+use Rattle.std.specs.Prelude.{Option, option_to_list}
+use Rattle.fish_feed.proofs.Fit.{if_err, if_ok}
+use Rattle.fish_feed.specs.Queues.{IsQueue, MayDoAll, MayEnd}
+use Rattle.fish_lanes.specs.declared.work.Work.{Work}
+use Rattle.fish_script.specs.declared.script.Statement.{Statement}
+use Rattle.fish_feed.proofs.queue.next.Goals as goal
+
+pub read_open-requires-clause-fit : goal.read_open-requires-clause-fit
+read_open-requires-clause-fit g c κs within = (c.requires.fit.0, (c.open_next.ensures.fit c.requires.fit.0 c.requires.fit.1).0)
+
+pub returns-in_err-read_open-clause-failed : goal.returns-in_err-read_open-clause-failed
+returns-in_err-read_open-clause-failed g c =
+    let left = g.H.Feed.Source.left in
+    let told = g.H.Host.files c.args.host.now in
+    let m = c.open_next.new.queue in
+    let none : c.open_next.result ≡ None = search rules in
+    if_err c.from_residual.result ((ss : List Statement) (given : List Work) → IsQueue told left ss given c.args.queue.now
+    → MayEnd (g.H.Host.files c.read_open.new.host) left ss given c.read_open.new.queue)
+    (λ ss given h. c.in_err-read_open.ensures.failed ss given
+    (subst (λ (z : List Work). IsQueue told left ss z m)
+    (ap (λ (z : Option Work). given ++ option_to_list z) none ∙ append-nil given) (c.open_next.ensures.queue told ss given h)))
+
+pub returns-in_err-read_open-clause-fit : goal.returns-in_err-read_open-clause-fit
+returns-in_err-read_open-clause-fit g c = λ first h. (
+  c.read_open.ensures.fit first (c.open_next.ensures.fit first h).0,
+  if_ok c.from_residual.result (λ w. MayDoAll first (option_to_list w)) c.from_residual.ensures.0,
+)
+
+pub returns-clause-fit : goal.returns-clause-fit
+returns-clause-fit g c = λ first h. (
+  c.read_open.ensures.fit first (c.open_next.ensures.fit first h).0,
+  (c.in_ok-read_open.ensures.work first, tt),
+)

@@ -1,0 +1,4 @@
+pub mod Parts
+pub mod Queues
+pub mod Reading
+pub mod Works

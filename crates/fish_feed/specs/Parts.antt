@@ -1,0 +1,36 @@
+-- A file that is given in parts.
+use Rattle.std.specs.Prelude.{ℕ, ◌≡◌, List, [], ◌∷◌, ◌++◌, take}
+use Rattle.fish_lanes.specs.declared.work.Work.{Work}
+use Rattle.fish_lanes.specs.declared.work.Work.TheVariants as work
+use Rattle.fish_lines.specs.declared.resuming.Begin.{Begin}
+use Rattle.fish_lines.specs.declared.resuming.Begin.TheVariants.{After}
+use Rattle.fish_value.specs.declared.field.Form.{Form}
+use Rattle.fish_value.specs.declared.field.Form.TheVariants.{Json}
+
+-- how many bytes of a file are given at once at most: one more than are stored at once
+abbrev pub longest_read : ℕ
+longest_read = 67108865
+
+-- the bytes end with an LF
+abbrev pub EndsLine : List ℕ → Type 0
+EndsLine b = (front : List ℕ) × (b ≡ front ++ 10 ∷ [])
+
+-- where the reading of a file goes on after these works
+abbrev pub begin_after : Begin → List Work → Begin
+begin_after begin [] = begin
+begin_after begin (w ∷ ws) = After
+
+-- these works are parts of a file with these bytes, from where its reading begins, each up to the end of a line; this
+-- is left of it
+abbrev pub AreParts : Form → Begin → List ℕ → List ℕ → List Work → List ℕ → Type 0
+AreParts form begin name b [] rest = b ≡ rest
+AreParts form begin name b (w ∷ ws) rest =
+    (part then : List ℕ) × (b ≡ part ++ then) × (form ≡ Json) × EndsLine part
+    × (w ≡ work.Ingest form begin name part) × AreParts form After name then ws rest
+
+-- these works are all of it: parts, and then what is left, up to so many bytes
+pub record IsRead (form : Form) (begin : Begin) (name b : List ℕ) (ws : List Work) : Type 0 where
+  pub parts : List Work
+  pub rest : List ℕ
+  pub are : AreParts form begin name b parts rest
+  pub is : ws ≡ parts ++ work.Ingest form (begin_after begin parts) name (take longest_read rest) ∷ []

@@ -1,0 +1,249 @@
+-- What a lane is still to be given, and what a step of that leaves. Feeds are of a type F; left says which bytes one
+-- still gives, and faults how often it failed.
+use Rattle.std.specs.Prelude.{ℕ, ◌≡◌, ◌+◌, ◌<◌, ◌≤◌, ◌⊎◌, List, [], ◌∷◌, ◌++◌, Bool, true, false}
+use Rattle.std.specs.Prelude.{Option, None, Some, IfSome, IsSome}
+use Rattle.std.specs.Prelude.{length, map, slice_get, take, ⊤, ◌≢◌}
+use Rattle.fish_feed.specs.Parts.{AreParts, EndsLine, begin_after, longest_read}
+use Rattle.fish_feed.specs.Works.{AreDone, IsWorkOf, Pairs}
+use Rattle.fish_feed.specs.declared.part.OpenFile.{OpenFile}
+use Rattle.fish_feed.specs.declared.part.Part.{Part}
+use Rattle.fish_feed.specs.declared.queue.Queue.{Queue}
+use Rattle.fish_feed.specs.declared.queue.Todo.{Todo}
+use Rattle.fish_feed.specs.declared.queue.Todo.TheVariants as todo
+use Rattle.fish_lanes.specs.Registering.{IsAcceptable}
+use Rattle.fish_lanes.specs.Running.{IsShared}
+use Rattle.fish_lanes.specs.declared.lane.Lane.{Lane}
+use Rattle.fish_lanes.specs.declared.work.Work.{Work}
+use Rattle.fish_lanes.specs.declared.work.Work.TheVariants as work
+use Rattle.fish_lines.specs.declared.resuming.Begin.{Begin}
+use Rattle.fish_lines.specs.declared.resuming.Begin.TheVariants.{After, Start}
+use Rattle.fish_outside.specs.Causes.{Rose}
+use Rattle.fish_outside.specs.Told.{Files, Took}
+use Rattle.fish_script.specs.Runnable.{AreRunnable}
+use Rattle.fish_script.specs.Script.{AreFree}
+use Rattle.fish_script.specs.declared.script.Statement.{Statement}
+use Rattle.fish_script.specs.declared.script.Statement.TheVariants as does
+use Rattle.fish_value.specs.declared.field.Form.{Form}
+use Rattle.fish_value.specs.declared.field.Form.TheVariants.{Json}
+
+-- ---- a file that is being read
+
+-- nothing was read of it
+pub record IsUnread {F : Type 0} (form : Form) (begin : Begin) (name : List ℕ) (feed : F) (o : OpenFile F)
+    : Type 0 where
+  pub form_is : o.form ≡ form
+  pub begin_is : o.begin ≡ begin
+  pub name_is : o.name ≡ name
+  pub feed_is : o.feed ≡ feed
+  pub rest_is : o.rest ≡ []
+
+-- it holds no more than may be given at once, and a read that failed was counted
+pub record CanRead {F : Type 0} (faults : F → ℕ) (o : OpenFile F) : Type 0 where
+  pub short : length o.rest ≤ longest_read
+  pub failed : o.failed ≡ true → Rose 0 (faults o.feed)
+
+-- whole lines of the bytes that came were cut off
+pub record IsCutOff {F : Type 0} (o u : OpenFile F) (w : Work) : Type 0 where
+  pub part : List ℕ
+  pub json : o.form ≡ Json
+  pub line : EndsLine part
+  pub cut : o.rest ≡ part ++ u.rest
+  pub is : w ≡ work.Ingest o.form o.begin o.name part
+  pub form_is : u.form ≡ o.form
+  pub begin_is : u.begin ≡ After
+  pub name_is : u.name ≡ o.name
+  pub feed_is : u.feed ≡ o.feed
+  pub failed_is : u.failed ≡ o.failed
+  pub less : u.room < o.room
+
+-- these bytes came, and are kept after the others
+pub record HasRead {F : Type 0} (left : F → Option (List ℕ)) (o u : OpenFile F) : Type 0 where
+  pub more : List ℕ
+  pub took : Took (left o.feed) (left u.feed) more
+  pub rest_is : u.rest ≡ o.rest ++ more
+  pub form_is : u.form ≡ o.form
+  pub begin_is : u.begin ≡ o.begin
+  pub name_is : u.name ≡ o.name
+  pub room_is : u.room ≡ o.room
+
+-- so many bytes came, unless a read failed
+abbrev pub IsFull : {F : Type 0} → ℕ → OpenFile F → Type 0
+IsFull wanted o = o.failed ≡ false → wanted ≤ length o.rest
+
+-- a part of it was given, perhaps once more bytes had come
+pub record IsPartOf {F : Type 0} (left : F → Option (List ℕ)) (o : OpenFile F) (w : Work) (u : OpenFile F)
+    : Type 0 where
+  pub part : List ℕ
+  pub more : List ℕ
+  pub json : o.form ≡ Json
+  pub line : EndsLine part
+  pub took : Took (left o.feed) (left u.feed) more
+  pub cut : o.rest ++ more ≡ part ++ u.rest
+  pub is : w ≡ work.Ingest o.form o.begin o.name part
+  pub form_is : u.form ≡ o.form
+  pub begin_is : u.begin ≡ After
+  pub name_is : u.name ≡ o.name
+  pub less : u.room < o.room
+
+-- all that was left of it was given, up to so many bytes
+pub record IsRestOf {F : Type 0} (left : F → Option (List ℕ)) (o : OpenFile F) (w : Work) (u : OpenFile F)
+    : Type 0 where
+  pub bytes : List ℕ
+  pub few : length bytes ≤ longest_read
+  pub is : w ≡ work.Ingest o.form o.begin o.name bytes
+  pub all : IfSome (left u.feed) (λ _. (l : List ℕ) × (left o.feed ≡ Some l)
+      × (bytes ≡ take longest_read (o.rest ++ l)))
+
+pub record GivesPart {F : Type 0} (left : F → Option (List ℕ)) (o : OpenFile F) (p : Part) (u : OpenFile F)
+    : Type 0 where
+  pub one : p.last ≡ false → IsPartOf left o p.work u
+  pub rest : p.last ≡ true → IsRestOf left o p.work u
+
+-- ---- statements that are to be given
+
+-- this much was given of the file that a statement names, and the rest is to come
+pub record IsOpen {F : Type 0} (told : Option Files) (left : F → Option (List ℕ)) (s : Statement) (given : List Work)
+    (o : OpenFile F) : Type 0 where
+  pub header : Bool
+  pub is : s ≡ does.Ingest o.form header o.name
+  pub before : List ℕ
+  pub parts : AreParts o.form (Start header) o.name before given []
+  pub begin_is : o.begin ≡ begin_after (Start header) given
+  pub file : IfSome told (λ files. IfSome (left o.feed) (λ l. files o.name ≡ Some (before ++ (o.rest ++ l))))
+
+-- the statement is to be given
+abbrev pub IsDue : {F : Type 0} → Option Files → (F → Option (List ℕ)) → Statement → Todo F → Type 0
+IsDue told left s (todo.Work w) = IsWorkOf s w
+IsDue told left s (todo.File o) = IsOpen told left s [] o × IfSome told (λ files. IsSome (left o.feed))
+
+-- the first of these statements has the file that is being read, if one is, of which so much was given; the others are
+-- to be given
+abbrev pub GoesOn
+    : {F : Type 0} → Option Files → (F → Option (List ℕ)) → Option (OpenFile F) → List Statement → List Work
+    → List (Todo F) → Type 0
+GoesOn told left None ss given todos = (given ≡ []) × Pairs (IsDue told left) ss todos
+GoesOn told left (Some o) [] given todos = ⊥
+GoesOn told left (Some o) (s ∷ ss) given todos = IsOpen told left s given o × Pairs (IsDue told left) ss todos
+
+-- a lane of these statements was given these works, and is to be given what is open and what follows
+pub record HasQueue {F : Type 0} (told : Option Files) (left : F → Option (List ℕ)) (ss : List Statement)
+    (given : List Work) (current : Option (OpenFile F)) (todos : List (Todo F)) : Type 0 where
+  pub done : List Statement
+  pub next : List Statement
+  pub first : List Work
+  pub then : List Work
+  pub statements : ss ≡ done ++ next
+  pub works : given ≡ first ++ then
+  pub are : AreDone told done first
+  pub goes : GoesOn told left current next then todos
+
+abbrev pub IsQueue
+    : {F : Type 0} → Option Files → (F → Option (List ℕ)) → List Statement → List Work → Queue F → Type 0
+IsQueue told left ss given q = HasQueue told left ss given q.current q.todos.items
+
+-- it was given these works, and perhaps others that were lost
+abbrev pub MayEnd
+    : {F : Type 0} → Option Files → (F → Option (List ℕ)) → List Statement → List Work → Queue F → Type 0
+MayEnd told left ss given q =
+    (more : List Work) × (IsQueue told left ss (given ++ more) q ⊎ AreDone told ss (given ++ more))
+
+-- nothing is to be given
+pub record IsEmpty {F : Type 0} (q : Queue F) : Type 0 where
+  pub none : q.current ≡ None
+  pub empty : q.todos.items ≡ []
+
+-- ---- before a block
+
+-- the statements of each lane can be run
+abbrev pub AllRunnable : List (List Statement) → Type 0
+AllRunnable texts = (i : ℕ) (ss : List Statement) → slice_get texts i ≡ Some ss → AreRunnable ss
+
+-- and what the first lane alone may hold stands in no other
+abbrev pub AllFree : List (List Statement) → Type 0
+AllFree texts = (i : ℕ) (ss : List Statement) → 0 < i → slice_get texts i ≡ Some ss → AreFree ss
+
+-- the statement stores no file
+abbrev pub HasNoFile : Statement → Type 0
+HasNoFile s = (form : Form) (header : Bool) (name : List ℕ) → s ≢ does.Ingest form header name
+
+-- ---- works that a lane may do
+
+-- the first lane may do this, and any other that
+abbrev pub MayDo : Bool → Work → Type 0
+MayDo true w = IsAcceptable w
+MayDo false w = IsShared w
+
+abbrev pub IsFitTodo : {F : Type 0} → (F → ℕ) → Bool → Todo F → Type 0
+IsFitTodo faults first (todo.Work w) = MayDo first w
+IsFitTodo faults first (todo.File o) = CanRead faults o
+
+abbrev pub AreFitTodos : {F : Type 0} → (F → ℕ) → Bool → List (Todo F) → Type 0
+AreFitTodos faults first [] = ⊤
+AreFitTodos faults first (t ∷ todos) = IsFitTodo faults first t × AreFitTodos faults first todos
+
+-- the queue is one for the first lane, or for another
+pub record IsFit {F : Type 0} (faults : F → ℕ) (first : Bool) (q : Queue F) : Type 0 where
+  pub current : IfSome q.current (CanRead faults)
+  pub todos : AreFitTodos faults first q.todos.items
+
+abbrev pub AreFit : {F : Type 0} → (F → ℕ) → Bool → List (Queue F) → Type 0
+AreFit faults first [] = ⊤
+AreFit faults first (q ∷ queues) = IsFit faults first q × AreFit faults false queues
+
+-- the statements of a lane are such, and of lanes
+abbrev pub MayDoAll : Bool → List Work → Type 0
+MayDoAll first [] = ⊤
+MayDoAll first (w ∷ ws) = MayDo first w × MayDoAll first ws
+
+abbrev pub LanesMayDo : Bool → List Lane → Type 0
+LanesMayDo first [] = ⊤
+LanesMayDo first (x ∷ lanes) = MayDoAll first x.works × LanesMayDo false lanes
+
+-- ---- lanes
+
+-- what they were given
+abbrev pub works_of : List Lane → List (List Work)
+works_of lanes = map (λ x. x.works) lanes
+
+-- these works, and after them those, of each lane
+abbrev pub both : List (List Work) → List (List Work) → List (List Work)
+both [] ys = []
+both (x ∷ xs) [] = []
+both (x ∷ xs) (y ∷ ys) = (x ++ y) ∷ both xs ys
+
+-- a lane had no statement, and got some
+pub record IsGiven (x y : Lane) : Type 0 where
+  pub none : x.works ≡ []
+  pub is : y ≡ record x { works = y.works }
+
+-- no lane has a statement
+abbrev pub AreIdle : List Lane → Type 0
+AreIdle [] = ⊤
+AreIdle (x ∷ lanes) = (x.works ≡ []) × AreIdle lanes
+
+-- ---- how much is to come
+
+-- it doesn't rise, and falls unless it was nothing
+pub record GoesDown (before now : ℕ) : Type 0 where
+  pub down : now ≤ before
+  pub falls : 0 < before → now < before
+
+abbrev pub todo_left : {F : Type 0} → Todo F → ℕ
+todo_left (todo.Work w) = 1
+todo_left (todo.File o) = o.room + 2
+
+abbrev pub todos_left : {F : Type 0} → List (Todo F) → ℕ
+todos_left [] = 0
+todos_left (t ∷ todos) = todo_left t + todos_left todos
+
+abbrev pub current_left : {F : Type 0} → Option (OpenFile F) → ℕ
+current_left None = 0
+current_left (Some o) = o.room + 1
+
+-- of a queue at most so many works come, and of queues
+abbrev pub left_of : {F : Type 0} → Queue F → ℕ
+left_of q = current_left q.current + todos_left q.todos.items
+
+abbrev pub left_of_all : {F : Type 0} → List (Queue F) → ℕ
+left_of_all [] = 0
+left_of_all (q ∷ queues) = left_of q + left_of_all queues

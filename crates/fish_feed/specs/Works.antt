@@ -1,0 +1,69 @@
+-- What the statements of a script have a lane do, over files that are told.
+use Rattle.std.specs.Prelude.{ℕ, ◌≡◌, List, [], ◌∷◌, ◌++◌, Option, Some, IfSome}
+use Rattle.fish_feed.specs.Parts.{IsRead}
+use Rattle.fish_lang.specs.Definition.{definition_of}
+use Rattle.fish_lang.specs.declared.definition.Def.{Def}
+use Rattle.fish_lanes.specs.declared.work.Work.{Work}
+use Rattle.fish_lanes.specs.declared.work.Work.TheVariants as work
+use Rattle.fish_lines.specs.declared.resuming.Begin.TheVariants.{Start}
+use Rattle.fish_outside.specs.Told.{Files}
+use Rattle.fish_scan.specs.declared.ask.Ask.{Ask}
+use Rattle.fish_scan.specs.declared.ask.How.{How}
+use Rattle.fish_scan.specs.declared.ask.How.TheVariants as how
+use Rattle.fish_script.specs.declared.script.By.{By}
+use Rattle.fish_script.specs.declared.script.By.TheVariants as by
+use Rattle.fish_script.specs.declared.script.Statement.{Statement}
+use Rattle.fish_script.specs.declared.script.Statement.TheVariants as does
+use Rattle.fish_value.specs.declared.value.Value.{Value}
+
+-- ---- lists side by side
+
+-- the two lists are as long, and R holds of each two at one place
+abbrev pub Pairs : {A B : Type 0} → (A → B → Type 0) → List A → List B → Type 0
+Pairs R [] [] = Unit {0}
+Pairs R [] (y ∷ ys) = ⊥
+Pairs R (x ∷ xs) [] = ⊥
+Pairs R (x ∷ xs) (y ∷ ys) = R x y × Pairs R xs ys
+
+-- the same of three
+abbrev pub Triples : {A B C : Type 0} → (A → B → C → Type 0) → List A → List B → List C → Type 0
+Triples R [] [] [] = Unit {0}
+Triples R (x ∷ xs) (y ∷ ys) (z ∷ zs) = R x y z × Triples R xs ys zs
+Triples R xs ys zs = ⊥
+
+-- ---- statements
+
+-- how a scan is to go
+abbrev pub how_of : By → How
+how_of by.Auto = how.Auto
+how_of by.Index = how.Index
+how_of by.Full = how.Full
+
+-- what is asked
+abbrev pub ask_of : List ℕ → Value → Option ℕ → Option ℕ → By → Ask
+ask_of name value from to way = record { name = name; value = value; from = from; to = to; how = how_of way }
+
+-- a statement without a file has a lane do this
+abbrev pub IsWorkOf : Statement → Work → Type 0
+IsWorkOf (does.Register name def) w =
+    (other : Def) × (w ≡ work.Register name other) × (definition_of other ≡ definition_of def)
+IsWorkOf (does.Deregister name) w = w ≡ work.Deregister name
+IsWorkOf (does.Ingest form header file) w = ⊥
+IsWorkOf (does.Scan name value from to way) w = w ≡ work.Scan (ask_of name value from to way)
+IsWorkOf (does.Explain name value from to way) w = w ≡ work.Explain (ask_of name value from to way)
+IsWorkOf does.Checkpoint w = w ≡ work.Checkpoint
+
+-- these works do a statement: they are its file, perhaps in parts, or it is one without a file
+abbrev pub IsDone : Option Files → Statement → List Work → Type 0
+IsDone told (does.Ingest form header name) ws =
+    (b : List ℕ) × IsRead form (Start header) name b ws × IfSome told (λ files. files name ≡ Some b)
+IsDone told s ws = (w : Work) × (ws ≡ w ∷ []) × IsWorkOf s w
+
+-- they do these statements, one after the other
+abbrev pub AreDone : Option Files → List Statement → List Work → Type 0
+AreDone told [] ws = ws ≡ []
+AreDone told (s ∷ ss) ws = (now then : List Work) × (ws ≡ now ++ then) × IsDone told s now × AreDone told ss then
+
+-- they are the first ones of works that do
+abbrev pub AreFirstOf : Option Files → List Statement → List Work → Type 0
+AreFirstOf told ss ws = (more : List Work) × AreDone told ss (ws ++ more)

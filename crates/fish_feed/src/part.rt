@@ -1,0 +1,218 @@
+//! A file that is read in parts: each ends with a line, and the next one is read when it is wanted.
+
+ghost use Rattle.std.specs.Prelude.{◌≡◌, ◌<◌, ◌≤◌, [], None, length, take, true, false};
+ghost use Rattle.std.specs.Prelude.{IfOk, IfSome, IsErrOf, IsSome, OnErr, OnOk};
+ghost use Rattle.fish_feed.specs.Parts.{EndsLine, longest_read};
+ghost use Rattle.fish_feed.specs.Queues.{CanRead, GivesPart, HasRead, IsCutOff, IsFull, IsUnread};
+ghost use Rattle.fish_lanes.specs.declared.work.Work.TheVariants as work;
+ghost use Rattle.fish_outside.specs.Causes.{Rose};
+ghost use Rattle.fish_outside.specs.Told.{IsAtEnd};
+ghost use Rattle.fish_outside.specs.declared.fault.FeedRefusal.TheVariants as refusal;
+
+use crate::file::{CHUNK, read_more, zeros};
+use fish_lanes::Work;
+use fish_lines::Begin;
+use fish_outside::{FeedRefusal, Source};
+use fish_value::{Bytes, Form, Text};
+use memchr::memrchr;
+use std::alloc::{AllocError, Global};
+use std::mem::replace;
+
+/// How many bytes of a file are given at once at most: one more than are stored at once.
+const LONGEST_READ: usize = 67_108_865;
+
+/// How many bytes of a file in JSON are given in parts at most.
+const LONGEST_IN_PARTS: u64 = 68_719_476_736;
+
+/// A file that is being read.
+#[derive(Drop)]
+pub struct OpenFile<F: Source> {
+    /// The form of its records.
+    pub form: Form,
+    /// Where the reading of its records goes on.
+    pub begin: Begin,
+    /// Its name.
+    pub name: Text,
+    /// Where its bytes come from.
+    pub feed: F,
+    /// The bytes that came and were not given.
+    pub rest: Bytes,
+    /// How many bytes may still be given in parts.
+    pub room: u64,
+    /// Whether a read failed.
+    pub failed: bool,
+}
+
+/// A part of a file, or the rest of it.
+#[derive(Drop)]
+pub struct Part {
+    pub work: Work,
+    /// Whether it is the rest.
+    pub last: bool,
+}
+
+/// A file of which nothing was read.
+pub fn open_file<F: Source>(
+    alloc: Global,
+    form: Form,
+    begin: Begin,
+    name: Text,
+    feed: F,
+) -> OpenFile<F>
+    ensures file { IsUnread form begin name feed result }
+    ensures can { CanRead F.faults result }
+{
+    OpenFile {
+        form,
+        begin,
+        name,
+        feed,
+        rest: Bytes::new(alloc),
+        room: LONGEST_IN_PARTS,
+        failed: false,
+    }
+}
+
+/// The next part of a file, of about so many bytes; what is left of it, where it has no more, or is in CSV, or has no
+/// line that ends within 67,108,865 bytes. At a read that fails the lines so far are given first.
+pub fn read_part<F: Source>(
+    alloc: Global,
+    file: &mut OpenFile<F>,
+    most: usize,
+) -> Result<Part, FeedRefusal>
+    requires can { CanRead F.faults file.old }
+    requires most { most ≤ longest_read }
+    ensures part { IfOk result (λ p. GivesPart F.left file.old p file.new) }
+    ensures can { OnOk result (CanRead F.faults file.new) }
+    ensures told { IsSome (F.left file.new.feed) → IsSome (F.left file.old.feed) }
+    ensures cause { IsErrOf result refusal.Failed → Rose 0 (F.faults file.new.feed) }
+{
+    if let Some(part) = read_until(alloc, file, most)? {
+        return Ok(part);
+    }
+    if let Some(part) = read_until(alloc, file, LONGEST_READ)? {
+        return Ok(part);
+    }
+    if file.failed {
+        return Err(FeedRefusal::Failed);
+    }
+    let work = rest_of(alloc, file)?;
+    Ok(Part { work, last: true })
+}
+
+/// Reads until so many bytes of a file have come, and gives the whole lines of them, or all where that is its end.
+fn read_until<F: Source>(
+    alloc: Global,
+    file: &mut OpenFile<F>,
+    wanted: usize,
+) -> Result<Option<Part>, FeedRefusal>
+    requires can { CanRead F.faults file.old }
+    requires wanted { wanted ≤ longest_read }
+    ensures some { IfOk result (λ found. IfSome found (λ p. GivesPart F.left file.old p file.new)) }
+    ensures none { IfOk result (λ found. found ≡ None → HasRead F.left file.old file.new) }
+    ensures full { IfOk result (λ found. found ≡ None → IsFull wanted file.new) }
+    ensures can { OnOk result (CanRead F.faults file.new) }
+    ensures told { IsSome (F.left file.new.feed) → IsSome (F.left file.old.feed) }
+    ensures cause { IsErrOf result refusal.Failed → Rose 0 (F.faults file.new.feed) }
+{
+    if read_ahead(alloc, file, wanted)? {
+        let work = rest_of(alloc, file)?;
+        return Ok(Some(Part { work, last: true }));
+    }
+    match cut_off(alloc, file)? {
+        Some(work) => Ok(Some(Part { work, last: false })),
+        None => Ok(None),
+    }
+}
+
+/// Reads until so many bytes of a file have come, and says whether it has no more. A first read that fails only ends
+/// that.
+fn read_ahead<F: Source>(
+    alloc: Global,
+    file: &mut OpenFile<F>,
+    wanted: usize,
+) -> Result<bool, FeedRefusal>
+    requires can { CanRead F.faults file.old }
+    requires wanted { wanted ≤ longest_read }
+    ensures read { OnOk result (HasRead F.left file.old file.new) }
+    ensures end { IfOk result (λ end. end ≡ true → IsAtEnd (F.left file.new.feed)) }
+    ensures full { IfOk result (λ end. end ≡ false → IsFull wanted file.new) }
+    ensures can { OnOk result (CanRead F.faults file.new) }
+    ensures told { IsSome (F.left file.new.feed) → IsSome (F.left file.old.feed) }
+    ensures cause { IsErrOf result refusal.Failed → Rose 0 (F.faults file.new.feed) }
+{
+    if file.failed {
+        return Err(FeedRefusal::Failed);
+    }
+    let mut buffer = zeros(alloc, CHUNK)?;
+    while file.rest.len() < wanted {
+        let room = CHUNK.min(wanted - file.rest.len());
+        let (part, _) = buffer.split_at_mut(room);
+        match read_more(&mut file.feed, part, &mut file.rest) {
+            Ok(0) => return Ok(true),
+            Ok(_) => {}
+            Err(FeedRefusal::OutOfMemory) => return Err(FeedRefusal::OutOfMemory),
+            Err(FeedRefusal::Failed) => {
+                file.failed = true;
+                return Ok(false);
+            }
+        }
+    }
+    Ok(false)
+}
+
+/// Cuts off the whole lines of the bytes that came, where the file is in JSON and there are any.
+fn cut_off<F: Source>(alloc: Global, file: &mut OpenFile<F>) -> Result<Option<Work>, AllocError>
+    ensures some { IfOk result (λ found. IfSome found (IsCutOff file.old file.new)) }
+    ensures none { IfOk result (λ found. found ≡ None → file.new ≡ file.old) }
+    ensures err { OnErr result (file.new ≡ file.old) }
+{
+    if file.form != Form::Json {
+        return Ok(None);
+    }
+    let Some(end) = line_end(file.rest.as_bytes()) else {
+        return Ok(None);
+    };
+    if end as u64 > file.room {
+        return Ok(None);
+    }
+    let name = file.name.again(alloc)?;
+    let (front, after) = file.rest.as_bytes().split_at(end);
+    let part = Bytes::copy_of(alloc, front)?;
+    let rest = Bytes::copy_of(alloc, after)?;
+    let begin = replace(&mut file.begin, Begin::After);
+    file.rest = rest;
+    file.room -= end as u64;
+    Ok(Some(Work::Ingest {
+        form: file.form,
+        begin,
+        name,
+        file: part,
+    }))
+}
+
+/// Where the last of the whole lines of these bytes ends, if there are any.
+fn line_end(b: &[u8]) -> Option<usize>
+    ensures within { IfSome result (λ n. (0 < n) × (n ≤ length b.now)) }
+    ensures line { IfSome result (λ n. EndsLine (take n b.now)) }
+{
+    let last = memrchr(b'\n', b)?;
+    Some(last + 1)
+}
+
+/// All bytes that came, as what is left of a file.
+fn rest_of<F: Source>(alloc: Global, file: &mut OpenFile<F>) -> Result<Work, AllocError>
+    ensures work { IfOk result (λ w. w ≡ work.Ingest file.old.form file.old.begin file.old.name file.old.rest) }
+    ensures rest { OnOk result (file.new.rest ≡ []) }
+    ensures feed { file.new.feed ≡ file.old.feed }
+    ensures failed { file.new.failed ≡ file.old.failed }
+{
+    let name = file.name.again(alloc)?;
+    let rest = replace(&mut file.rest, Bytes::new(alloc));
+    Ok(Work::Ingest {
+        form: file.form,
+        begin: file.begin,
+        name,
+        file: rest,
+    })
+}

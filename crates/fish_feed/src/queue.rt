@@ -1,0 +1,295 @@
+//! What a lane is still to be given: statements in order, with the file that is being read.
+
+ghost use Rattle.std.specs.Prelude.{◌≡◌, ◌++◌, ◌∷◌, ◌<◌, ◌≤◌, ℕ, List, Option, [], Bool, true, false, None};
+ghost use Rattle.std.specs.Prelude.{IfErr, IfOk, IfSome};
+ghost use Rattle.std.specs.Prelude.{IsSome, OnErr, OnOk, length, option_to_list};
+ghost use Rattle.fish_feed.specs.Parts.{longest_read};
+ghost use Rattle.fish_feed.specs.Queues.{AreFit, AreIdle, GoesDown, IsFit, IsGiven, IsQueue, LanesMayDo};
+ghost use Rattle.fish_feed.specs.Queues.{MayDo, MayDoAll, MayEnd};
+ghost use Rattle.fish_feed.specs.Queues.{both, left_of, left_of_all, works_of};
+ghost use Rattle.fish_feed.specs.Reading.{HasReadCause};
+ghost use Rattle.fish_feed.specs.Works.{AreDone, AreFirstOf, Pairs, Triples};
+ghost use Rattle.fish_lanes.specs.declared.work.Work.{Work as Does};
+ghost use Rattle.fish_outside.specs.Causes.{counted_on};
+ghost use Rattle.fish_outside.specs.Told.{Files, StillTold};
+ghost use Rattle.fish_script.specs.declared.script.Statement.{Statement};
+
+use crate::part::{OpenFile, Part, read_part};
+use fish_lanes::{Lane, Work};
+use fish_outside::{FeedRefusal, Host, Source};
+use std::alloc::Global;
+use std::collections::VecDeque;
+
+/// How many bytes of files a lane is given at once, or a line more: what memory a long file takes, and how often lanes
+/// wait for each other.
+const AT_ONCE: usize = 1_048_576;
+
+/// A statement that is to be given.
+#[derive(Drop)]
+pub enum Todo<F: Source> {
+    /// One without a file.
+    Work(Work),
+    /// A file to store, of which nothing was read.
+    File(OpenFile<F>),
+}
+
+/// What a lane is still to be given.
+#[derive(Drop)]
+pub struct Queue<F: Source> {
+    /// The file that is being read.
+    pub current: Option<OpenFile<F>>,
+    /// The statements after it.
+    pub todos: VecDeque<Todo<F>>,
+}
+
+/// Gives lanes that have no statement their next ones.
+pub fn give<H: Host>(
+    alloc: Global,
+    host: &mut H,
+    queues: &mut [Queue<H::Feed>],
+    lanes: &mut [Lane],
+) -> Result<(), FeedRefusal>
+where
+    H::Feed: Drop,
+    requires many { length lanes.old ≡ length queues.old }
+    requires empty { AreIdle lanes.old }
+    requires fit { (first : Bool) × AreFit H.Feed.faults first queues.old }
+    ensures given { OnOk result ((texts : List (List Statement)) (given : List (List Does))
+        → Triples (IsQueue (H.files host.old) H.Feed.left) texts given queues.old
+        → Triples (IsQueue (H.files host.new) H.Feed.left) texts (both given (works_of lanes.new)) queues.new) }
+    ensures failed { OnErr result ((texts : List (List Statement)) (given : List (List Does))
+        → Triples (IsQueue (H.files host.old) H.Feed.left) texts given queues.old
+        → Triples (MayEnd (H.files host.new) H.Feed.left) texts given queues.new) }
+    ensures lanes { Pairs IsGiven lanes.old lanes.new }
+    ensures fit { (first : Bool) → AreFit H.Feed.faults first queues.old
+        → AreFit H.Feed.faults first queues.new × LanesMayDo first lanes.new }
+    ensures less { OnOk result (GoesDown (left_of_all queues.old) (left_of_all queues.new)) }
+    ensures told { StillTold (H.files host.old) (H.files host.new) }
+    ensures cause { HasReadCause (H.faults host.old) (H.faults host.new) result }
+{
+    let Some((queue, other_queues)) = queues.split_first_mut() else {
+        return Ok(());
+    };
+    let Some((lane, other_lanes)) = lanes.split_first_mut() else {
+        unreachable!()
+    };
+    match give_one(alloc, host, queue, lane) {
+        Ok(()) => give(alloc, host, other_queues, other_lanes),
+        Err(refusal) => Err(refusal),
+    }
+}
+
+/// Gives a lane that has no statement its next ones.
+fn give_one<H: Host>(
+    alloc: Global,
+    host: &mut H,
+    queue: &mut Queue<H::Feed>,
+    lane: &mut Lane,
+) -> Result<(), FeedRefusal>
+where
+    H::Feed: Drop,
+    requires empty { lane.old.works ≡ [] }
+    requires fit { (first : Bool) × IsFit H.Feed.faults first queue.old }
+    ensures given { OnOk result ((ss : List Statement) (given : List Does)
+        → IsQueue (H.files host.old) H.Feed.left ss given queue.old
+        → IsQueue (H.files host.new) H.Feed.left ss (given ++ lane.new.works) queue.new) }
+    ensures failed { OnErr result ((ss : List Statement) (given : List Does)
+        → IsQueue (H.files host.old) H.Feed.left ss given queue.old
+        → MayEnd (H.files host.new) H.Feed.left ss given queue.new) }
+    ensures lane { IsGiven lane.old lane.new }
+    ensures fit { (first : Bool) → IsFit H.Feed.faults first queue.old
+        → IsFit H.Feed.faults first queue.new × MayDoAll first lane.new.works }
+    ensures less { OnOk result (GoesDown (left_of queue.old) (left_of queue.new)) }
+    ensures told { StillTold (H.files host.old) (H.files host.new) }
+    ensures cause { HasReadCause (H.faults host.old) (H.faults host.new) result }
+{
+    let mut most = AT_ONCE;
+    while most > 0 {
+        match next(alloc, host, queue, most) {
+            Ok(Some(work)) => {
+                most = most.saturating_sub(size_of(&work));
+                match lane.works.push(work) {
+                    Ok(()) => {}
+                    Err(_) => return Err(FeedRefusal::OutOfMemory),
+                }
+            }
+            Ok(None) => return Ok(()),
+            Err(refusal) => return Err(refusal),
+        }
+    }
+    Ok(())
+}
+
+/// How many bytes of a file a statement has.
+fn size_of(work: &Work) -> usize {
+    match work {
+        Work::Ingest { file, .. } => file.len(),
+        _ => 0,
+    }
+}
+
+/// The next statement, or the next part of a file.
+fn next<H: Host>(
+    alloc: Global,
+    host: &mut H,
+    queue: &mut Queue<H::Feed>,
+    most: usize,
+) -> Result<Option<Work>, FeedRefusal>
+where
+    H::Feed: Drop,
+    requires most { most ≤ longest_read }
+    requires fit { (first : Bool) × IsFit H.Feed.faults first queue.old }
+    ensures given { IfOk result (λ w. (ss : List Statement) (given : List Does)
+        → IsQueue (H.files host.old) H.Feed.left ss given queue.old
+        → IsQueue (H.files host.new) H.Feed.left ss (given ++ option_to_list w) queue.new) }
+    ensures failed { IfErr result (λ _. (ss : List Statement) (given : List Does)
+        → IsQueue (H.files host.old) H.Feed.left ss given queue.old
+        → MayEnd (H.files host.new) H.Feed.left ss given queue.new) }
+    ensures fit { (first : Bool) → IsFit H.Feed.faults first queue.old → IsFit H.Feed.faults first queue.new
+        × IfOk result (λ w. MayDoAll first (option_to_list w)) }
+    ensures some { IfOk result (λ w. IfSome w (λ _. left_of queue.new < left_of queue.old)) }
+    ensures none { IfOk result (λ w. w ≡ None → (left_of queue.old ≡ 0) × (left_of queue.new ≡ 0)) }
+    ensures told { StillTold (H.files host.old) (H.files host.new) }
+    ensures cause { HasReadCause (H.faults host.old) (H.faults host.new) result }
+{
+    if let Some(work) = open_next(queue) {
+        return Ok(Some(work));
+    }
+    if queue.current.is_none() {
+        return Ok(None);
+    }
+    Ok(Some(read_open(alloc, host, queue, most)?))
+}
+
+/// Takes the next statement, where no file is being read; of a file the reading begins.
+fn open_next<F: Source + Drop>(queue: &mut Queue<F>) -> Option<Work>
+    ensures queue { (told : Option Files) (ss : List Statement) (given : List Does)
+        → IsQueue told F.left ss given queue.old → IsQueue told F.left ss (given ++ option_to_list result) queue.new }
+    ensures fit { (first : Bool) → IsFit F.faults first queue.old
+        → IsFit F.faults first queue.new × MayDoAll first (option_to_list result) }
+    ensures some { IfSome result (λ _. left_of queue.new < left_of queue.old) }
+    ensures down { left_of queue.new ≤ left_of queue.old }
+    ensures none { result ≡ None → queue.new.current ≡ None
+        → (left_of queue.old ≡ 0) × (left_of queue.new ≡ 0) }
+{
+    if queue.current.is_some() {
+        return None;
+    }
+    match queue.todos.pop_front() {
+        None => None,
+        Some(Todo::Work(work)) => Some(work),
+        Some(Todo::File(file)) => {
+            queue.current = Some(file);
+            None
+        }
+    }
+}
+
+/// The next part of the file that is being read. Its feed goes back once all of it was read, or a read failed.
+fn read_open<H: Host>(
+    alloc: Global,
+    host: &mut H,
+    queue: &mut Queue<H::Feed>,
+    most: usize,
+) -> Result<Work, FeedRefusal>
+where
+    H::Feed: Drop,
+    requires current { IsSome queue.old.current }
+    requires most { most ≤ longest_read }
+    requires fit { (first : Bool) × IsFit H.Feed.faults first queue.old }
+    ensures given { IfOk result (λ w. (ss : List Statement) (given : List Does)
+        → IsQueue (H.files host.old) H.Feed.left ss given queue.old
+        → IsQueue (H.files host.new) H.Feed.left ss (given ++ w ∷ []) queue.new) }
+    ensures failed { IfErr result (λ _. (ss : List Statement) (given : List Does)
+        → IsQueue (H.files host.old) H.Feed.left ss given queue.old
+        → MayEnd (H.files host.new) H.Feed.left ss given queue.new) }
+    ensures fit { (first : Bool) → IsFit H.Feed.faults first queue.old → IsFit H.Feed.faults first queue.new }
+    ensures work { IfOk result (λ w. (first : Bool) → MayDo first w) }
+    ensures less { IfOk result (λ _. left_of queue.new < left_of queue.old) }
+    ensures told { StillTold (H.files host.old) (H.files host.new) }
+    ensures cause { HasReadCause (H.faults host.old) (H.faults host.new) result }
+{
+    let Some(mut file) = queue.current.take() else {
+        unreachable!()
+    };
+    match read_part(alloc, &mut file, most) {
+        Ok(Part { work, last: false }) => {
+            queue.current = Some(file);
+            Ok(work)
+        }
+        Ok(Part { work, last: true }) => {
+            give_back(host, file);
+            Ok(work)
+        }
+        Err(refusal) => {
+            give_back(host, file);
+            Err(refusal)
+        }
+    }
+}
+
+/// Gives a feed back.
+fn give_back<H: Host>(host: &mut H, file: OpenFile<H::Feed>)
+where
+    H::Feed: Drop,
+    ensures told { StillTold (H.files host.old) (H.files host.new) }
+    ensures feed { IsSome (H.files host.new) → IsSome (H.Feed.left file.feed) }
+    ensures faults { H.faults host.new ≡ counted_on (H.faults host.old) (H.Feed.faults file.feed) }
+{
+    let OpenFile {
+        name,
+        feed,
+        rest,
+        ..
+    } = file;
+    drop((name, rest));
+    host.done(feed);
+}
+
+/// Whether lanes have something to be given.
+pub fn has_more<F: Source>(queues: &[Queue<F>]) -> bool
+    ensures some { result ≡ true → 0 < left_of_all queues.now }
+    ensures zero { result ≡ false → left_of_all queues.now ≡ 0 }
+    ensures none { result ≡ false → (texts : List (List Statement)) (given : List (List Does)) (told : Option Files)
+        → Triples (IsQueue told F.left) texts given queues.now → Pairs (AreDone told) texts given }
+{
+    for queue in queues {
+        if queue.current.is_some() || queue.todos.len() > 0 {
+            return true;
+        }
+    }
+    false
+}
+
+/// Gives the feeds back of the files that are being read.
+pub fn close<H: Host>(host: &mut H, queues: &mut [Queue<H::Feed>])
+where
+    H::Feed: Drop,
+    ensures first { (texts : List (List Statement)) (given : List (List Does))
+        → Triples (MayEnd (H.files host.old) H.Feed.left) texts given queues.old
+        → Pairs (AreFirstOf (H.files host.new)) texts given }
+    ensures told { StillTold (H.files host.old) (H.files host.new) }
+    ensures later { H.faults host.old ≤ H.faults host.new }
+{
+    let Some((queue, others)) = queues.split_first_mut() else {
+        return;
+    };
+    close_one(host, queue);
+    close(host, others);
+}
+
+/// Gives the feed back of the file that is being read, if one is.
+fn close_one<H: Host>(host: &mut H, queue: &mut Queue<H::Feed>)
+where
+    H::Feed: Drop,
+    ensures first { (ss : List Statement) (given : List Does)
+        → MayEnd (H.files host.old) H.Feed.left ss given queue.old
+        → AreFirstOf (H.files host.new) ss given }
+    ensures told { StillTold (H.files host.old) (H.files host.new) }
+    ensures later { H.faults host.old ≤ H.faults host.new }
+{
+    match queue.current.take() {
+        Some(file) => give_back(host, file),
+        None => {}
+    }
+}
