@@ -107,7 +107,7 @@ where
     while most > 0 {
         match next(alloc, host, queue, most) {
             Ok(Some(work)) => {
-                most = most.saturating_sub(size_of(&work));
+                most = room_after(most, &work, queue.current.is_some());
                 match lane.works.push(work) {
                     Ok(()) => {}
                     Err(_) => return Err(FeedRefusal::OutOfMemory),
@@ -120,11 +120,16 @@ where
     Ok(())
 }
 
-/// How many bytes of a file a statement has.
-fn size_of(work: &Work) -> usize {
+/// How many bytes of files a lane may be given after a statement: none after a part, which is the last that it gets.
+fn room_after(most: usize, work: &Work, is_part: bool) -> usize
+    ensures { result ≤ most }
+{
+    if is_part {
+        return 0;
+    }
     match work {
-        Work::Ingest { file, .. } => file.len(),
-        _ => 0,
+        Work::Ingest { file, .. } => most.saturating_sub(file.len()),
+        _ => most,
     }
 }
 

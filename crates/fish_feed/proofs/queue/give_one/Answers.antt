@@ -51,7 +51,7 @@ loop-most-preserved g c =
     let less : left_of q < left_of c.loop-most.queue =
     subst (λ (z : Option Work). IfSome z (λ _. left_of q < left_of c.loop-most.queue)) is c.in-Ok-Some.ensures.some in
     let down = inv.down in
-    let sub = c.saturating_sub-most.ensures in
+    let sub = c.room_after-most.ensures in
     let most = inv.most in
     let cause = c.in-Ok-Some.ensures.cause.later in
     let later = inv.later in
