@@ -1,0 +1,11 @@
+pub mod Entries
+pub mod Filled
+pub mod Lines
+pub mod Making
+pub mod Meaning
+pub mod Naming
+pub mod OneBlock
+pub mod ShareFiles
+pub mod Shares
+pub mod Stored
+pub mod Telling

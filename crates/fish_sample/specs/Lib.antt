@@ -1,0 +1,4 @@
+pub mod Logs
+pub mod Printed
+pub mod Sample
+pub mod within
