@@ -2,3 +2,4 @@ pub mod FirstBytes
 pub mod Fates
 pub mod Laws
 pub mod Stores
+pub mod Samples

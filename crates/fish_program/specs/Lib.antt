@@ -4,4 +4,5 @@ pub mod Laws
 pub mod Limits
 pub mod Outcome
 pub mod Runs
+pub mod Sample
 pub mod Stores

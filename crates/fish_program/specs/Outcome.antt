@@ -12,6 +12,7 @@ use Rattle.fish_script.specs.declared.script.Block.{Block}
 use Rattle.fish_words.specs.Words as words
 use Rattle.fish_program.specs.Answer.{IsAnswer, answer_of}
 use Rattle.fish_program.specs.Runs.{HasScript, IsDamagedRun, IsStoppedRun, IsUnread, IsWholeRun}
+use Rattle.fish_program.specs.Sample.{EndsSample}
 use Rattle.fish_program.specs.Stores.{IsUnopened, shape_asked}
 use Rattle.fish_program.specs.declared.fault.Fault.{Fault}
 use Rattle.fish_program.specs.declared.fault.Fault.TheVariants as fault
@@ -103,13 +104,15 @@ EndsRun content images since moment disk disk' asked file told old new o =
 
 -- ---- all commands
 
--- how a command ends: a `select` doesn't touch the disk
+-- how a command ends: a `select` and a `sample` don't touch the disk
 abbrev pub Ends : {D : Type 0} → (D → Option (List ℕ)) → (D → List ℕ → Type 0) → (D → ℕ → List ℕ → Type 0)
     → (D → ℕ) → D → D → words.Asked → Option Files → Option (List ℕ) → Option (List ℕ) → Outcome → Type 0
 Ends content images since moment disk disk' (words.select def value form header file) told old new o =
     (disk' ≡ disk) × EndsSelect (answer_of def value form header file) file told old new o o.fault
 Ends content images since moment disk disk' (words.run store script pages bits) told old new o =
     EndsRun content images since moment disk disk' (shape_asked pages bits) script told old new o
+Ends content images since moment disk disk' (words.sample number) told old new o =
+    (disk' ≡ disk) × EndsSample number old new o o.fault
 
 -- the words are none, and this names why; or memory ran out before they were read
 abbrev pub IsNoCommand : List (List ℕ) → Fault → Type 0

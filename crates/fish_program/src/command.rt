@@ -8,6 +8,7 @@ ghost use Rattle.fish_program.specs.Outcome.{Ends, IsEnd, IsUsage, status_of};
 
 use crate::fault::Fault;
 use crate::outcome::Outcome;
+use crate::sample::answer_sample;
 use crate::script::answer_run;
 use crate::selection::answer_select;
 use fish_disk::Disk;
@@ -20,10 +21,10 @@ use std::thread::Threads;
 
 /// Runs the command that words are, over the files of a host and the disk of a store, and writes what it tells.
 ///
-/// The report of `select` is made whole before its first byte is written; what `run` tells is written as each block
-/// ends. The store is opened once the script was read: a command that is refused before, or is no `run`, doesn't
-/// touch the disk. Where the disk is told in the end, what `run` wrote is so of the log for which it stands then, and
-/// of what it held before.
+/// The report of `select`, and the summary of `sample`, are made whole before their first byte is written; what `run`
+/// tells is written as each block ends. The store is opened once the script was read: a command that is refused before,
+/// or is no `run`, doesn't touch the disk. Where the disk is told in the end, what `run` wrote is so of the log for
+/// which it stands then, and of what it held before.
 pub fn run<R: Threads + Sync, H: Host, D: Disk + Send, W: Sink>(
     rt: &R,
     alloc: Global,
@@ -94,5 +95,6 @@ fn answer<R: Threads + Sync, H: Host, D: Disk + Send, W: Sink, G: Gate + Sync>(
     match command {
         Command::Select(select) => answer_select(alloc, select, host, out),
         Command::Run(run) => answer_run(rt, alloc, run, host, disk, out, gate),
+        Command::Sample(sample) => answer_sample(rt, alloc, sample, out),
     }
 }

@@ -11,10 +11,10 @@ use Rattle.clap.specs.Walk.{arg_by_id, arg_by_long, reading_by, used}
 use Rattle.clap.specs.Simple.{Shape, filled, with_index}
 use Rattle.clap.specs.Faults.{use_fault}
 use Rattle.clap.specs.declared.parser.matches.ValueSource.TheVariants.{CommandLine}
-use Rattle.fish_words.specs.Matched.{bits_of, found_in, line_app, one, options_in, option_rule, options_of}
-use Rattle.fish_words.specs.Matched.{pages_of, plain_rule, values}
+use Rattle.fish_words.specs.within.Matched.{bits_of, found_in, line_app, one, options_in, option_rule, options_of}
+use Rattle.fish_words.specs.within.Matched.{pages_of, plain_rule, values}
 use Rattle.fish_words.specs.Options.{Bits, Form, Pages, Word, choice_of, layout_of, within}
-use Rattle.fish_words.specs.Reading.{with_option, with_word}
+use Rattle.fish_words.specs.within.Reading.{with_option, with_word}
 use Rattle.fish_words.specs.Sizes.{fewest_bits, most_bits, most_pages}
 use Rattle.fish_words.proofs.Names.{same_word}
 use Rattle.clap.specs.declared.error.kind.ErrorKind.TheVariants as kind

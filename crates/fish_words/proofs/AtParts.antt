@@ -10,8 +10,8 @@ use Rattle.clap.specs.Walk.{Held, is_pending, reacted, settled, walked}
 use Rattle.clap.specs.Faults.{settle_fault, turn_fault}
 use Rattle.fish_words.specs.Line.{is_mark}
 use Rattle.fish_words.specs.Options.{Word}
-use Rattle.fish_words.specs.Reading.{Found, are_placed, at_part, at_value, has_one_minus, read, read_option}
-use Rattle.fish_words.specs.Reading.{with_option, with_word, with_words}
+use Rattle.fish_words.specs.within.Reading.{Found, are_placed, at_part, at_value, has_one_minus, read, read_option}
+use Rattle.fish_words.specs.within.Reading.{with_option, with_word, with_words}
 use Rattle.fish_words.proofs.Names.{long_plain, plain_unmarked}
 use Rattle.clap.specs.declared.error.kind.ErrorKind.TheVariants as kind
 use Rattle.fish_words.proofs.Arguments.{shape, rules, plain_built, option_built, IsOption, IsUnknown}

@@ -10,9 +10,9 @@ use Rattle.clap.specs.Kinds.{Kinds}
 use Rattle.clap.specs.Faults.{settle_fault, turn_fault}
 use Rattle.clap.specs.declared.error.kind.ErrorKind.{ErrorKind}
 use Rattle.fish_words.specs.Line.{is_mark}
-use Rattle.fish_words.specs.Matched.{found_in, one}
+use Rattle.fish_words.specs.within.Matched.{found_in, one}
 use Rattle.fish_words.specs.Options.{Word, choice_of}
-use Rattle.fish_words.specs.Reading.{Found, are_placed, at_part, at_value, has_one_minus, read, with_option}
+use Rattle.fish_words.specs.within.Reading.{Found, are_placed, at_part, at_value, has_one_minus, read, with_option}
 use Rattle.fish_words.proofs.Names.{long_plain, plain_unmarked}
 use Rattle.clap.specs.declared.error.kind.ErrorKind.TheVariants as kind
 use Rattle.fish_words.proofs.Arguments.{shape, rules, plain_built, IsOption, IsUnknown, named}

@@ -7,7 +7,7 @@ use Rattle.std.specs.List.{cons_option, filter_map, flat_map, list_all}
 use Rattle.std.specs.Str.Parse.{starts_with_minus}
 use Rattle.fish_words.specs.Line.{Part, plain, apart, joined, choice_in, is_mark, is_part, marked, spelled, word_in}
 use Rattle.fish_words.specs.Options.{Choice, Word, choice_of, with_choice, with_choices}
-use Rattle.fish_words.specs.Reading.{Found, at_part, read, with_word, with_words}
+use Rattle.fish_words.specs.within.Reading.{Found, at_part, read, with_word, with_words}
 use Rattle.fish_words.specs.declared.options.Options.{Options}
 use Rattle.fish_words.proofs.Names.{option_begins, plain_unmarked}
 

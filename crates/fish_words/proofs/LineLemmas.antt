@@ -5,9 +5,9 @@ use Rattle.std.specs.Borrow.{Bor}
 use Rattle.std.specs.List.{list_all, slice_index_or}
 use Rattle.clap.specs.Words.{Row, all_of}
 use Rattle.fish_words.specs.Line.{is_mark}
-use Rattle.fish_words.specs.Matched.{only, values}
+use Rattle.fish_words.specs.within.Matched.{only, values}
 use Rattle.fish_words.specs.Options.{Word}
-use Rattle.fish_words.specs.Reading.{are_placed_after}
+use Rattle.fish_words.specs.within.Reading.{are_placed_after}
 
 -- some words may be behind `--` where none of them is one
 pub are_placed_after_some : (words : List Word) → 0 < length words

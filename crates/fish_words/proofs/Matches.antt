@@ -13,9 +13,9 @@ use Rattle.clap.specs.Faults.{given_default_fault, settle_fault, walk_fault}
 use Rattle.clap.specs.declared.error.Error.{Error}
 use Rattle.clap.specs.declared.error.kind.ErrorKind.{ErrorKind}
 use Rattle.clap.specs.declared.parser.matches.ArgMatches.{ArgMatches}
-use Rattle.fish_words.specs.Matched.{found_in, line_app}
+use Rattle.fish_words.specs.within.Matched.{found_in, line_app}
 use Rattle.fish_words.specs.Options.{Word}
-use Rattle.fish_words.specs.Reading.{Found, are_placed, at_part, at_value, nothing_found, read}
+use Rattle.fish_words.specs.within.Reading.{Found, are_placed, at_part, at_value, nothing_found, read}
 use Rattle.fish_words.proofs.Names.{kinds}
 use Rattle.clap.specs.declared.error.kind.ErrorKind.TheVariants as kind
 use Rattle.fish_words.proofs.Arguments.{shape, rules, plain_built, option_built, IsOption, named}

@@ -8,7 +8,7 @@ use Rattle.std.proofs.lemmas.Slice.Eq.{bytes_eq-Decides}
 use Rattle.clap.specs.Lexer.{long_of, long_of_rest}
 use Rattle.fish_words.specs.Line.{is_mark}
 use Rattle.fish_words.specs.Options.{Choice, Word, choice_of}
-use Rattle.fish_words.specs.Reading.{has_one_minus}
+use Rattle.fish_words.specs.within.Reading.{has_one_minus}
 
 -- what a test of a word says
 pub same_word : (a b : Word) → bytes_eq a b ≡ true → a ≡ b

@@ -6,12 +6,12 @@ use Rattle.fish_lang.specs.Outcome.{outcome}
 use Rattle.fish_lang.specs.declared.parse.LangRefusal.{LangRefusal}
 use Rattle.fish_lang.proofs.Outcomes.{outcome-is, outcome-only}
 use Rattle.fish_words.specs.Laws.{OneOutcome, OneReading, SomeOutcome}
-use Rattle.fish_words.specs.Lent.{request_lent}
+use Rattle.fish_words.specs.within.Lent.{request_lent}
 use Rattle.fish_words.specs.Options.{Word}
-use Rattle.fish_words.specs.Reading.{request_of}
+use Rattle.fish_words.specs.within.Reading.{request_of}
 use Rattle.fish_words.specs.Request.{IsRequest, Request}
 use Rattle.fish_words.specs.Request as request
-use Rattle.fish_words.specs.Words.{Asked, IsAsked, IsCommand, IsRefused, IsRefusedWords, run, with_definition}
+use Rattle.fish_words.specs.Words.{Asked, IsAsked, IsCommand, IsRefused, IsRefusedWords, run, sample, with_definition}
 use Rattle.fish_words.specs.declared.refusal.UsageCause.{UsageCause}
 use Rattle.fish_words.specs.declared.refusal.UsageCause.TheVariants as cause
 use Rattle.fish_words.specs.declared.refusal.WordsRefusal.{WordsRefusal}
@@ -36,6 +36,7 @@ asked_some (request.select def value file layout) = (
   record { due = outcome def; said = outcome-is def; is = refl },
 )
 asked_some (request.run store script pages bits) = (Ok (run store script pages bits), refl)
+asked_some (request.sample number) = (Ok (sample number), refl)
 
 -- and for one thing alone
 asked_one : (q : Request) (r s : Result Asked UsageCause) → IsAsked q r → IsAsked q s → r ≡ s
@@ -43,6 +44,7 @@ asked_one (request.select def value file layout) r s a b =
     let same : a.due ≡ b.due = sym (outcome-only def a.due a.said) ∙ outcome-only def b.due b.said in
     a.is ∙ ap (λ (due : Result Definition LangRefusal). with_definition due layout value file) same ∙ sym b.is
 asked_one (request.run store script pages bits) r s a b = a ∙ sym b
+asked_one (request.sample number) r s a b = a ∙ sym b
 
 -- words have an outcome, whatever is read in them
 some_by : (words : List Word) (o : Option Request) → request_of words ≡ o

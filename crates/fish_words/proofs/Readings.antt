@@ -1,13 +1,16 @@
 -- The words are a command with some parts exactly where these are read.
 use Rattle.std.proofs.Common.{◌≡◌, ℕ, List, [], ◌∷◌, Bool, true, false, refl, sym, ap, ◌∙◌, subst}
-use Rattle.std.specs.Prelude.{◌||◌, Option, Some, None, codes, is_some, option_and_then, unwrap_or, if◌then◌else◌}
+use Rattle.std.specs.Prelude.{◌||◌, Option, Some, None, codes, is_some, option_and_then, option_map, unwrap_or, if◌then◌else◌}
 use Rattle.std.specs.Str.{bytes_eq}
 use Rattle.std.specs.Str.Parse.{starts_with_minus}
 use Rattle.fish_words.specs.Line.{IsLine}
-use Rattle.fish_words.specs.Options.{Word, json_lines}
-use Rattle.fish_words.specs.Reading.{Found, at_part, nothing_found, read, request_of, run_in, run_of, select_in}
-use Rattle.fish_words.specs.Reading.{select_of}
-use Rattle.fish_words.specs.Request.{IsRequest, Request, run, select}
+use Rattle.fish_value.specs.Number.{int_of}
+use Rattle.fish_words.specs.Options.{Word, json_lines, within}
+use Rattle.fish_words.specs.within.Reading.{Found, at_part, nothing_found, read, request_of, run_in}
+use Rattle.fish_words.specs.within.Reading.{run_of, sample_in, sample_of, select_in}
+use Rattle.fish_words.specs.within.Reading.{select_of}
+use Rattle.fish_words.specs.Request.{IsRequest, Request, run, sample, select}
+use Rattle.fish_words.specs.Sizes.{most_records}
 use Rattle.fish_words.specs.declared.options.Layout.{Layout}
 use Rattle.fish_words.specs.declared.options.Options.{Options}
 use Rattle.fish_words.proofs.Complete.{line_read}
@@ -94,6 +97,37 @@ run_is store behind [] o q starts line e = absurd cc
 run_is store behind (a ∷ []) o q starts line e = run_by store a behind o q o.layout starts line refl e
 run_is store behind (a ∷ b ∷ more) o q starts line e = absurd cc
 
+-- one plain word that is a number within its bounds, and no option, are a `sample`
+sample_by : (behind : List Word) (a : Word) (o : Options) (q : Request) (layout : Option Layout) (pages bits number : Option ℕ)
+    → IsLine behind (a ∷ []) o → o.layout ≡ layout → o.pages ≡ pages → o.bits ≡ bits → within 0 most_records (int_of a) ≡ number
+    → (if is_some layout || (is_some pages || is_some bits) then None else option_map sample number) ≡ Some q
+    → IsRequest (codes "sample" ∷ behind) q
+sample_by behind a o q None None None (Some n) line no_layout no_pages no_bits is e =
+    let same : sample n ≡ q = cc in
+    subst (IsRequest (codes "sample" ∷ behind)) same (record {
+      behind = behind;
+      options = o;
+      word = a;
+      spells = refl;
+      line = line;
+      number_is = is;
+      no_layout = no_layout;
+      no_pages = no_pages;
+      no_bits = no_bits;
+    })
+sample_by behind a o q None None None None line no_layout no_pages no_bits is e = absurd cc
+sample_by behind a o q None None (Some n) number line no_layout no_pages no_bits is e = absurd cc
+sample_by behind a o q None (Some n) bits number line no_layout no_pages no_bits is e = absurd cc
+sample_by behind a o q (Some l) pages bits number line no_layout no_pages no_bits is e = absurd cc
+
+-- a line that is read as `sample` is one
+sample_is : (behind plain : List Word) (o : Options) (q : Request) → IsLine behind plain o → sample_of plain o ≡ Some q
+    → IsRequest (codes "sample" ∷ behind) q
+sample_is behind [] o q line e = absurd cc
+sample_is behind (a ∷ []) o q line e =
+    sample_by behind a o q o.layout o.pages o.bits (within 0 most_records (int_of a)) line refl refl refl refl e
+sample_is behind (a ∷ b ∷ more) o q line e = absurd cc
+
 -- the words behind `select`
 select_in_is : (behind : List Word) (q : Request) (r : Option Found) → read behind (at_part nothing_found) ≡ r
     → option_and_then (λ f. select_of f.plain f.options) r ≡ Some q → IsRequest (codes "select" ∷ behind) q
@@ -115,21 +149,30 @@ run_in_is : (behind : List Word) (q : Request) → run_in behind ≡ Some q → 
 run_in_is [] q e = absurd cc
 run_in_is (store ∷ behind) q e = run_behind_is store behind q _ _ refl refl e
 
+-- the words behind `sample`
+sample_in_is : (behind : List Word) (q : Request) (r : Option Found) → read behind (at_part nothing_found) ≡ r
+    → option_and_then (λ f. sample_of f.plain f.options) r ≡ Some q → IsRequest (codes "sample" ∷ behind) q
+sample_in_is behind q None reads e = absurd cc
+sample_in_is behind q (Some f) reads e = sample_is behind f.plain f.options q (line_is behind f reads) e
+
 -- words by the first of them
-verb_is : (verb : Word) (behind : List Word) (q : Request) (a b : Bool) → bytes_eq verb (codes "select") ≡ a
-    → bytes_eq verb (codes "run") ≡ b
-    → (if a then select_in behind else (if b then run_in behind else None)) ≡ Some q → IsRequest (verb ∷ behind) q
-verb_is verb behind q true b is_select is_run e =
+verb_is : (verb : Word) (behind : List Word) (q : Request) (a b c : Bool) → bytes_eq verb (codes "select") ≡ a
+    → bytes_eq verb (codes "run") ≡ b → bytes_eq verb (codes "sample") ≡ c
+    → (if a then select_in behind else (if b then run_in behind else (if c then sample_in behind else None))) ≡ Some q
+    → IsRequest (verb ∷ behind) q
+verb_is verb behind q true b c is_select is_run is_sample e =
     subst (λ (v : Word). IsRequest (v ∷ behind) q) (sym (same_word verb (codes "select") is_select))
     (select_in_is behind q _ refl e)
-verb_is verb behind q false true is_select is_run e =
+verb_is verb behind q false true c is_select is_run is_sample e =
     subst (λ (v : Word). IsRequest (v ∷ behind) q) (sym (same_word verb (codes "run") is_run)) (run_in_is behind q e)
-verb_is verb behind q false false is_select is_run e = absurd cc
+verb_is verb behind q false false true is_select is_run is_sample e =
+    subst (λ (v : Word). IsRequest (v ∷ behind) q) (sym (same_word verb (codes "sample") is_sample)) (sample_in_is behind q _ refl e)
+verb_is verb behind q false false false is_select is_run is_sample e = absurd cc
 
 -- the parts that are read are those of the command
 pub request_is : (words : List Word) (q : Request) → request_of words ≡ Some q → IsRequest words q
 request_is [] q e = absurd cc
-request_is (verb ∷ behind) q e = verb_is verb behind q _ _ refl refl e
+request_is (verb ∷ behind) q e = verb_is verb behind q _ _ _ refl refl refl e
 
 -- ---- a command is read
 
@@ -141,3 +184,6 @@ request_reads words (select def value file layout) h =
 request_reads words (run store script pages bits) h =
     let reads = line_reads h.behind (script ∷ []) h.options h.line in
     rw (h.spells, h.plain, reads, h.no_layout, h.pages_are, h.bits_are) refl
+request_reads words (sample number) h =
+    let reads = line_reads h.behind (h.word ∷ []) h.options h.line in
+    rw (h.spells, reads, h.no_layout, h.no_pages, h.no_bits, h.number_is) refl

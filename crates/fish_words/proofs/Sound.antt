@@ -12,8 +12,8 @@ use Rattle.std.specs.List.{position_or_len}
 use Rattle.clap.specs.Lexer.{has_byte, long_of, name_and_value}
 use Rattle.fish_words.specs.Line.{Part, plain, apart, joined, choice_in, is_mark, is_part, marked, spelled, word_in}
 use Rattle.fish_words.specs.Options.{Choice, Word, choice_of, with_choice, with_choices}
-use Rattle.fish_words.specs.Reading.{Found, Place, at_part, at_value, read, read_option, with_behind}
-use Rattle.fish_words.specs.Reading.{with_word, with_words}
+use Rattle.fish_words.specs.within.Reading.{Found, Place, at_part, at_value, read, read_option, with_behind}
+use Rattle.fish_words.specs.within.Reading.{with_word, with_words}
 use Rattle.fish_words.specs.declared.options.Options.{Options}
 use Rattle.fish_words.proofs.Names.{kinds, long_plain, same_word}
 

@@ -6,9 +6,9 @@ use Rattle.clap.specs.Words.{Row}
 use Rattle.clap.specs.Walk.{more_values, with_values}
 use Rattle.clap.specs.declared.builder.value_parser.Reading.{Reading}
 use Rattle.clap.specs.declared.parser.matches.ValueSource.{ValueSource}
-use Rattle.fish_words.specs.Matched.{one, options_of, values}
+use Rattle.fish_words.specs.within.Matched.{one, options_of, values}
 use Rattle.fish_words.specs.Options.{Bits, Choice, Form, Pages, Word, with_choice}
-use Rattle.fish_words.specs.Reading.{Found, with_word}
+use Rattle.fish_words.specs.within.Reading.{Found, with_word}
 use Rattle.fish_words.specs.declared.options.Layout.{Layout}
 use Rattle.fish_words.specs.declared.options.Options.{Options}
 use Rattle.fish_words.proofs.Names.{same_word}

@@ -7,9 +7,9 @@ use Rattle.clap.specs.Walk.{Held, Waiting, Walk, idle, option, positional, settl
 use Rattle.clap.specs.Kinds.{Kinds, or_else}
 use Rattle.clap.specs.Faults.{settle_fault, turn_fault, walk_fault}
 use Rattle.clap.specs.declared.error.kind.ErrorKind.{ErrorKind}
-use Rattle.fish_words.specs.Matched.{found_in}
+use Rattle.fish_words.specs.within.Matched.{found_in}
 use Rattle.fish_words.specs.Options.{Word}
-use Rattle.fish_words.specs.Reading.{Found, Place, are_placed, at_part, at_value, read, with_word}
+use Rattle.fish_words.specs.within.Reading.{Found, Place, are_placed, at_part, at_value, read, with_word}
 use Rattle.fish_words.proofs.Arguments.{shape, rules, IsOption, word_found}
 
 -- ---- the walk

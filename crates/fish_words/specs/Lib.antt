@@ -1,9 +1,7 @@
 pub mod Laws
-pub mod Lent
 pub mod Line
-pub mod Matched
 pub mod Options
-pub mod Reading
 pub mod Request
 pub mod Sizes
 pub mod Words
+pub mod within

@@ -1,4 +1,4 @@
--- The sizes that a store may be given.
+-- The sizes that a store may be given, and that of a sample.
 use Rattle.std.specs.Prelude.{ℕ, ◌≤◌, Option}
 use Rattle.std.specs.Option.{ForSome}
 
@@ -13,6 +13,10 @@ fewest_bits = 4
 -- the most bits
 abbrev pub most_bits : ℕ
 most_bits = 16
+
+-- the most records of a sample
+abbrev pub most_records : ℕ
+most_records = 60000
 
 -- a number of pages is within its bounds, where one is given
 abbrev pub ArePages : Option ℕ → Type 0

@@ -21,11 +21,13 @@ use Rattle.fish_words.specs.declared.refusal.WordsRefusal.TheVariants as refusal
 pub data Asked : Type 0 where
   select : (def : Definition) (value : Value) (form : Form) (header : Bool) (file : Word) → Asked
   run : (store script : Word) (pages bits : Option ℕ) → Asked
+  sample : (number : ℕ) → Asked
 
 -- what a command that was read asks for
 abbrev pub asked_of : Command → Asked
 asked_of (command.Select s) = select (definition_of s.def) s.value s.form s.header s.file
 asked_of (command.Run r) = run r.store r.script r.pages r.bits
+asked_of (command.Sample s) = sample s.number
 
 -- a definition and a file, with a value where there is one
 abbrev pub with_value : Definition → Layout → Word → Option Value → Result Asked UsageCause
@@ -47,6 +49,7 @@ pub record IsSelected (def value file : Word) (layout : Layout) (r : Result Aske
 abbrev pub IsAsked : request.Request → Result Asked UsageCause → Type 0
 IsAsked (request.select def value file layout) r = IsSelected def value file layout r
 IsAsked (request.run store script pages bits) r = r ≡ Ok (run store script pages bits)
+IsAsked (request.sample number) r = r ≡ Ok (sample number)
 
 -- words on the grammar are this command, or refused with this cause
 pub record IsRead (words : List Word) (r : Result Asked UsageCause) : Type 0 where

@@ -35,6 +35,13 @@ pub struct Run {
     pub ghost bits_within: { AreBits bits },
 }
 
+/// `sample N`: a store of so many records, and what it has.
+#[derive(Clone, Copy, Debug)]
+pub struct Sample {
+    /// How many records: 0 to 60,000.
+    pub number: u16,
+}
+
 /// What a command asks for.
 #[derive(Debug, Drop)]
 pub enum Command {
@@ -42,4 +49,6 @@ pub enum Command {
     Select(Select),
     /// A script over a store.
     Run(Run),
+    /// A store of records that are made from their numbers.
+    Sample(Sample),
 }

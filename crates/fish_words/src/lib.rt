@@ -11,7 +11,7 @@ mod refusal;
 mod request;
 mod words;
 
-pub use command::{Command, Run, Select};
+pub use command::{Command, Run, Sample, Select};
 pub use law::law_one_outcome;
 pub use refusal::{UsageCause, WordsRefusal};
 pub use words::read_words;

@@ -8,8 +8,8 @@ ghost use Rattle.std.specs.List.{list_all};
 ghost use Rattle.std.specs.Str.Parse.{starts_with_minus};
 ghost use Rattle.clap.specs.Words.{all_of, app_of, found_of, rows_of, rule_of};
 ghost use Rattle.fish_words.specs.Line.{is_mark};
-ghost use Rattle.fish_words.specs.Matched.{found_in, line_app, only, option_rule, values};
-ghost use Rattle.fish_words.specs.Reading.{are_placed, are_placed_after, at_part, has_one_minus, nothing_found, read};
+ghost use Rattle.fish_words.specs.within.Matched.{found_in, line_app, only, option_rule, values};
+ghost use Rattle.fish_words.specs.within.Reading.{are_placed, are_placed_after, at_part, has_one_minus, nothing_found, read};
 
 use clap::error::ErrorKind;
 use clap::{Arg, ArgAction, ArgMatches, Command};

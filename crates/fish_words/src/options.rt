@@ -3,7 +3,7 @@
 ghost use Rattle.std.specs.Prelude.{◌≡◌, ◌≤◌, IfSome};
 ghost use Rattle.clap.specs.Words.{found_of, rows_of};
 ghost use Rattle.fish_value.specs.Number.{int_of};
-ghost use Rattle.fish_words.specs.Matched.{options_in};
+ghost use Rattle.fish_words.specs.within.Matched.{options_in};
 ghost use Rattle.fish_words.specs.Options.{json_lines, layout_of, within};
 ghost use Rattle.fish_words.specs.Sizes.{AreBits, ArePages};
 
@@ -19,6 +19,9 @@ const MIN_BITS: u16 = 4;
 
 /// The most bits that `--bits` takes.
 const MAX_BITS: u16 = 16;
+
+/// The most records that `sample` makes.
+pub(crate) const MAX_RECORDS: u16 = 60_000;
 
 /// How the records of a file are laid out.
 #[derive(Clone, Copy)]
@@ -98,7 +101,7 @@ fn layout_of(value: &[u8]) -> Option<Layout>
 }
 
 /// The number that a text stands for, within bounds.
-fn number_within(low: u16, high: u16, value: &[u8]) -> Option<u16>
+pub(crate) fn number_within(low: u16, high: u16, value: &[u8]) -> Option<u16>
     ensures number { result ≡ within low high (int_of value.now) }
     ensures bounds { IfSome result (λ n. (low ≤ n) × (n ≤ high)) }
 {

@@ -2,12 +2,12 @@
 
 ghost use Rattle.std.specs.Prelude.{◌≡◌, IfOk, IfSome, option_and_then, option_map};
 ghost use Rattle.clap.specs.Words.{found_of, rows_of};
-ghost use Rattle.fish_words.specs.Lent.{IsSized, request_lent};
-ghost use Rattle.fish_words.specs.Matched.{found_in};
-ghost use Rattle.fish_words.specs.Reading.{request_of, run_in, run_of, select_in, select_of};
+ghost use Rattle.fish_words.specs.within.Lent.{IsSized, request_lent};
+ghost use Rattle.fish_words.specs.within.Matched.{found_in};
+ghost use Rattle.fish_words.specs.within.Reading.{request_of, run_in, run_of, sample_in, sample_of, select_in, select_of};
 
 use crate::line::{has_minus, line_of, values_of};
-use crate::options::{Layout, options_in};
+use crate::options::{Layout, MAX_RECORDS, number_within, options_in};
 use clap::ArgMatches;
 use fish_value::Text;
 use std::alloc::{AllocError, Global};
@@ -27,6 +27,9 @@ pub(crate) enum Lent<'a> {
         pages: Option<u16>,
         bits: Option<u8>,
     },
+    Sample {
+        number: u16,
+    },
 }
 
 /// The parts of the command that words are.
@@ -43,6 +46,7 @@ pub(crate) fn request_of<'a>(
     match verb.as_str() {
         "select" => select_in(alloc, behind),
         "run" => run_in(alloc, behind),
+        "sample" => sample_in(alloc, behind),
         _ => Ok(None),
     }
 }
@@ -62,7 +66,8 @@ fn select_in<'a>(alloc: Global, behind: &'a [Text]) -> Result<Option<Lent<'a>>, 
 
 /// A line as the parts of `select`.
 fn select_of<'a>(line: &ArgMatches<'a>) -> Option<Lent<'a>>
-    ensures parts { option_map request_lent result ≡ option_and_then (λ f. select_of f.plain f.options) (found_in (rows_of (found_of line.now))) }
+    ensures parts { option_map request_lent result ≡ option_and_then (λ f. select_of f.plain f.options)
+        (found_in (rows_of (found_of line.now))) }
     ensures sized { IfSome result IsSized }
 {
     let options = options_in(line)?;
@@ -100,7 +105,8 @@ fn run_in<'a>(alloc: Global, behind: &'a [Text]) -> Result<Option<Lent<'a>>, All
 
 /// A line as the parts of `run`, behind the store.
 fn run_of<'a>(store: &'a Text, line: &ArgMatches<'a>) -> Option<Lent<'a>>
-    ensures parts { option_map request_lent result ≡ option_and_then (λ f. run_of store.now f.plain f.options) (found_in (rows_of (found_of line.now))) }
+    ensures parts { option_map request_lent result ≡ option_and_then (λ f. run_of store.now f.plain f.options)
+        (found_in (rows_of (found_of line.now))) }
     ensures sized { IfSome result IsSized }
 {
     let options = options_in(line)?;
@@ -111,6 +117,36 @@ fn run_of<'a>(store: &'a Text, line: &ArgMatches<'a>) -> Option<Lent<'a>>
             pages: options.pages,
             bits: options.bits,
         }),
+        _ => None,
+    }
+}
+
+/// The parts of `sample` that the words behind it are.
+fn sample_in<'a>(alloc: Global, behind: &'a [Text]) -> Result<Option<Lent<'a>>, AllocError>
+    ensures parts { IfOk result (λ request. option_map request_lent request ≡ sample_in behind.now) }
+    ensures sized { IfOk result (λ request. IfSome request IsSized) }
+{
+    let Some(line) = line_of(alloc, behind)? else {
+        return Ok(None);
+    };
+    let request = sample_of(&line);
+    drop(line);
+    Ok(request)
+}
+
+/// A line as the parts of `sample`.
+fn sample_of<'a>(line: &ArgMatches<'a>) -> Option<Lent<'a>>
+    ensures parts { option_map request_lent result ≡ option_and_then (λ f. sample_of f.plain f.options)
+        (found_in (rows_of (found_of line.now))) }
+    ensures sized { IfSome result IsSized }
+{
+    let options = options_in(line)?;
+    match values_of(line, "words") {
+        Some([number])
+            if options.layout.is_none() && options.pages.is_none() && options.bits.is_none() => {
+            let number = number_within(0, MAX_RECORDS, number.as_bytes())?;
+            Some(Lent::Sample { number })
+        }
         _ => None,
     }
 }

@@ -4,7 +4,7 @@ ghost use Rattle.std.specs.Prelude.{◌≡◌, Ok, Err, IfOk, IfErr};
 ghost use Rattle.fish_words.specs.Words.{IsCommand, IsRefused, IsRefusedWords, IsSelected, asked_of, run};
 ghost use Rattle.fish_words.specs.Sizes.{AreBits, ArePages};
 
-use crate::command::{Command, Run, Select};
+use crate::command::{Command, Run, Sample, Select};
 use crate::options::Layout;
 use crate::refusal::{UsageCause, WordsRefusal};
 use crate::request::{Lent, request_of};
@@ -12,7 +12,8 @@ use fish_lang::parse_def;
 use fish_value::{Text, read_value};
 use std::alloc::{AllocError, Global};
 
-/// Reads a command: `select` or `run`, with its words and its options. The words are those behind the program's name.
+/// Reads a command: `select`, `run` or `sample`, with its words and its options. The words are those behind the
+/// program's name.
 pub fn read_words(alloc: Global, words: &[Text]) -> Result<Command, WordsRefusal>
     ensures ok { IfOk result (λ command. IsCommand words.now (Ok (asked_of command))) }
     ensures refused { IfErr result (IsRefusedWords words.now) }
@@ -34,6 +35,7 @@ pub fn read_words(alloc: Global, words: &[Text]) -> Result<Command, WordsRefusal
                 bits,
             },
         ) => read_run(alloc, store, script, pages, bits),
+        Some(Lent::Sample { number }) => Ok(Command::Sample(Sample { number })),
         None => Err(WordsRefusal::Usage(UsageCause::Words)),
     }
 }

@@ -15,4 +15,6 @@ mod outside;
 #[cfg(test)]
 mod rolls;
 #[cfg(test)]
+mod samples;
+#[cfg(test)]
 mod stores;

@@ -1,6 +1,6 @@
 -- The words so far are placed, where those to come are.
 use Rattle.std.proofs.Common.{◌≡◌, length}
-use Rattle.fish_words.specs.Reading.{are_placed}
+use Rattle.fish_words.specs.within.Reading.{are_placed}
 use Rattle.fish_words.proofs.line.are_placed.Given as goal
 
 abbrev pub invariant-loop-rest : goal.invariant-loop-rest

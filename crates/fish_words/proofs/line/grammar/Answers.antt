@@ -2,7 +2,7 @@
 use Rattle.std.proofs.Common.{rules, ap₂, ◌≡◌, ◌∙◌}
 use Rattle.std.proofs.lemmas.Result.{IfOk-weaker}
 use Rattle.clap.specs.Words.{app_of, rule_of, with_rule}
-use Rattle.fish_words.specs.Matched.{bare_app, plain_rule}
+use Rattle.fish_words.specs.within.Matched.{bare_app, plain_rule}
 use Rattle.fish_words.proofs.line.grammar.Goals as goal
 
 pub returns : goal.returns

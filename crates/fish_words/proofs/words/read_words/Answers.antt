@@ -1,5 +1,5 @@
 -- What the parts ask for, the words do; and the sizes among them are within their bounds.
-use Rattle.std.proofs.Common.{ap, ◌∙◌, rules}
+use Rattle.std.proofs.Common.{ap, refl, ◌∙◌, rules}
 use Rattle.std.specs.Prelude.{Some, Ok}
 use Rattle.std.proofs.lemmas.Result.{IfErr-weaker, IfOk-weaker}
 use Rattle.fish_words.specs.Words.{asked_of}
@@ -29,3 +29,9 @@ returns-in-Some-Run-clause-ok c =
 
 pub returns-in-None-clause-refused : goal.returns-in-None-clause-refused
 returns-in-None-clause-refused c = IsCommand-none _ (search rules)
+
+pub returns-in-Some-Sample-clause-ok : goal.returns-in-Some-Sample-clause-ok
+returns-in-Some-Sample-clause-ok c =
+    let lent = request_of-lent c.args.words.now c.in_ok-def.field-0 _ c.in_ok-def.ensures.parts
+    (c.in-Some-Sample.is ∙ ap Some c.in-Some-Sample.field-0-is) in
+    IsCommand-read _ _ _ lent refl

@@ -6,9 +6,11 @@ use Rattle.std.specs.List.{list_all}
 use Rattle.std.specs.Str.{bytes_eq}
 use Rattle.std.specs.Str.Parse.{starts_with_minus}
 use Rattle.clap.specs.Lexer.{long_of}
+use Rattle.fish_value.specs.Number.{int_of}
 use Rattle.fish_words.specs.Line.{is_mark}
-use Rattle.fish_words.specs.Options.{Word, choice_of, json_lines, no_options, with_choice}
-use Rattle.fish_words.specs.Request.{Request, run, select}
+use Rattle.fish_words.specs.Options.{Word, choice_of, json_lines, no_options, with_choice, within}
+use Rattle.fish_words.specs.Request.{Request, run, sample, select}
+use Rattle.fish_words.specs.Sizes.{most_records}
 use Rattle.fish_words.specs.declared.options.Options.{Options}
 
 -- the plain words and the options so far
@@ -74,6 +76,12 @@ abbrev pub run_of : Word → List Word → Options → Option Request
 run_of store (script ∷ []) o = if is_some o.layout then None else Some (run store script o.pages o.bits)
 run_of store _ o = None
 
+-- a line as the parts of `sample`
+abbrev pub sample_of : List Word → Options → Option Request
+sample_of (word ∷ []) o = if is_some o.layout || (is_some o.pages || is_some o.bits) then None else
+    option_map sample (within 0 most_records (int_of word))
+sample_of _ o = None
+
 -- the words behind `select`
 abbrev pub select_in : List Word → Option Request
 select_in behind = option_and_then (λ f. select_of f.plain f.options) (read behind (at_part nothing_found))
@@ -84,11 +92,16 @@ run_in [] = None
 run_in (store ∷ behind) = if starts_with_minus store then None else
     option_and_then (λ f. run_of store f.plain f.options) (read behind (at_part nothing_found))
 
+-- the words behind `sample`
+abbrev pub sample_in : List Word → Option Request
+sample_in behind = option_and_then (λ f. sample_of f.plain f.options) (read behind (at_part nothing_found))
+
 -- the parts of a command
 abbrev pub request_of : List Word → Option Request
 request_of [] = None
 request_of (verb ∷ behind) = if bytes_eq verb (codes "select") then select_in behind else
-    (if bytes_eq verb (codes "run") then run_in behind else None)
+    (if bytes_eq verb (codes "run") then run_in behind else
+    (if bytes_eq verb (codes "sample") then sample_in behind else None))
 
 -- the word begins with one `-` and no second
 abbrev pub has_one_minus : Word → Bool

@@ -4,7 +4,7 @@ use Rattle.fish_value.specs.Number.{int_of}
 use Rattle.clap.specs.Words.{App, Row, Rule, all_of, new_app, new_rule, with_rule}
 use Rattle.clap.specs.declared.builder.action.ArgAction.TheVariants.{Append}
 use Rattle.fish_words.specs.Options.{Word, layout_of, within}
-use Rattle.fish_words.specs.Reading.{Found}
+use Rattle.fish_words.specs.within.Reading.{Found}
 use Rattle.fish_words.specs.Sizes.{fewest_bits, most_bits, most_pages}
 use Rattle.fish_words.specs.declared.options.Layout.{Layout}
 use Rattle.fish_words.specs.declared.options.Options.{Options}
