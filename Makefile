@@ -9,7 +9,7 @@ CRATES := $(shell sed -n 's/^\(fish[a-z_]*\).*:.*/\1/p' crates.txt)
 FILES = $(shell find $(1) -name out -prune -o \( -path '*/src/*' -o -path '*/specs/*' -o -path '*/proofs/*' \) -type f -print)
 SOURCES := crates.txt $(call FILES,crates/fish*)
 
-.PHONY: demo build test try hostile soak edits gate install bench bench_run bench_log bench_ingest bench_registrations bench_scans bench_peers bench_checkpoints bench_older clean
+.PHONY: demo build test try hostile faults rolls soak edits gate install bench bench_run bench_log bench_ingest bench_registrations bench_scans bench_peers bench_checkpoints bench_older clean
 
 # Runs both commands of the program on the examples, built with no proof. With FILE, DEF and VALUE it is a `select` on a file of one's
 # own (and FORM=csv), with SCRIPT a `run` of a script of one's own.
@@ -36,6 +36,14 @@ test:
 # Runs the program on files that are none, long files, closed outputs, full disks, little memory and damaged stores.
 hostile: build
 	tools/hostile
+
+# Has each call of a run fail in turn, cuts stores, and tries limits: tools/hostility/faults.py is the table.
+faults: build
+	tools/faults
+
+# Fills TABLES tables of one page from sixteen lanes, and compares each scan with a plain filter.
+rolls: build
+	tools/rolls $(TABLES)
 
 # Runs random scripts of four lanes with kills, for SECONDS and from SEED, and compares each scan with a plain filter.
 soak: build
