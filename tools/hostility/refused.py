@@ -82,14 +82,22 @@ def store_before(case):
 
 def ran(room, command, call, **more):
     """What a run of which a call may fail answers, and whether one failed."""
-    words = command
     if isinstance(command, str):
         write(room, "script", command)
-        words = ["run", "store", "script", *SHAPE]
+        command = ["run", "store", "script", *SHAPE]
+    return run(room, command, env=between(room, call, **more)), has_failed(room)
+
+
+def between(room, call, **more):
+    """The environment of a run of which a call is to fail."""
     write(room, "count", bytes(8 * (len(COUNTED) + 1)))
     named = {"FISH_CALL": call, "FISH_COUNT": room / "count", "FISH_TRACE": room / "trace", "LD_PRELOAD": SHIM, **more}
-    answer = run(room, words, env={**os.environ, **{name: str(it) for name, it in named.items()}})
-    return answer, any((room / "count").read_bytes()[-8:])
+    return {**os.environ, **{name: str(it) for name, it in named.items()}}
+
+
+def has_failed(room):
+    """Whether a call of the run failed."""
+    return any((room / "count").read_bytes()[-8:])
 
 
 # What a crash leaves
@@ -207,13 +215,18 @@ def one(case, before, kind, number):
     return failed, answer, right, len(stores)
 
 
-def sweep(case, kind, each=1):
-    """The runs of a case with each call of a kind failing, or each so many calls one, up to the first in which none does: each, and what
-    `one` says of it."""
-    before = store_before(case)
+def up_to_the_first_without(one_of_them, each=1):
+    """What a run with each call failing gives, or each so many calls one, up to the first in which none does."""
     for first in itertools.count(1, AT_ONCE * each):
         numbers = range(first, first + AT_ONCE * each, each)
-        for number, (failed, *rest) in zip(numbers, in_parallel(lambda at: one(case, before, kind, at), numbers)):
-            yield f"{kind} {number}", *rest
+        for number, (failed, *rest) in zip(numbers, in_parallel(one_of_them, numbers)):
+            yield number, *rest
             if not failed:
                 return
+
+
+def sweep(case, kind, each=1):
+    """The runs of a case with each call of a kind failing: each, and what `one` says of it."""
+    before = store_before(case)
+    for number, *rest in up_to_the_first_without(lambda at: one(case, before, kind, at), each):
+        yield f"{kind} {number}", *rest
