@@ -81,7 +81,7 @@ CALLS = {  # which call of a run fails, one after the other
     "memory": "an allocation is refused",
     "input": "a file isn't opened or read",
     "output": "a write of the output fails",
-    "disk": "a call of the store fails, or a crash comes with it",
+    "disk": "a call of the store fails",
     "short": "a read or a write moves one byte",
     "signal": "a call is interrupted",
 }

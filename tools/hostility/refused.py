@@ -2,8 +2,7 @@
 
 The first run of a case has its first call of a kind fail, the next one its second, and so on up to the first run in which none fails.
 Each ends with the status of that kind, wrote a first part of the text, and left a first part of the log, with all that was told as
-committed. A call of the store that fails is also the moment of a crash: what a disk may have kept by then of its last writes is opened,
-too.
+committed. A run's end is also the moment of a crash: what a disk may have kept by then of its last writes is opened, too.
 """
 import dataclasses
 import itertools
@@ -113,24 +112,23 @@ def traced(room):
 
 
 def put(store, place, piece):
-    return store[:place] + piece + store[place + len(piece) :]
+    store[place : place + len(piece)] = piece
 
 
-def crashed(store, calls, pick):
-    """What a crash may leave of the store: all up to the last sync, and of each write after it nothing, its first half, all of it, or
-    foreign bytes, as two bits of the pick say, the lowest for the first. A write past an end that was lost leaves nothing."""
-    left, now, rest = store, store, pick
-    for call in calls:
-        if call is None:
-            left, rest = now, pick
-            continue
-        place, piece = call
-        now = put(now, place, piece)
-        parts = [b"", piece[: len(piece) // 2], piece, FOREIGN * len(piece)]
-        if place <= len(left):
-            left = put(left, place, parts[rest % 4])
-        rest //= 4
-    return left
+def crashed(store, calls):
+    """What a crash may leave of the store, for each pick: all up to the last sync, and of each write after it nothing, its first half, all
+    of it, or foreign bytes, as two bits of the pick say, the lowest for the first. A write past an end that was lost leaves nothing."""
+    synced, first = bytearray(store), max((at for at, call in enumerate(calls, 1) if call is None), default=0)
+    for place, piece in filter(None, calls[:first]):
+        put(synced, place, piece)
+    for pick in PICKS:
+        left = synced[:]
+        for place, piece in calls[first:]:
+            parts = [b"", piece[: len(piece) // 2], piece, FOREIGN * len(piece)]
+            if place <= len(left):
+                put(left, place, parts[pick % 4])
+            pick //= 4
+        yield bytes(left)
 
 
 # What a store has
@@ -208,8 +206,7 @@ def one(case, before, kind, number):
     answer, failed = ran(room, case.command, f"{kind} {number}")
     right, stores = is_answer(case, kind, answer, failed), set()
     if isinstance(case.command, str):
-        calls = list(traced(room))
-        stores = {store_of(room), *(crashed(before or b"", calls, pick) for pick in PICKS if kind == "disk")}
+        stores = {store_of(room), *crashed(before or b"", list(traced(room)))}
         right = right and all(is_kept(case, store, answer[1]) for store in stores)
     shutil.rmtree(room)
     return failed, answer, right, len(stores)
