@@ -33,6 +33,8 @@ pub fn run<R: Threads + Sync, H: Host, D: Disk + Send, W: Sink>(
     disk: &mut D,
     out: &mut W,
 ) -> Outcome
+where
+    H::Feed: Drop,
     ensures status { result.status ≡ status_of result.fault result.refused }
     ensures usage { IsUsage words.now result.fault }
     ensures ended { IsEnd D.content D.images D.since D.moment disk.old disk.new words.now (H.files host.new)
@@ -55,6 +57,8 @@ pub fn run_gated<R: Threads + Sync, H: Host, D: Disk + Send, W: Sink, G: Gate + 
     out: &mut W,
     gate: &G,
 ) -> Outcome
+where
+    H::Feed: Drop,
     ensures status { result.status ≡ status_of result.fault result.refused }
     ensures usage { IsUsage words.now result.fault }
     ensures ended { IsEnd D.content D.images D.since D.moment disk.old disk.new words.now (H.files host.new)
@@ -84,6 +88,8 @@ fn answer<R: Threads + Sync, H: Host, D: Disk + Send, W: Sink, G: Gate + Sync>(
     out: &mut W,
     gate: &G,
 ) -> Outcome
+where
+    H::Feed: Drop,
     ensures status { result.status ≡ status_of result.fault result.refused }
     ensures ended { Ends D.content D.images D.since D.moment disk.old disk.new (asked_of command.now) (H.files host.new)
         (W.written out.old) (W.written out.new) result }

@@ -14,10 +14,11 @@ ghost use Rattle.fish_program.specs.Stores.{shape_asked};
 use crate::fault::Fault;
 use crate::outcome::{Outcome, no_report};
 use fish_disk::Disk;
+use fish_feed::read_file;
 use fish_lanes::Gate;
 use fish_outside::{Host, Sink};
 use fish_recover::{Asked, open_store};
-use fish_run::{Ran, read_file, run_script};
+use fish_run::{Ran, run_script};
 use fish_script::{Block, MAX_SCRIPT, Script, law_scripts_can_run, parse_script};
 use fish_value::Text;
 use fish_words::Run;
@@ -34,6 +35,8 @@ pub(crate) fn answer_run<R: Threads + Sync, H: Host, D: Disk + Send, W: Sink, G:
     out: &mut W,
     gate: &G,
 ) -> Outcome
+where
+    H::Feed: Drop,
     ensures status { result.status ≡ status_of result.fault result.refused }
     ensures ended { EndsRun D.content D.images D.since D.moment disk.old disk.new
         (shape_asked command.now.pages command.now.bits) command.now.script (H.files host.new) (W.written out.old)
@@ -98,6 +101,8 @@ fn run_store<R: Threads + Sync, H: Host, D: Disk + Send, W: Sink, G: Gate + Sync
     out: &mut W,
     gate: &G,
 ) -> Outcome
+where
+    H::Feed: Drop,
     requires shape { IsShape (asked_shape asked) }
     requires script { CanRun script.now }
     ensures status { result.status ≡ status_of result.fault result.refused }

@@ -11,9 +11,9 @@ ghost use Rattle.fish_program.specs.Outcome.{EndsSelect, status_of};
 
 use crate::fault::Fault;
 use crate::outcome::Outcome;
+use fish_feed::read_file;
 use fish_outside::{Host, Sink, write_whole};
 use fish_report::{Item, Items, Report, report_text};
-use fish_run::read_file;
 use fish_select::select;
 use fish_value::{Bytes, Text};
 use fish_words::Select;

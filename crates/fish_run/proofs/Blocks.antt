@@ -18,6 +18,7 @@ use Rattle.fish_lanes.specs.Registering.{AreSo, HasEach, HasRegistry, KnowsEach,
 use Rattle.fish_lanes.specs.Spans.{Span, answers}
 use Rattle.fish_lanes.specs.declared.block.BlockEnd.{BlockEnd}
 use Rattle.fish_lanes.specs.declared.lane.Lane.{Lane}
+use Rattle.fish_lanes.specs.declared.work.Work.{Work}
 use Rattle.fish_registry.specs.declared.registrar.Registrar.{Registrar}
 use Rattle.fish_report.specs.declared.item.Item.{Item}
 use Rattle.fish_report.specs.declared.item.Item.TheVariants as item
@@ -95,9 +96,9 @@ span_of from to lanes v u =
     record { from = from; to = to; first = v.learned.version; last = u.learned.version; lanes = lanes; full = v.shut }
 
 -- the round between them
-abbrev pub round_of : Bool → ℕ → View → View → List Lane → BlockEnd → Round
-round_of fresh from v u lanes end =
-    record { fresh = fresh; span = span_of from end.to (length lanes) v u; lanes = lanes; end = end }
+abbrev pub round_of : Bool → List (List Work) → ℕ → View → View → List Lane → BlockEnd → Round
+round_of fresh given from v u lanes end =
+    record { fresh = fresh; given = given; span = span_of from end.to (length lanes) v u; lanes = lanes; end = end }
 
 -- the items of its first lane are so
 first_so : (v u : View) (r s : Registrar) (lanes : List Lane) (end : BlockEnd) (k : Span) → IsBlockSpan v u end.to k
@@ -132,11 +133,11 @@ controls_known : (v u : View) (r s : Registrar) (lanes : List Lane) (end : Block
 controls_known v u r s [] end some whole has = absurd (omega arith)
 controls_known v u r s (x ∷ lanes) end some whole has = (has x refl).each (whole 0 x refl)
 
-controls_after : (v u : View) (r s : Registrar) (lanes : List Lane) (end : BlockEnd) (fresh : Bool) (from : ℕ) → 0 < length lanes
-    → AreWhole lanes → ((x : Lane) → slice_get lanes 0 ≡ Some x → HasRegistered v u r s x end)
-    → registry_of u s ≡ after_round (registry_of v r) (round_of fresh from v u lanes end)
-controls_after v u r s [] end fresh from some whole has = absurd (omega arith)
-controls_after v u r s (x ∷ lanes) end fresh from some whole has = (has x refl).is (whole 0 x refl)
+controls_after : (v u : View) (r s : Registrar) (lanes : List Lane) (end : BlockEnd) (fresh : Bool) (given : List (List Work)) (from : ℕ)
+    → 0 < length lanes → AreWhole lanes → ((x : Lane) → slice_get lanes 0 ≡ Some x → HasRegistered v u r s x end)
+    → registry_of u s ≡ after_round (registry_of v r) (round_of fresh given from v u lanes end)
+controls_after v u r s [] end fresh given from some whole has = absurd (omega arith)
+controls_after v u r s (x ∷ lanes) end fresh given from some whole has = (has x refl).is (whole 0 x refl)
 
 -- definitions that are known in front of each item are those of the whole
 each_whole : (past : Whole) (u : View) (w : Whole) → MayEnd past u w → (r : Registry) (items : List Item) → KnowsEach u r items
@@ -179,9 +180,10 @@ leaves_of Past count v u r s from items lanes end are many begins tells has ende
 }
 
 module _ (Past : Whole → Type 0) (count : ℕ) (v u : View) (r s : Registrar) (from : ℕ)
-    (lanes : List Lane) (end : BlockEnd) (h : Leaves Past count v u r s from lanes end) (fresh : Bool) where
+    (lanes : List Lane) (end : BlockEnd) (h : Leaves Past count v u r s from lanes end) (fresh : Bool)
+    (given : List (List Work)) where
   abbrev pub left : Round
-  left = round_of fresh from v u lanes end
+  left = round_of fresh given from v u lanes end
 
   spans : IsBlockSpan v u end.to left.span
   spans = record { begins = h.begins; ends = refl; first = omega arith; last = omega arith; full = refl }
@@ -230,7 +232,7 @@ module _ (Past : Whole → Type 0) (count : ℕ) (v u : View) (r s : Registrar) 
   -- none did
   pub left_whole : AreWhole lanes → HasRunOne Past count fresh v.shut u (registry_of v r) (registry_of u s) from end.to left
   left_whole whole =
-      let after = controls_after v u r s lanes end fresh from h.some whole h.has in
+      let after = controls_after v u r s lanes end fresh given from h.some whole h.has in
       record {
         fresh_is = refl;
         full_is = refl;

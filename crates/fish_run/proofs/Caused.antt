@@ -2,21 +2,12 @@
 use Rattle.std.proofs.Common.{◌≡◌, ◌≢◌, refl}
 use Rattle.fish_outside.proofs.CauseLemmas.{Rose_earlier}
 use Rattle.fish_outside.specs.Causes.{Rose}
-use Rattle.fish_outside.specs.declared.fault.FeedRefusal.{FeedRefusal}
-use Rattle.fish_outside.specs.declared.fault.FeedRefusal.TheVariants as feed
 use Rattle.fish_report.specs.declared.writing.WriteRefusal.{WriteRefusal}
 use Rattle.fish_report.specs.declared.writing.WriteRefusal.TheVariants as write
-use Rattle.fish_run.specs.Faults.{feed_fault, write_fault}
-use Rattle.fish_run.specs.Steps.{AreLater, Counts, IsCausedBy}
+use Rattle.fish_run.specs.Faults.{write_fault}
+use Rattle.fish_run.specs.within.Counting.{AreLater, Counts, IsCausedBy}
 use Rattle.fish_run.specs.declared.fault.RunFault.{RunFault}
 use Rattle.fish_run.specs.declared.fault.RunFault.TheVariants as fault
-
--- a file couldn't be read
-pub caused_read : (a b : Counts) (r : FeedRefusal) → (r ≡ feed.Failed → Rose a.host b.host) → IsCausedBy a b (feed_fault r)
-caused_read a b feed.Failed rose =
-    record { input = λ is. rose refl; output = λ is. absurd cc; disk = λ is. absurd cc }
-caused_read a b feed.OutOfMemory rose =
-    record { input = λ is. absurd cc; output = λ is. absurd cc; disk = λ is. absurd cc }
 
 -- an item couldn't be written
 pub caused_write : (a b : Counts) (r : WriteRefusal) → (r ≡ write.Failed → Rose a.out b.out) → IsCausedBy a b (write_fault r)
@@ -24,6 +15,11 @@ caused_write a b write.Failed rose =
     record { input = λ is. absurd cc; output = λ is. rose refl; disk = λ is. absurd cc }
 caused_write a b write.OutOfMemory rose =
     record { input = λ is. absurd cc; output = λ is. absurd cc; disk = λ is. absurd cc }
+
+-- a file couldn't be read, or it was none of the two
+pub caused_given : (a b : Counts) (why : RunFault) → (why ≡ fault.Input → Rose a.host b.host) → why ≢ fault.Output
+    → (why ≡ fault.Disk → Rose a.disk b.disk) → IsCausedBy a b why
+caused_given a b why rose inner fell = record { input = rose; output = λ is. absurd (inner is); disk = fell }
 
 -- it was none of the two
 pub caused_inner : (a b : Counts) (why : RunFault) → why ≢ fault.Input → why ≢ fault.Output → (why ≡ fault.Disk → Rose a.disk b.disk)

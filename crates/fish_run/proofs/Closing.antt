@@ -22,12 +22,15 @@ use Rattle.fish_run.proofs.Ends.{all_first}
 use Rattle.fish_run.proofs.Keeping.{entries_end, keeps_of, sound_first, still_keeps}
 use Rattle.fish_run.proofs.Shown.{store_is}
 use Rattle.fish_run.proofs.Written.{gained_none, part_still, part_then, part_whole, written_both}
-use Rattle.fish_run.specs.Blocks.{Round, first_registry, left_table, rounds_of}
+use Rattle.fish_run.proofs.Tables.{renewed_any}
+use Rattle.fish_run.specs.Blocks.{Round, first_registry, left_table, rounds_of, with_cut}
 use Rattle.fish_run.specs.Faults.{IsUndamaged}
-use Rattle.fish_run.specs.Ran.{IsLost, IsStopped, IsWhole, LastTable, StillKeeps, StoodFor, opened_item}
+use Rattle.fish_run.specs.Ran.{IsLost, IsStopped, IsWhole, StillKeeps, StoodFor, opened_item}
+use Rattle.fish_run.specs.Tables.{LastTable}
 use Rattle.fish_run.specs.Reports.{report_of, whole_report}
 use Rattle.fish_run.specs.Runs.{CanClose}
 use Rattle.fish_run.specs.Steps.{Finishes, HasRunFirst, RunsAll, RunsSome}
+use Rattle.fish_run.specs.Tables.{AreRenewed}
 use Rattle.fish_run.specs.declared.fault.RunFault.{RunFault}
 use Rattle.fish_run.specs.declared.fault.RunFault.TheVariants as fault
 use Rattle.fish_run.specs.declared.lasting.Stopped.{Stopped}
@@ -54,6 +57,11 @@ module _
 
   abbrev pub Stops : Stopped → Type 0
   Stops e = RunsSome content images since moment p disk' o.count (first_registry rows) (opened_item o) told text old mid e
+
+  -- after all blocks no new one has to be begun
+  renewed_all : (rounds : List Round) → AreRenewed rounds false → AreRenewed (rounds ++ []) true
+  renewed_all rounds h = subst (λ (z : List Round). AreRenewed z true) (sym (append-nil rounds))
+      (renewed_any rounds true h)
 
   module _ (x : Store) (close : CanClose x) (remains : Remains) (closed : IsClosed (view x.pass) remains) where
     -- what is left is that of the last table
@@ -87,6 +95,7 @@ module _
     whole_of refused end h ends last = record {
       blocks = h.blocks;
       are = h.all;
+      renewed = h.renewed;
       last = last_of (rounds_of h.blocks) false None end h.ran;
       written = subst (λ (z : ℕ). Gained old new (report_text (whole_report (opened_item o) h.blocks z)))
           (sym (entries_end (view x.pass) end remains h.ran.ends closed))
@@ -108,6 +117,7 @@ module _
       are = all_first told text h.blocks h.all;
       next = tt;
       named = tt;
+      renewed = renewed_all (rounds_of h.blocks) h.renewed;
       last = last_of (rounds_of h.blocks ++ []) false None end ran;
       ended = true;
       written = (
@@ -164,6 +174,7 @@ module _
     are = h.are;
     next = h.next;
     named = h.stops.cut_by;
+    renewed = h.renewed;
     last = last_of x (close_is e x is h).1 remains closed (rounds_of h.blocks ++ h.part) h.stops.fresh h.cut h.stops.end ran;
     ended = false;
     written = part_still old mid new (report_text (report_of (opened_item o) h.blocks)) h.written none;

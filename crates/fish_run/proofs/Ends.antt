@@ -7,6 +7,7 @@ use Rattle.std.specs.Prelude.{◌||◌, IsSome}
 use Rattle.std.proofs.lemmas.Grind.{flat_map-append}
 use Rattle.std.proofs.lemmas.List.{take_all, take_more}
 use Rattle.std.proofs.lemmas.List.Folds.{list_any-append}
+use Rattle.fish_feed.specs.Works.{Pairs}
 use Rattle.fish_lanes.specs.Ending.{HasEnd}
 use Rattle.fish_lanes.specs.Registering.{Registry}
 use Rattle.fish_outside.specs.Told.{Files, Gained, GainedPart, StillTold}
@@ -14,16 +15,18 @@ use Rattle.fish_report.specs.ReportText.{report_text}
 use Rattle.fish_report.specs.declared.item.Item.{Item}
 use Rattle.fish_rule.specs.Logs.{Learns}
 use Rattle.fish_run.proofs.Lists.{get_at, pairs_length, pairs_map, pairs_push, take_length}
-use Rattle.fish_run.proofs.Turns.{behind_next, first_on, rounds_both, rounds_first}
-use Rattle.fish_run.proofs.Works.{had_later}
+use Rattle.fish_run.proofs.Tables.{renewed_any, renewed_join}
+use Rattle.fish_run.proofs.Turns.{behind_next, cut_join, first_on, rounds_both, rounds_first}
+use Rattle.fish_run.proofs.Works.{done_later, first_later}
 use Rattle.fish_run.proofs.Written.{gained_none, part_then, part_whole, written_both}
 use Rattle.fish_run.specs.Blocks.{Block, Round, rounds_of, with_cut}
 use Rattle.fish_run.specs.Ran.{AreFirst, AreNextOf, IsBlockOf}
 use Rattle.fish_run.specs.Reports.{are_refused, block_items, report_of, said_refused}
-use Rattle.fish_run.specs.Rounds.{AreRounds, block_said}
+use Rattle.fish_run.specs.Joins.{block_said}
+use Rattle.fish_run.specs.Rounds.{AreRounds, given_in}
 use Rattle.fish_run.specs.Running.{HowStopped}
 use Rattle.fish_run.specs.Steps.{HasRounds, HasRunFirst, RunsAll, RunsSome, StopsRounds, WritesBlocks}
-use Rattle.fish_run.specs.Works.{Pairs}
+use Rattle.fish_run.specs.Tables.{AreRenewed}
 use Rattle.fish_run.specs.declared.fault.RunFault.TheVariants as fault
 use Rattle.fish_run.specs.declared.lasting.Stopped.{Stopped}
 use Rattle.fish_script.specs.declared.script.Block as script
@@ -54,11 +57,15 @@ refused_more blocks b = list_any-append (λ (x : Block). said_refused (block_sai
 pub rounds_later : (old new : Option Files) → StillTold old new → (s : script.Block) (rounds : List Round)
     → AreRounds old s.lanes rounds → AreRounds new s.lanes rounds
 rounds_later old new still s [] h = tt
-rounds_later old new still s (a ∷ rounds) h = (had_later old new still s.lanes a.lanes h.0, h.1, h.2, h.3)
+rounds_later old new still s (a ∷ rounds) h = (h.0, first_later old new still s.lanes (given_in (a ∷ rounds)) h.1)
 
 block_later : (old new : Option Files) → StillTold old new → (s : script.Block) (b : Block) → IsBlockOf old s b → IsBlockOf new s b
-block_later old new still s b h =
-    record { several = h.several; rounds = rounds_later old new still s b.rounds h.rounds; all = h.all }
+block_later old new still s b h = record {
+  several = h.several;
+  follow = h.follow;
+  done = done_later old new still s.lanes (given_in b.rounds) h.done;
+  all = h.all;
+}
 
 blocks_later : (old new : Option Files) → StillTold old new → (text : List script.Block) (blocks : List Block)
     → Pairs (IsBlockOf old) text blocks → Pairs (IsBlockOf new) text blocks
@@ -99,20 +106,23 @@ module _
       → HasRounds content images since moment p p from r [] false from r → Gained a b (report_text (begin ∷ [])) → refused ≡ false
       → WritesBlocks content images since moment p p from r begin told [] from r a b refused
   writes_first p told a b refused none written accepted =
-      record { blocks = []; are = tt; ran = none; written = written; refused_is = accepted }
+      record { blocks = []; are = tt; ran = none; renewed = tt; written = written; refused_is = accepted }
 
   module _ (p m q : Point D) (mid : ℕ) (s : Registry) (old new : Option Files) (still : StillTold old new) (a b c : Option (List ℕ)) where
     -- one more ran, and was written
     pub writes_more : (text : List script.Block) (x : script.Block) (to : ℕ) (t : Registry) (before now : Bool) (y : Block)
         → WritesBlocks content images since moment p m from r begin old text mid s a b before → IsBlockOf new x y
-        → HasRounds content images since moment m q mid s y.rounds false to t → Gained b c (report_text (block_items y))
-        → now ≡ before || said_refused (block_said y.rounds)
+        → HasRounds content images since moment m q mid s y.rounds false to t → AreRenewed y.rounds false
+        → Gained b c (report_text (block_items y)) → now ≡ before || said_refused (block_said y.rounds)
         → WritesBlocks content images since moment p q from r begin new (text ++ x ∷ []) to t a c now
-    writes_more text x to t before now y h is ran written refused = record {
+    writes_more text x to t before now y h is ran renewed written refused = record {
       blocks = h.blocks ++ y ∷ [];
       are = pairs_push (IsBlockOf new) text h.blocks x y (blocks_later old new still text h.blocks h.are) is;
       ran = subst (λ (z : List Round). HasRounds content images since moment p q from r z false to t) (sym (rounds_push h.blocks y))
           (rounds_both content images since moment p m q from mid to r s t (rounds_of h.blocks) y.rounds h.ran false ran);
+      renewed = subst (λ (z : List Round). AreRenewed z false) (sym (rounds_push h.blocks y))
+          (renewed_join (rounds_of h.blocks) y.rounds false h.renewed
+          renewed);
       written = subst (λ (z : List Item). Gained a c (report_text z)) (sym (report_more begin h.blocks y))
           (written_both a b c (report_of begin h.blocks) (block_items y) h.written written);
       refused_is = refused ∙ ap (λ z. z || said_refused (block_said y.rounds)) h.refused_is ∙ sym (refused_more h.blocks y);
@@ -143,9 +153,10 @@ module _
     pub stops_more : (text : List script.Block) (i : ℕ) (x : script.Block) (refused : Bool) (disk : D) (rounds : List Round)
         (cut : Option Round) (e : Stopped) → i < length text → x ≡ get_or text i x
         → WritesBlocks content images since moment p m from r begin old (take i text) mid s a b refused
-        → StopsRounds content images since moment m disk mid s rounds cut e → HowStopped new x b c rounds cut e
+        → StopsRounds content images since moment m disk mid s rounds cut e
+        → AreRenewed (with_cut rounds cut) true → HowStopped new x b c rounds cut e
         → RunsSome content images since moment p disk from r begin new text a c e
-    stops_more text i x refused disk rounds cut e less is h stop how = ⊎_elim not_done was_done how
+    stops_more text i x refused disk rounds cut e less is h stop renewed how = ⊎_elim not_done was_done how
       where
         blocks : List Block
         blocks = h.blocks
@@ -162,8 +173,13 @@ module _
         stopped : StopsRounds content images since moment p disk from r (rounds_of blocks ++ rounds) cut e
         stopped = stops_after disk (rounds_of blocks) rounds cut e h.ran stop
 
+        all_renewed : AreRenewed (with_cut (rounds_of blocks ++ rounds) cut) true
+        all_renewed = subst (λ (z : List Round). AreRenewed z true) (sym (cut_join (rounds_of blocks) rounds cut))
+            (renewed_join (rounds_of blocks) (with_cut rounds cut) true h.renewed
+            renewed)
+
         Begun : Type 0
-        Begun = AreRounds new x.lanes (with_cut rounds cut) × Gained b c [] × (e.why ≡ fault.Input → with_cut rounds cut ≡ [])
+        Begun = AreRounds new x.lanes (with_cut rounds cut) × Gained b c [] × (e.why ≡ fault.Input → cut ≡ None)
 
         Done : Type 0
         Done = (y : Block) × IsBlockOf new x y × (y.rounds ≡ rounds) × (cut ≡ None) × GainedPart b c (report_text (block_items y))
@@ -177,6 +193,7 @@ module _
           are = are_first new text i (omega (less, arith)) blocks are;
           next = next_of new text i (omega (less, arith)) blocks are x at (with_cut rounds cut) m.0;
           stops = stopped;
+          renewed = all_renewed;
           written = part_whole a c (report_text (report_of begin blocks))
               (gained_none a b c (report_text (report_of begin blocks)) h.written m.1);
           input = λ k. (m.2 k, gained_none a b c (report_text (report_of begin blocks)) h.written m.1);
@@ -201,6 +218,9 @@ module _
               stops = subst (λ (z : List Round). StopsRounds content images since moment p disk from r z None e) same
                   (subst (λ (z : Option Round). StopsRounds content images since moment p disk from r (rounds_of blocks ++ rounds) z e)
                   m.3 stopped);
+              renewed = subst (λ (z : List Round). AreRenewed z true) same
+                  (subst (λ (z : Option Round). AreRenewed (with_cut (rounds_of blocks ++ rounds) z) true) m.3
+                  all_renewed);
               written = subst (λ (z : List Item). GainedPart a c (report_text z)) (sym (report_more begin blocks m.0))
                   (part_then a b c (report_of begin blocks) (block_items m.0) h.written m.4);
               input = λ k. absurd (m.5 k);
@@ -219,6 +239,7 @@ module _
     blocks = h.blocks;
     all = subst (λ (z : List script.Block). Pairs (IsBlockOf told) z h.blocks) (take_all i text (omega (many, arith))) h.are;
     ran = end (rounds_of h.blocks) h.ran;
+    renewed = h.renewed;
     written = h.written;
     refused_is = h.refused_is;
   }
@@ -232,6 +253,7 @@ module _
     blocks = h.blocks;
     all = h.all;
     ran = first_on content images since moment p m q from to r (rounds_of h.blocks) false None h.ran runs learns ends shape;
+    renewed = h.renewed;
     written = h.written;
     refused_is = h.refused_is;
   }
@@ -249,6 +271,8 @@ module _
     next = tt;
     stops = subst (λ (z : List Round). StopsRounds content images since moment p disk from r z None e)
         (sym (append-nil (rounds_of h.blocks))) stop;
+    renewed = subst (λ (z : List Round). AreRenewed z true) (sym (append-nil (rounds_of h.blocks)))
+        (renewed_any (rounds_of h.blocks) true h.renewed);
     written = part_whole a b (report_text (report_of begin h.blocks)) h.written;
     input = λ k. absurd (other k);
   }
@@ -264,6 +288,7 @@ module _
     are = tt;
     next = tt;
     stops = stop;
+    renewed = tt;
     written = part;
     input = λ k. absurd (other k);
   }

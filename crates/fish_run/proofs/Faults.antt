@@ -74,6 +74,15 @@ pub write_no_disk : (r : WriteRefusal) → write_fault r ≢ fault.Disk
 write_no_disk write.Failed is = absurd cc
 write_no_disk write.OutOfMemory is = absurd cc
 
+-- it is never one of the output or of the disk, and one of the input only where a read failed
+pub feed_no_output : (r : FeedRefusal) → feed_fault r ≢ fault.Output
+feed_no_output feed.Failed is = absurd cc
+feed_no_output feed.OutOfMemory is = absurd cc
+
+pub feed_failed : (r : FeedRefusal) → feed_fault r ≡ fault.Input → r ≡ feed.Failed
+feed_failed feed.Failed is = refl
+feed_failed feed.OutOfMemory is = absurd cc
+
 -- only a lane finds damage
 pub feed_well : (r : FeedRefusal) → IsUndamaged (feed_fault r)
 feed_well feed.Failed = tt

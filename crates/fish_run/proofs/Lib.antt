@@ -3,10 +3,12 @@ pub mod Caused
 pub mod Closing
 pub mod Ends
 pub mod Faults
+pub mod Giving
 pub mod Going
 pub mod Keeping
 pub mod Lists
 pub mod One
+mod Room
 mod Rounding
 mod SaidLemmas
 pub mod Shown

@@ -1,21 +1,9 @@
--- Lists side by side, and what is told at the end of a source.
-use Rattle.std.proofs.Common.{◌≡◌, ℕ, ◌<◌, ◌≤◌, zero, suc, List, [], ◌∷◌, ◌++◌, length, take, get_or, refl, sym, ap, ◌∙◌, subst, arith}
-use Rattle.std.proofs.Common.{append-nil, Option, Some, None, slice_get}
-use Rattle.std.proofs.lemmas.List.{take_all}
+-- Lists side by side.
+use Rattle.std.proofs.Common.{◌≡◌, ℕ, ◌+◌, ◌<◌, ◌≤◌, zero, suc, List, [], ◌∷◌, ◌++◌, length, drop, take, get_or, refl, sym, ap, ◌∙◌, subst, arith}
+use Rattle.std.proofs.Common.{Some, slice_get}
+use Rattle.std.proofs.Math.Decide.{dec_lt}
 use Rattle.std.proofs.lemmas.Option.{slice_get_read}
-use Rattle.fish_outside.specs.Told.{IsAtEnd, Took}
-use Rattle.fish_run.specs.Reading.{ReadsUpTo}
-use Rattle.fish_run.specs.Works.{Pairs}
-
--- all that there was is no more than was asked for
-pub reads_all : (old new : Option (List ℕ)) (bytes : List ℕ) (most : ℕ) → length bytes ≤ most → Took old new bytes → IsAtEnd new
-    → ReadsUpTo most old new bytes
-reads_all old None bytes most less took end = tt
-reads_all old (Some rest) bytes most less took end = (
-  bytes ++ rest,
-  took,
-  sym (ap (λ (z : List ℕ). take most (bytes ++ z)) end ∙ ap (take most) (append-nil bytes) ∙ take_all most bytes less),
-)
+use Rattle.fish_feed.specs.Works.{Pairs, Triples}
 
 module _ {A B : Type 0} (R : A → B → Type 0) where
   -- one more of each
@@ -60,9 +48,34 @@ pairs_both R S T f (x ∷ xs) [] zs h k = elim h [ ]
 pairs_both R S T f (x ∷ xs) (y ∷ ys) [] h k = elim k [ ]
 pairs_both R S T f (x ∷ xs) (y ∷ ys) (z ∷ zs) h k = (f x y z h.0 k.0, pairs_both R S T f xs ys zs h.1 k.1)
 
+-- what is so of each two and each next three is so of the first and the last two
+pub pairs_triples : {A B G C : Type 0} (R : A → B → Type 0) (S : B → G → C → Type 0) (T : A → G → C → Type 0)
+    → ((x : A) (y : B) (g : G) (z : C) → R x y → S y g z → T x g z) → (xs : List A) (ys : List B) (gs : List G) (zs : List C)
+    → Pairs R xs ys → Triples S ys gs zs → Triples T xs gs zs
+pairs_triples R S T f [] [] [] [] h k = tt
+pairs_triples R S T f [] [] [] (z ∷ zs) h k = elim k [ ]
+pairs_triples R S T f [] [] (g ∷ gs) zs h k = elim k [ ]
+pairs_triples R S T f [] (y ∷ ys) gs zs h k = elim h [ ]
+pairs_triples R S T f (x ∷ xs) [] gs zs h k = elim h [ ]
+pairs_triples R S T f (x ∷ xs) (y ∷ ys) [] zs h k = elim k [ ]
+pairs_triples R S T f (x ∷ xs) (y ∷ ys) (g ∷ gs) [] h k = elim k [ ]
+pairs_triples R S T f (x ∷ xs) (y ∷ ys) (g ∷ gs) (z ∷ zs) h k = (f x y g z h.0 k.0, pairs_triples R S T f xs ys gs zs h.1 k.1)
+
 -- an element that was read is at its place
 pub get_at : {A : Type 0} (xs : List A) (i : ℕ) (x : A) → i < length xs → x ≡ get_or xs i x → slice_get xs i ≡ Some x
 get_at xs i x less is = slice_get_read xs (length xs) i x refl less is
+
+-- what is so of those below a place, and of the one there, is so of those below the next one
+pub below_push : {A : Type 0} (P : A → Type 0) (xs : List A) (n : ℕ) (x : A) → slice_get xs n ≡ Some x → P x
+    → ((i : ℕ) (y : A) → i < n → slice_get xs i ≡ Some y → P y) → (i : ℕ) (y : A) → i < n + 1 → slice_get xs i ≡ Some y → P y
+below_push P xs n x at one h i y less is = pick (dec_lt i n)
+  where
+    pick : Dec (i < n) → P y
+    pick (yes before) = h i y before is
+    pick (no not_before) =
+        let here : i ≡ n = omega arith in
+        let same : Some x ≡ Some y = sym at ∙ ap (slice_get xs) (sym here) ∙ is in
+        subst P (let e : x ≡ y = cc in e) one
 
 -- what is so of each place is so with one more behind
 pub at_push : {A : Type 0} (P : ℕ → A → Type 0) (xs : List A) (x : A) → ((i : ℕ) (y : A) → slice_get xs i ≡ Some y → P i y)
@@ -71,6 +84,16 @@ at_push P [] x h one zero y at = subst (P 0) (let e : x ≡ y = cc in e) one
 at_push P [] x h one (suc i) y at = absurd cc
 at_push P (w ∷ xs) x h one zero y at = h 0 y at
 at_push P (w ∷ xs) x h one (suc i) y at = at_push (λ j z. P (suc j) z) xs x (λ j z. h (suc j) z) one i y at
+
+-- a slice that was written back is all that there is
+pub written_back : {A : Type 0} (n : ℕ) (new xs : List A) → n ≡ length new → length new ≡ length xs
+    → take n (new ++ drop (length new) xs) ≡ new
+written_back n [] [] few many = ap (λ (z : ℕ). take z []) few
+written_back n [] (x ∷ xs) few many = absurd (omega (many, arith))
+written_back n (y ∷ new) [] few many = absurd (omega (many, arith))
+written_back zero (y ∷ new) (x ∷ xs) few many = absurd (omega (few, arith))
+written_back (suc n) (y ∷ new) (x ∷ xs) few many =
+    ap (λ (z : List _). y ∷ z) (written_back n new xs (omega (few, arith)) (omega (many, arith)))
 
 -- the first so many are so many
 pub take_length : {A : Type 0} (n : ℕ) (xs : List A) → n ≤ length xs → length (take n xs) ≡ n

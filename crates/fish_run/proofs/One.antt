@@ -1,10 +1,11 @@
 -- One block: what its rounds did, and where a fault stops the run.
-use Rattle.std.proofs.Common.{◌≡◌, ◌≢◌, ℕ, List, [], ◌∷◌, refl, sym, ap, ◌∙◌, subst, inl, inr, false}
+use Rattle.std.proofs.Common.{◌≡◌, ◌≢◌, ℕ, List, [], ◌∷◌, refl, sym, ap, ◌∙◌, subst, inl, inr, false, true}
 use Rattle.std.proofs.Common.{Bool, Option, Some, None}
 use Rattle.std.specs.Prelude.{IfSome, ◌||◌}
+use Rattle.fish_feed.specs.Works.{AreDone, AreFirstOf, Pairs}
 use Rattle.fish_lanes.specs.Ending.{HasEnd}
 use Rattle.fish_lanes.specs.Registering.{Registry, registry_of}
-use Rattle.fish_lanes.specs.declared.lane.Lane.{Lane}
+use Rattle.fish_lanes.specs.declared.work.Work.{Work}
 use Rattle.fish_outside.proofs.ToldLemmas.{Gained_refl}
 use Rattle.fish_outside.specs.Told.{Files, Gained, GainedPart}
 use Rattle.fish_report.specs.ReportText.{report_text}
@@ -12,20 +13,20 @@ use Rattle.fish_report.specs.declared.item.Item.{Item}
 use Rattle.fish_rule.proofs.laws.Learning.{learns_self}
 use Rattle.fish_rule.specs.Passes.{view}
 use Rattle.fish_run.proofs.Going.{close_of, here_self}
+use Rattle.fish_run.proofs.Tables.{renewed_any}
 use Rattle.fish_run.proofs.Turns.{rounds_end, rounds_none, runs_step}
 use Rattle.fish_run.specs.Blocks.{Block, Round, with_cut}
 use Rattle.fish_run.specs.Faults.{IsUndamaged}
-use Rattle.fish_run.specs.Going.{DoLanes, EndsBlock, StopsBlock}
+use Rattle.fish_run.specs.within.Going.{EndsRounds, StopsBlock, WereGiven}
 use Rattle.fish_run.specs.Ran.{IsBlockOf}
 use Rattle.fish_run.specs.Reports.{block_items, said_items, said_refused}
-use Rattle.fish_run.specs.Rounds.{AreRounds}
+use Rattle.fish_run.specs.Rounds.{AreAll, AreRounds, FollowOn, given_in}
 use Rattle.fish_run.specs.Running.{EndsOne, StopsOne}
 use Rattle.fish_run.specs.Runs.{CanClose, CanGoOn}
 use Rattle.fish_run.specs.Steps.{HasRounds, HasRunFirst, StopsRounds}
-use Rattle.fish_run.specs.Works.{AreLanesOf, HadToDo, IsLaneOf, IsWorkOf, Pairs, to_do}
 use Rattle.fish_run.specs.declared.fault.RunFault.TheVariants as fault
 use Rattle.fish_run.specs.declared.lasting.Stopped.{Stopped}
-use Rattle.fish_run.specs.declared.rounds.Ended.{Ended}
+use Rattle.fish_run.specs.declared.parts.Ended.{Ended}
 use Rattle.fish_run.specs.declared.running.Lasts.{Lasts}
 use Rattle.fish_run.specs.declared.saying.Said.{Said}
 use Rattle.fish_script.specs.declared.script.Block as script
@@ -38,21 +39,17 @@ use Rattle.fish_whole.specs.Whole.{Later}
 
 -- ---- what the rounds did
 
--- lanes that had to do what those of a text do had to do the text's statements
-had_all : (told : Option Files) (texts : List (List Statement)) (lanes items : List Lane) → Pairs (IsLaneOf told) texts lanes
-    → Pairs (λ x y. to_do y ≡ x.works) lanes items → Pairs (HadToDo told) texts items
-had_all told [] [] [] h k = tt
-had_all told [] [] (y ∷ items) h k = elim k [ ]
-had_all told [] (x ∷ lanes) items h k = elim h [ ]
-had_all told (s ∷ texts) [] items h k = elim h [ ]
-had_all told (s ∷ texts) (x ∷ lanes) [] h k = elim k [ ]
-had_all told (s ∷ texts) (x ∷ lanes) (y ∷ items) h k =
-    (subst (Pairs (IsWorkOf told) s) (sym k.0) h.0, had_all told texts lanes items h.1 k.1)
+-- where what lanes were given are the first works that do these statements, the rounds are the block's first ones
+pub are_rounds : (told : Option Files) (texts : List (List Statement)) (given : List (List Work)) (rounds : List Round) → FollowOn rounds
+    → WereGiven given rounds → Pairs (AreFirstOf told) texts given → AreRounds told texts rounds
+are_rounds told texts given [] follow were first = tt
+are_rounds told texts given (a ∷ rounds) follow were first = (follow, subst (Pairs (AreFirstOf told) texts) (sym were) first)
 
-pub are_rounds : (told : Option Files) (texts : List (List Statement)) (lanes : List Lane) (rounds : List Round)
-    → AreLanesOf told texts lanes → DoLanes lanes rounds → AreRounds told texts rounds
-are_rounds told texts lanes [] h d = tt
-are_rounds told texts lanes (a ∷ rounds) h d = (had_all told texts lanes a.lanes h.works d.0, d.1, d.2, d.3)
+-- and all of them, where they are all works
+pub all_given : (told : Option Files) (texts : List (List Statement)) (given : List (List Work)) (rounds : List Round) → AreAll rounds
+    → WereGiven given rounds → Pairs (AreDone told) texts given → Pairs (AreDone told) texts (given_in rounds)
+all_given told texts given [] all were done = elim all [ ]
+all_given told texts given (a ∷ rounds) all were done = subst (Pairs (AreDone told) texts) (sym were) done
 
 module _
     {D : Type 0}
@@ -100,86 +97,78 @@ module _
   }
 
   module _ (disk : D) (a : Lasts) (told : Option Files) (text : script.Block) (go : CanGoOn images disk a.store a.count) where
-    -- its files couldn't be read
-    pub one_unread : (written : Option (List ℕ)) (e : Stopped) → e.store ≡ Some a.store → e.why ≢ fault.None → IsUndamaged e.why
-        → StopsOne content images since moment disk disk a told text written written e
-    one_unread written e is named well =
-        let p = point_at disk a.store in
-        let r = registry_of (view a.store.pass) a.store.registrar in
-        record {
-          rounds = [];
-          cut = None;
-          stops = stops_with p disk a.store a.count a.count r [] e is (close_of images disk a.store a.count go) named well
-              (first_of p p a.count a.count r r [] (rounds_self p a.count r) go.end);
-          how = inl (tt, Gained_refl written, λ input. refl);
-        }
+    -- a fault stopped its rounds, or came before them
+    pub one_cut : (disk' : D) (given : List (List Work)) (written : Option (List ℕ)) (e : Stopped)
+        (h : StopsBlock content images since moment disk a.store a.count given disk' e)
+        → AreRounds told text.lanes (with_cut h.rounds h.cut)
+        → StopsOne content images since moment disk disk' a told text written written e
+    one_cut disk' given written e h are = record {
+      rounds = h.rounds;
+      cut = h.cut;
+      stops = h.stops;
+      renewed = h.renewed;
+      how = inl (are, Gained_refl written, h.input);
+    }
 
-    module _ (disk' : D) (lanes : List Lane) (are : AreLanesOf told text.lanes lanes) where
-      -- a fault stopped its rounds
-      pub one_cut : (written : Option (List ℕ)) (e : Stopped) → e.why ≢ fault.Input
-          → StopsBlock content images since moment disk a.store a.count lanes disk' e
-          → StopsOne content images since moment disk disk' a told text written written e
-      one_cut written e other h = record {
-        rounds = h.rounds;
-        cut = h.cut;
-        stops = h.stops;
-        how = inl (
-          are_rounds told text.lanes lanes (with_cut h.rounds h.cut) are h.do_lanes,
-          Gained_refl written,
-          λ input. absurd (other input),
-        );
+    module _ (disk' : D) (d : Ended) (given : List (List Work)) (done : Pairs (AreDone told) text.lanes given)
+        (h : EndsRounds content images since moment disk a.store a.count disk' d.store d.end d.said.items given)
+        (old new : Option (List ℕ)) where
+      block : Block
+      block = record { several = text.several; rounds = h.rounds }
+
+      block_is : IsBlockOf told text block
+      unfolding block
+      block_is = record {
+        several = refl;
+        follow = h.follow;
+        done = all_given told text.lanes given h.rounds h.all h.were done;
+        all = h.all;
       }
 
-      module _ (d : Ended) (h : EndsBlock content images since moment disk a.store a.count lanes disk' d) (old new : Option (List ℕ)) where
-        block : Block
-        block = record { several = text.several; rounds = h.rounds }
+      items_are : said_items text.several a.count d.end d.said.items ≡ block_items block
+      unfolding block
+      items_are = (λ i. said_items text.several (sym h.first i) (sym h.last i) (h.said_are i))
 
-        block_is : IsBlockOf told text block
-        unfolding block
-        block_is = record { several = refl; rounds = are_rounds told text.lanes lanes h.rounds are h.do_lanes; all = h.all }
+      -- it ran, and was written
+      pub one_ended : (before now : Bool) (b : Lasts) → b ≡ record { store = d.store; count = d.end.to }
+          → Gained old new (report_text (said_items text.several a.count d.end d.said.items))
+          → now ≡ before || said_refused d.said.items
+          → EndsOne content images since moment disk disk' a told text old new before now b
+      unfolding block
+      one_ended before now b is written refused =
+          subst (EndsOne content images since moment disk disk' a told text old new before now) (sym is) (record {
+            go = h.go;
+            block = block;
+            is = block_is;
+            ran = h.ran;
+            renewed = h.renewed;
+            written = subst (λ (z : List Item). Gained old new (report_text z)) items_are written;
+            refused = refused ∙ ap (λ (z : List Said). before || said_refused z) h.said_are;
+          })
 
-        items_are : said_items text.several a.count d.end d.said.items ≡ block_items block
-        unfolding block
-        items_are = (λ i. said_items text.several (sym h.first i) (sym h.last i) (h.said_are i))
-
-        -- it ran, and was written
-        pub one_ended : (before now : Bool) (b : Lasts) → b ≡ record { store = d.store; count = d.end.to }
-            → Gained old new (report_text (said_items text.several a.count d.end d.said.items))
-            → now ≡ before || said_refused d.said.items
-            → EndsOne content images since moment disk disk' a told text old new before now b
-        unfolding block
-        one_ended before now b is written refused =
-            subst (EndsOne content images since moment disk disk' a told text old new before now) (sym is) (record {
-              go = h.go;
-              block = block;
-              is = block_is;
-              ran = h.ran;
-              written = subst (λ (z : List Item). Gained old new (report_text z)) items_are written;
-              refused = refused ∙ ap (λ (z : List Said). before || said_refused z) h.said_are;
-            })
-
-        -- it couldn't be written
-        pub one_unwritten : (e : Stopped) → e.store ≡ Some d.store → e.why ≢ fault.None → IsUndamaged e.why → e.why ≢ fault.Input
-            → GainedPart old new (report_text (said_items text.several a.count d.end d.said.items))
-            → StopsOne content images since moment disk disk' a told text old new e
-        unfolding block
-        one_unwritten e is named well other part =
-            let p = point_at disk a.store in
-            let q = point_at disk' d.store in
-            let r = registry_of (view a.store.pass) a.store.registrar in
-            let t = registry_of (view d.store.pass) d.store.registrar in
-            record {
-              rounds = h.rounds;
-              cut = None;
-              stops = stops_with p disk' d.store a.count d.end.to r h.rounds e is
-                  (close_of images disk' d.store d.end.to h.go) named well
-                  (first_of p q a.count d.end.to r t h.rounds h.ran h.go.end);
-              how = inr (
-                block,
-                block_is,
-                refl,
-                refl,
-                subst (λ (z : List Item). GainedPart old new (report_text z)) items_are part,
-                other,
-              );
-            }
+      -- it couldn't be written
+      pub one_unwritten : (e : Stopped) → e.store ≡ Some d.store → e.why ≢ fault.None → IsUndamaged e.why → e.why ≢ fault.Input
+          → GainedPart old new (report_text (said_items text.several a.count d.end d.said.items))
+          → StopsOne content images since moment disk disk' a told text old new e
+      unfolding block
+      one_unwritten e named_is named well other part =
+          let p = point_at disk a.store in
+          let q = point_at disk' d.store in
+          let r = registry_of (view a.store.pass) a.store.registrar in
+          let t = registry_of (view d.store.pass) d.store.registrar in
+          record {
+            rounds = h.rounds;
+            cut = None;
+            stops = stops_with p disk' d.store a.count d.end.to r h.rounds e named_is
+                (close_of images disk' d.store d.end.to h.go) named well
+                (first_of p q a.count d.end.to r t h.rounds h.ran h.go.end);
+            renewed = renewed_any h.rounds true h.renewed;
+            how = inr (
+              block,
+              block_is,
+              refl,
+              refl,
+              subst (λ (z : List Item). GainedPart old new (report_text z)) items_are part,
+              other,
+            );
+          }

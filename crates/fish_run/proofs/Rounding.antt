@@ -1,40 +1,52 @@
 -- From round to round of a block.
-use Rattle.std.proofs.Common.{◌≡◌, ℕ, suc, ◌+◌, ◌<◌, List, [], ◌∷◌, ◌++◌, Bool, true, false, length}
-use Rattle.std.proofs.Common.{refl, sym, ap, ◌∙◌, subst, inl, arith, None, Option, Some, slice_get}
+use Rattle.std.proofs.Common.{◌≡◌, ◌≢◌, ℕ, suc, ◌+◌, ◌<◌, List, [], ◌∷◌, ◌++◌, Bool, true, false, length}
+use Rattle.std.proofs.Common.{refl, sym, ap, ◌∙◌, ◌⊎◌, subst, inl, arith, None, Option, Some, slice_get}
 use Rattle.std.specs.Prelude.{◌&&◌, IfSome}
+use Rattle.fish_feed.specs.Queues.{AreIdle, IsGiven, both, works_of}
+use Rattle.fish_feed.specs.Works.{Pairs, Triples}
 use Rattle.fish_lanes.specs.Blocks.{AreKept, AreLanes, At, IsKept, IsNewLane}
 use Rattle.fish_lanes.specs.Controlling.{bound_items}
 use Rattle.fish_lanes.specs.Ending.{HasEnd}
-use Rattle.fish_lanes.specs.Outcome.{LeaveNone, Stops}
+use Rattle.fish_lanes.specs.Outcome.{IsFullIn, LeaveNone, Stops}
 use Rattle.fish_lanes.specs.Registering.{Registry, registry_of}
 use Rattle.fish_lanes.specs.declared.block.BlockEnd.{BlockEnd}
 use Rattle.fish_lanes.specs.declared.block.Boundary.{Boundary}
 use Rattle.fish_lanes.specs.declared.lane.Lane.{Lane}
+use Rattle.fish_lanes.specs.declared.work.Work.{Work}
+use Rattle.fish_outside.specs.Told.{Files}
 use Rattle.fish_rule.proofs.laws.Learning.{learns_self}
 use Rattle.fish_rule.specs.Passes.{view}
 use Rattle.fish_rule.specs.declared.table.Log.{Log}
 use Rattle.fish_rule.specs.declared.view.Key.{Key}
 use Rattle.fish_rule.specs.declared.view.View.{View}
 use Rattle.fish_run.proofs.Blocks.{left, left_cut, left_whole}
-use Rattle.fish_run.proofs.Faults.{commit_named, commit_well, first_named, lane_whole}
+use Rattle.fish_run.proofs.Faults.{commit_named, commit_well, first_named, first_no_input, lane_whole}
+use Rattle.fish_run.proofs.Giving.{both_length, given_next, idle_first, none_next, nones, nones_left, nones_length, nones_right}
+use Rattle.fish_run.proofs.Giving.{works_length}
 use Rattle.fish_run.proofs.Going.{close_of, here_self}
 use Rattle.fish_run.proofs.Lists.{pairs_length, pairs_map}
 use Rattle.fish_run.proofs.Stepping.{goes_next, kept_pairs, ran_numbered}
+use Rattle.fish_run.proofs.Tables.{renewed_push, renewed_true}
 use Rattle.fish_run.proofs.Turns.{behind_next, rounds_cut, rounds_end, rounds_more, rounds_none, rounds_rolled, runs_step}
 use Rattle.fish_run.specs.Blocks.{IsFirstFault, Round}
 use Rattle.fish_run.specs.Faults.{IsUndamaged}
-use Rattle.fish_run.specs.Going.{DoLanes, EndsRounds, GoesIn, HasStepped, IsRenewed, StopsBlock}
+use Rattle.fish_run.specs.within.Going.{EndsRounds, GoesIn, HasNext, HasStepped, IsReady, StopsBlock, WereGiven}
+use Rattle.fish_run.specs.within.Turning.{IsRenewed}
+use Rattle.fish_run.specs.within.Parts.{StopsLanes}
 use Rattle.fish_run.specs.Reports.{end_of, first_number, last_end}
 use Rattle.fish_run.specs.Rolls.{RollsOn, StopsRoll}
-use Rattle.fish_run.specs.Rounds.{AreAll, GoOn, GoesOnWith, block_said, lanes_after, nothing_said, said_over}
+use Rattle.fish_run.specs.Joins.{block_said, lanes_after, nothing_said, said_over}
+use Rattle.fish_run.specs.Rounds.{AreAll, FollowOn, GoOn, GoesOnWith, IsNext, given_after, given_in}
 use Rattle.fish_run.specs.Runs.{Behind, CanClose, CanGoOn}
 use Rattle.fish_run.specs.Steps.{AreWhole, HasRounds, Leaves}
-use Rattle.fish_run.specs.Works.{AreNumbered, Pairs, to_do}
+use Rattle.fish_run.specs.Tables.{AreRenewed, IsNearLimits}
+use Rattle.fish_run.specs.Works.{AreNumbered, to_do}
 use Rattle.fish_run.specs.declared.fault.RunFault.{RunFault}
 use Rattle.fish_run.specs.declared.fault.RunFault.TheVariants as fault
 use Rattle.fish_run.specs.declared.lasting.Stopped.{Stopped}
 use Rattle.fish_run.specs.declared.rounds.RoundStart.{RoundStart}
 use Rattle.fish_run.specs.declared.saying.Said.{Said}
+use Rattle.fish_script.specs.declared.script.Statement.{Statement}
 use Rattle.fish_store.specs.Points.{point_at}
 use Rattle.fish_store.specs.Sound.{GoesOnHere, Point, Runs}
 use Rattle.fish_store.specs.declared.store.Store.{Store}
@@ -42,15 +54,30 @@ use Rattle.fish_whole.specs.Whole.{Later, Whole}
 
 -- ---- one more round
 
-go_push : (a : Round) (rounds : List Round) (b c : Round) → GoOn a (rounds ++ b ∷ [])
-    → Pairs (λ x y. GoesOnWith c.fresh x (to_do y)) b.lanes c.lanes → AreNumbered c.lanes → GoOn a ((rounds ++ b ∷ []) ++ c ∷ [])
-go_push a [] b c h goes numbered = (h.0, h.1, (goes, numbered, tt))
-go_push a (x ∷ rounds) b c h goes numbered = (h.0, h.1, go_push x rounds b c h.2 goes numbered)
+go_push : (a : Round) (rounds : List Round) (b c : Round) → GoOn a (rounds ++ b ∷ []) → Triples (IsNext c.fresh) b.lanes c.given c.lanes
+    → AreNumbered c.lanes → GoOn a ((rounds ++ b ∷ []) ++ c ∷ [])
+go_push a [] b c h next numbered = (h.0, h.1, (next, numbered, tt))
+go_push a (x ∷ rounds) b c h next numbered = (h.0, h.1, go_push x rounds b c h.2 next numbered)
 
-do_push : (first : List Lane) (rounds : List Round) (b c : Round) → DoLanes first (rounds ++ b ∷ [])
-    → Pairs (λ x y. GoesOnWith c.fresh x (to_do y)) b.lanes c.lanes → AreNumbered c.lanes → DoLanes first ((rounds ++ b ∷ []) ++ c ∷ [])
-do_push first [] b c h goes numbered = (h.0, h.1, h.2, (goes, numbered, tt))
-do_push first (x ∷ rounds) b c h goes numbered = (h.0, h.1, h.2, go_push x rounds b c h.3 goes numbered)
+follow_push : (rounds : List Round) (b c : Round) → FollowOn (rounds ++ b ∷ []) → Triples (IsNext c.fresh) b.lanes c.given c.lanes
+    → AreNumbered c.lanes → FollowOn ((rounds ++ b ∷ []) ++ c ∷ [])
+follow_push [] b c h next numbered = (h.0, h.1, h.2, (next, numbered, tt))
+follow_push (x ∷ rounds) b c h next numbered = (h.0, h.1, h.2, go_push x rounds b c h.3 next numbered)
+
+given_push : (given : List (List Work)) (rounds : List Round) (b : Round)
+    → given_after given (rounds ++ b ∷ []) ≡ both (given_after given rounds) b.given
+given_push given [] b = refl
+given_push given (x ∷ rounds) b = given_push (both given x.given) rounds b
+
+gives_push : (rounds : List Round) (b c : Round)
+    → given_in ((rounds ++ b ∷ []) ++ c ∷ []) ≡ both (given_in (rounds ++ b ∷ [])) c.given
+gives_push [] b c = refl
+gives_push (x ∷ rounds) b c = given_push x.given (rounds ++ b ∷ []) c
+
+were_push : (given : List (List Work)) (rounds : List Round) (b : Round) → given_in (rounds ++ b ∷ []) ≡ given
+    → WereGiven given (rounds ++ b ∷ [])
+were_push given [] b h = h
+were_push given (x ∷ rounds) b h = h
 
 over_push : (said : List Said) (bound : Option Boundary) (rounds : List Round) (b c : Round)
     → said_over said bound ((rounds ++ b ∷ []) ++ c ∷ [])
@@ -122,68 +149,151 @@ module _
     (images : D → List ℕ → Type 0)
     (since : D → ℕ → List ℕ → Type 0)
     (moment : D → ℕ)
-    (d : D) (s : Store) (from : ℕ) (first : List Lane) where
+    (d : D) (s : Store) (from : ℕ) where
   abbrev pub p : Point D
   p = point_at d s
 
   abbrev pub r : Registry
   r = registry_of (view s.pass) s.registrar
 
-  -- ---- in front of the first round
+  -- where nothing was done
+  runs_self : (q : Point D) → Runs content images since moment q q (λ w. Unit {0})
+  runs_self q = runs_step content images since moment q q (λ w. Unit {0}) (here_self content images since moment q)
+      (later_self q.view) (λ past sound w may. tt)
+
+  -- ---- before the first round
 
   none_ran : HasRounds content images since moment p p from r [] false from r
   none_ran = rounds_none content images since moment p from r (here_self content images since moment p) (later_self (view s.pass))
 
-  pub goes_first : AreLanes first → (a : RoundStart) → a.store ≡ s → a.from ≡ from → a.fresh ≡ false → a.bound ≡ None → (said : List Said)
-      → said ≡ nothing_said first → GoesIn content images since moment d s from first d a first said
-  goes_first are a store_is from_is fresh_is bound_is said said_is = record {
+  pub goes_first : (lanes : List Lane) → AreLanes lanes → AreIdle lanes → (a : RoundStart) → a.store ≡ s → a.from ≡ from → a.fresh ≡ false
+      → a.bound ≡ None → (said : List Said) → said ≡ nothing_said lanes
+      → GoesIn content images since moment d s from d a lanes said (nones lanes)
+  goes_first lanes are idle a store_is from_is fresh_is bound_is said said_is = record {
     rounds = [];
     ran = subst (λ (z : RoundStart). HasRounds content images since moment p (point_at d z.store) from r [] z.fresh z.from
         (registry_of (view z.store.pass) z.store.registrar)) (λ i. same i) none_ran;
-    many = refl;
-    next = λ b fresh numbered have. (have, numbered, fresh ∙ fresh_is, tt);
+    renewed = tt;
+    follow = tt;
+    were = tt;
+    next = λ b fresh numbered have. (idle_first lanes b.given b.lanes idle have, numbered, fresh ∙ fresh_is, tt);
+    gives = λ b many. sym (nones_left lanes b.given many);
+    many = nones_length lanes;
     begins = λ b begins. begins ∙ from_is;
     saying = λ b numbered many.
         ap (λ (z : List Said). lanes_after b.fresh (bound_items None) z b.lanes)
-        (nothing_same 1 b.lanes first many numbered (λ i x at. (are.new i x at).number_is) ∙ sym said_is)
+        (nothing_same 1 b.lanes lanes many numbered (λ i x at. (are.new i x at).number_is) ∙ sym said_is)
         ∙ ap (λ (z : Option Boundary). lanes_after b.fresh (bound_items z) said b.lanes) (sym bound_is);
   }
     where
       same : record { store = s; from = from; fresh = false; bound = None } ≡ a
       same i = record { store = sym store_is i; from = sym from_is i; fresh = sym fresh_is i; bound = sym bound_is i }
 
-  -- where nothing was done
-  runs_self : (q : Point D) → Runs content images since moment q q (λ w. Unit {0})
-  runs_self q = runs_step content images since moment q q (λ w. Unit {0}) (here_self content images since moment q)
-      (later_self q.view) (λ past sound w may. tt)
+  -- ---- what lanes are given for a round
 
-  -- memory ran out before it
-  pub stops_none : (e : Stopped) → e.store ≡ Some s → e.why ≡ fault.Memory → CanGoOn images d s from
-      → StopsBlock content images since moment d s from first d e
-  stops_none e store why go = record {
+  module _ (disk : D) (a : RoundStart) (lanes : List Lane) (said : List Said) (given : List (List Work))
+      (g : GoesIn content images since moment d s from disk a lanes said given) where
+    -- nothing
+    pub ready_none : IsReady content images since moment d s from disk a lanes said (nones lanes) given
+    ready_none = record {
+      rounds = g.rounds;
+      ran = g.ran;
+      renewed = g.renewed;
+      next = λ b fresh now numbered have. g.next b fresh numbered
+          (subst (λ (z : List (List Work)). Triples HasNext lanes z b.lanes) (sym now) (none_next lanes b.lanes have));
+      gives = λ b now. g.gives b (ap length now ∙ nones_length lanes) ∙ ap (both given) now ∙ nones_right given lanes g.many;
+      many = g.many;
+      begins = g.begins;
+      saying = g.saying;
+    }
+
+    -- statements, where they have none
+    pub ready_given : (lanes' : List Lane) → Pairs IsGiven lanes lanes'
+        → IsReady content images since moment d s from disk a lanes' said (works_of lanes') (both given (works_of lanes'))
+    ready_given lanes' now_given =
+        let same : length lanes' ≡ length lanes = pairs_length IsGiven lanes lanes' now_given in
+        record {
+          rounds = g.rounds;
+          ran = g.ran;
+          renewed = g.renewed;
+          next = λ b fresh now numbered have. g.next b fresh numbered
+              (subst (λ (z : List (List Work)). Triples HasNext lanes z b.lanes) (sym now)
+              (given_next lanes lanes' b.lanes now_given have));
+          gives = λ b now. g.gives b (ap length now ∙ works_length lanes' ∙ same) ∙ ap (both given) now;
+          many = both_length given (works_of lanes') (g.many ∙ sym same ∙ sym (works_length lanes')) ∙ g.many ∙ sym same;
+          begins = g.begins;
+          saying = λ b numbered many. g.saying b numbered (many ∙ same);
+        }
+
+    -- none could be read, or memory ran out
+    pub stops_unread : (why : RunFault) → why ≢ fault.None → IsUndamaged why → CanGoOn images disk a.store a.from
+        → StopsBlock content images since moment d s from given disk (record { store = Some a.store; why = why })
+    stops_unread why named well go = record {
+      rounds = g.rounds;
+      cut = None;
+      follow = g.follow;
+      were = g.were;
+      stops = record {
+        named = named;
+        at = point_at disk a.store;
+        disk_is = refl;
+        store = (refl, close_of images disk a.store a.from go);
+        lost = λ none. absurd cc;
+        fresh = a.fresh;
+        end = a.from;
+        cut_by = tt;
+        ran = rounds_end content images since moment p (point_at disk a.store) (point_at disk a.store) from a.from r
+            (registry_of (view a.store.pass) a.store.registrar) g.rounds a.fresh g.ran (runs_self (point_at disk a.store))
+            (learns_self (view a.store.pass)) go.end refl;
+        whole = λ past sound. well;
+      };
+      renewed = renewed_true g.rounds a.fresh g.renewed;
+      input = λ is. refl;
+    }
+
+  -- a fault came before it
+  pub stops_before : (e : Stopped) → e.store ≡ Some s → e.why ≢ fault.None → IsUndamaged e.why → CanGoOn images d s from
+      → (given : List (List Work)) → StopsBlock content images since moment d s from given d e
+  stops_before e store named well go given = record {
     rounds = [];
     cut = None;
-    do_lanes = tt;
+    follow = tt;
+    were = tt;
+    renewed = tt;
     stops = record {
-      named = λ is. (let bad : fault.Memory ≡ fault.None = sym why ∙ is in absurd cc);
+      named = named;
       at = p;
       disk_is = refl;
       store = subst (λ (z : Option Store). IfSome z (λ x. (p ≡ point_at d x) × CanClose x)) (sym store)
           (refl, close_of images d s from go);
-      lost = λ none. why;
+      lost = λ none. (let bad : Some s ≡ None = sym store ∙ none in absurd cc);
       fresh = false;
       end = from;
       cut_by = tt;
       ran = rounds_end content images since moment p p p from from r r [] false none_ran (runs_self p)
           (learns_self (view s.pass)) go.end refl;
-      whole = λ past sound. subst IsUndamaged (sym why) tt;
+      whole = λ past sound. well;
     };
+    input = λ is. refl;
   }
 
-  -- ---- behind a round
+  -- its files couldn't be opened
+  pub stops_unopened : (e : Stopped) → e.store ≡ Some s → e.why ≢ fault.None → IsUndamaged e.why → CanGoOn images d s from
+      → (texts : List (List Statement)) (told : Option Files) → StopsLanes content images since moment d s from texts d told e
+  unfolding stops_before
+  stops_unopened e store named well go texts told =
+      record { given = []; stops = stops_before e store named well go []; are = tt }
 
-  module _ (disk : D) (a : RoundStart) (lanes : List Lane) (said : List Said)
-      (g : GoesIn content images since moment d s from first disk a lanes said) (are : AreLanes lanes)
+  -- memory ran out before it
+  pub stops_none : (e : Stopped) → e.store ≡ Some s → e.why ≡ fault.Memory → CanGoOn images d s from
+      → (given : List (List Work)) → StopsBlock content images since moment d s from given d e
+  stops_none e store why go given = stops_before e store
+      (λ is. (let bad : fault.Memory ≡ fault.None = sym why ∙ is in absurd cc)) (subst IsUndamaged (sym why) tt) go given
+
+  -- ---- after a round
+
+  module _ (disk : D) (a : RoundStart) (lanes : List Lane) (said : List Said) (given_now given : List (List Work))
+      (g : IsReady content images since moment d s from disk a lanes said given_now given) (are : AreLanes lanes)
       (disk' : D) (m : Store) (ran : List Lane) (end : BlockEnd) (many : length ran ≡ length lanes) (kept : AreKept lanes ran)
       (log : m.log ≡ a.store.log)
       (goes : GoesOnHere content images since moment (point_at disk a.store) (point_at disk' m))
@@ -207,6 +317,7 @@ module _
 
     abbrev pub b : Round
     b = left Past m.file.flusher.count (view a.store.pass) (view m.pass) a.store.registrar m.registrar a.from ran end leaves a.fresh
+        given_now
 
     pairs : Pairs IsKept lanes ran
     pairs = kept_pairs lanes ran many kept
@@ -214,22 +325,30 @@ module _
     numbered : AreNumbered ran
     numbered = ran_numbered lanes ran are pairs
 
-    done : DoLanes first (g.rounds ++ b ∷ [])
-    done = g.next b refl numbered (pairs_map IsKept (λ x y. to_do y ≡ x.works) (λ x y k. sym k.works) lanes ran pairs)
+    done : FollowOn (g.rounds ++ b ∷ [])
+    done = g.next b refl refl numbered (pairs_map IsKept (λ x y. to_do y ≡ x.works) (λ x y k. sym k.works) lanes ran pairs)
+
+    gave : given_in (g.rounds ++ b ∷ []) ≡ given
+    gave = g.gives b refl
+
+    were : WereGiven given (g.rounds ++ b ∷ [])
+    were = were_push given g.rounds b gave
 
     told : block_said (g.rounds ++ b ∷ []) ≡ lanes_after a.fresh (bound_items a.bound) said ran
-    told = g.saying b numbered (many ∙ g.many)
+    told = g.saying b numbered many
 
     shape : at.shape ≡ before.shape
     shape = ap (λ (l : Log). l.shape) log
 
     -- a lane met a fault
     pub stops_cut : (why : RunFault) → IsFirstFault ran why → (low high : ℕ) → At (λ i x. Stops Past low high x) ran → CanClose m
-        → StopsBlock content images since moment d s from first disk' (record { store = Some m; why = why })
+        → StopsBlock content images since moment d s from given disk' (record { store = Some m; why = why })
     stops_cut why f low high stops close = record {
       rounds = g.rounds;
       cut = Some b;
-      do_lanes = done;
+      follow = done;
+      were = were;
+      renewed = renewed_push g.rounds b true g.renewed (λ line lines end f. inl refl);
       stops = record {
         named = first_named ran why f;
         at = at;
@@ -241,26 +360,29 @@ module _
         cut_by = f;
         ran = rounds_cut content images since moment p before at from a.from end.to r known then g.rounds a.fresh b g.ran goes later shape
             (left_cut Past m.file.flusher.count (view a.store.pass) (view m.pass) a.store.registrar m.registrar a.from ran end leaves
-            a.fresh) ends;
+            a.fresh given_now) ends;
         whole = λ past sound.
             let n = behind_next content images since moment p before _ (content disk') g.ran.runs goes.told_before past sound in
             lane_whole Past low high ran why stops f n.0 n.1;
       };
+      input = λ is. absurd (first_no_input ran why f is);
     }
 
     module _ (whole : AreWhole ran) (close : CanClose m) where
       all : HasRounds content images since moment p at from r (g.rounds ++ b ∷ []) false end.to then
       all = rounds_more content images since moment p before at from a.from end.to r known then g.rounds a.fresh b g.ran goes later shape
           (left_whole Past m.file.flusher.count (view a.store.pass) (view m.pass) a.store.registrar m.registrar a.from ran end leaves
-          a.fresh whole)
+          a.fresh given_now whole)
 
       -- no new table could be begun
       pub stops_roll : (disk'' : D) (e : Stopped) → StopsRoll content images since moment disk' m end.to disk'' e
-          → StopsBlock content images since moment d s from first disk'' e
+          → StopsBlock content images since moment d s from given disk'' e
       stops_roll disk'' e k = record {
         rounds = g.rounds ++ b ∷ [];
         cut = None;
-        do_lanes = done;
+        follow = done;
+        were = were;
+        renewed = renewed_push g.rounds b true g.renewed (λ line lines end f. inl refl);
         stops = record {
           named = commit_named e.why k.named;
           at = k.at;
@@ -274,6 +396,7 @@ module _
               k.shape;
           whole = λ past sound. commit_well e.why k.named;
         };
+        input = λ is. refl;
       }
 
       module _ (fresh : Bool) (disk'' : D) (t : Store)
@@ -301,11 +424,13 @@ module _
 
         -- memory ran out behind it
         pub stops_then : (e : Stopped) → e.store ≡ Some t → e.why ≡ fault.Memory → CanGoOn images disk'' t end.to
-            → StopsBlock content images since moment d s from first disk'' e
+            → StopsBlock content images since moment d s from given disk'' e
         stops_then e store why go = record {
           rounds = g.rounds ++ b ∷ [];
           cut = None;
-          do_lanes = done;
+          follow = done;
+          were = were;
+          renewed = renewed_push g.rounds b true g.renewed (λ line lines end f. inl refl);
           stops = record {
             named = λ is. (let bad : fault.Memory ≡ fault.None = sym why ∙ is in absurd cc);
             at = q;
@@ -320,19 +445,30 @@ module _
                 fresh now (runs_self q) (learns_self (view t.pass)) go.end refl;
             whole = λ past sound. subst IsUndamaged (sym why) tt;
           };
+          input = λ is. refl;
         }
 
         module _ (lanes' : List Lane) (said' : List Said)
-            (h : HasStepped fresh a.fresh a.bound said said' ran lanes') where
+            (h : HasStepped fresh a.fresh a.bound said said' ran lanes')
+            (asked : (line lines e : ℕ) → IsFullIn ran line lines e → (fresh ≡ true) ⊎ IsNearLimits end.to e) where
+          -- where the round found the table full, a new one was begun, or the log is near its limits
+          renews : AreRenewed (g.rounds ++ b ∷ []) fresh
+          renews = renewed_push g.rounds b fresh g.renewed asked
+
           -- the lanes go on
-          pub goes_more : GoesIn content images since moment d s from first disk''
-              (record { store = t; from = end.to; fresh = fresh; bound = end.bound }) lanes' said'
+          pub goes_more : GoesIn content images since moment d s from disk''
+              (record { store = t; from = end.to; fresh = fresh; bound = end.bound }) lanes' said' given
           goes_more = record {
             rounds = g.rounds ++ b ∷ [];
             ran = now;
-            many = pairs_length (λ x y. GoesOnWith fresh x (to_do y) × IsNewLane x.number y) ran lanes' h.next ∙ many ∙ g.many;
-            next = λ c same number have.
-                do_push first g.rounds b c done (goes_next lanes ran are pairs fresh lanes' h.next c.fresh same c.lanes have) number;
+            renewed = renews;
+            follow = done;
+            were = were;
+            next = λ c same number have. follow_push g.rounds b c done
+                (goes_next lanes ran are pairs fresh lanes' h.next c.fresh same c.given c.lanes have) number;
+            gives = λ c size. gives_push g.rounds b c ∙ ap (λ (z : List (List Work)). both z c.given) gave;
+            many = g.many ∙ sym many
+                ∙ sym (pairs_length (λ x y. GoesOnWith fresh x (to_do y) × IsNewLane x.number y) ran lanes' h.next);
             begins = λ c begins. first_push g.rounds b c ∙ g.begins b refl;
             saying = λ c number size. block_push g.rounds b c
                 ∙ ap (λ (z : List Said). lanes_after c.fresh (bound_items end.bound) z c.lanes) (told ∙ sym h.said_are);
@@ -340,11 +476,13 @@ module _
 
           -- or came to their ends
           pub ends_rounds : fresh ≡ false → LeaveNone ran → CanGoOn images disk'' t end.to
-              → EndsRounds content images since moment d s from first disk'' t end said'
+              → EndsRounds content images since moment d s from disk'' t end said' given
           ends_rounds old none go = record {
             go = go;
             rounds = g.rounds ++ b ∷ [];
-            do_lanes = done;
+            renewed = subst (AreRenewed (g.rounds ++ b ∷ [])) old (renews);
+            follow = done;
+            were = were;
             all = all_push g.rounds b none;
             ran = subst (λ (f : Bool). HasRounds content images since moment p q from r (g.rounds ++ b ∷ []) f end.to
                 (registry_of (view t.pass) t.registrar)) old now;

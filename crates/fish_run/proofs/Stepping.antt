@@ -1,15 +1,17 @@
 -- Lanes between two rounds, one after the other.
 use Rattle.std.proofs.Common.{◌≡◌, ◌≢◌, ℕ, zero, suc, ◌+◌, ◌<◌, ◌≤◌, List, [], ◌∷◌, ◌++◌, Bool, true, false, All, append-nil, drop, get_or}
-use Rattle.std.proofs.Common.{length, set, take, refl, sym, ap, ◌∙◌, subst, ⊎_elim, arith, None, Option, Some, slice_get}
+use Rattle.std.proofs.Common.{length, set, take, refl, sym, ap, ◌∙◌, subst, ◌⊎◌, inl, inr, ⊎_elim, arith, None, Option, Some, slice_get}
 use Rattle.std.proofs.Common.{◌&&◌}
 use Rattle.std.proofs.Math.Decide.{dec_lt}
-use Rattle.std.proofs.lemmas.Bool.{ltb-true}
+use Rattle.std.proofs.lemmas.Bool.{lt-ltb, ltb-true}
 use Rattle.std.specs.Prelude.{nat_lt}
+use Rattle.fish_feed.specs.Queues.{AreIdle}
+use Rattle.fish_feed.specs.Works.{Pairs, Triples}
 use Rattle.fish_lanes.proofs.Lists.{some_once}
 use Rattle.fish_lanes.specs.Blocks.{AreKept, AreLanes, IsKept, IsNewLane}
 use Rattle.fish_lanes.specs.Controlling.{bound_items}
 use Rattle.fish_lanes.specs.Gains.{WasShut}
-use Rattle.fish_lanes.specs.Outcome.{HandsBack, LeaveNone}
+use Rattle.fish_lanes.specs.Outcome.{HandsBack, IsFullIn, LeaveNone}
 use Rattle.fish_lanes.specs.Registering.{IsAcceptable}
 use Rattle.fish_lanes.specs.Running.{IsShared}
 use Rattle.fish_lanes.specs.declared.block.Boundary.{Boundary}
@@ -22,10 +24,14 @@ use Rattle.fish_rule.specs.Passes.{view}
 use Rattle.fish_rule.specs.declared.table.Log.{Log}
 use Rattle.fish_rule.specs.declared.view.Shut.{Shut}
 use Rattle.fish_rule.specs.declared.view.View.{View}
-use Rattle.fish_run.proofs.Lists.{pairs_at, pairs_both, pairs_length, pairs_map}
-use Rattle.fish_run.specs.Going.{HasStepped, IsRenewed, StepsLane, tables_left, unshut, unshut_by}
-use Rattle.fish_run.specs.Rounds.{GoesOnWith, IsCutFile, IsRest, said_after}
-use Rattle.fish_run.specs.Works.{AreNumbered, Pairs, to_do}
+use Rattle.fish_run.proofs.Lists.{pairs_at, pairs_length, pairs_map, pairs_triples}
+use Rattle.fish_run.proofs.Tables.{none_full}
+use Rattle.fish_run.proofs.Works.{idle_new}
+use Rattle.fish_run.specs.within.Going.{HasNext, HasStepped, StepsLane}
+use Rattle.fish_run.specs.within.Turning.{FindNoneFull, IsRenewed, tables_left, unshut, unshut_by}
+use Rattle.fish_run.specs.Joins.{goes_on, said_after}
+use Rattle.fish_run.specs.Rounds.{GoesOnWith, IsCutFile, IsNext, IsRest}
+use Rattle.fish_run.specs.Works.{AreNumbered, to_do}
 use Rattle.fish_run.specs.declared.saying.Said.{Said}
 use Rattle.fish_store.specs.declared.store.Store.{Store}
 use Rattle.fish_value.specs.declared.field.Form.{Form}
@@ -43,10 +49,10 @@ stepped_more full fresh bound (b ∷ said) (a ∷ lanes) s t x y said' lanes' so
   next = (subst (λ (z : Lane). GoesOnWith full z (to_do y) × IsNewLane z.number y) at_x (one.next, one.new), h.next);
 }
   where
-    t_is : t ≡ record { number = b.number; items = said_after fresh b.items (bound_items bound) a.items }
+    t_is : t ≡ record { number = b.number; items = said_after fresh (goes_on a.works) b.items (bound_items bound) a.items }
     t_is = one.said ∙ (λ i. record {
       number = (at_s i).number;
-      items = said_after fresh (at_s i).items (bound_items bound) (at_x i).items;
+      items = said_after fresh (goes_on (at_x i).works) (at_s i).items (bound_items bound) (at_x i).items;
     })
 
 -- a statement list with nothing in it
@@ -141,13 +147,25 @@ module _ (old ran : List Lane) (are : AreLanes old) (kept : Pairs IsKept old ran
           shared = λ i z above at. works_next IsShared (λ form begin name file. tt) i z at (λ x is. are.shared i x above is);
         }
 
-    -- lanes that are to do what these have go on with it
-    pub goes_next : (fresh' : Bool) → fresh' ≡ full → (c : List Lane) → Pairs (λ y z. to_do z ≡ y.works) new c
-        → Pairs (λ x z. GoesOnWith fresh' x (to_do z)) ran c
-    goes_next fresh' same c have = pairs_both (λ x y. GoesOnWith full x (to_do y) × IsNewLane x.number y) (λ y z. to_do z ≡ y.works)
-        (λ x z. GoesOnWith fresh' x (to_do z))
-        (λ x y z h is. subst (λ (f : Bool). GoesOnWith f x (to_do z)) (sym same)
-        (subst (GoesOnWith full x) (new_works y h.1.nothing_left ∙ sym is) h.0)) ran new c next have
+    -- lanes that are to do what these have, and what they are given, go on with it
+    pub goes_next : (fresh' : Bool) → fresh' ≡ full → (given : List (List Work)) (c : List Lane) → Triples HasNext new given c
+        → Triples (IsNext fresh') ran given c
+    goes_next fresh' same given c have =
+        pairs_triples (λ x y. GoesOnWith full x (to_do y) × IsNewLane x.number y) HasNext (IsNext fresh')
+        (λ x y ws z h k. (
+          y.works,
+          subst (λ (f : Bool). GoesOnWith f x y.works) (sym same) (subst (GoesOnWith full x) (new_works y h.1.nothing_left) h.0),
+          k.0,
+          k.1,
+        )) ran new given c next have
+
+    -- where none hands anything back or goes on with a file, the new ones have nothing
+    pub idle_next : full ≡ false → ((i : ℕ) (x : Lane) → slice_get ran i ≡ Some x → x.left ≡ []) → AreIdle new
+    idle_next old none = idle_new new (λ i z at.
+        let r = pairs_at Goes ran new i z goes at in
+        let f = pairs_at Fresh ran new i z fresh at in
+        let is : to_do z ≡ r.0.left = subst (λ (k : Bool). GoesOnWith k r.0 (to_do z)) old r.2 in
+        sym (new_works z f.2.nothing_left) ∙ is ∙ none i r.0 r.1)
 
 -- ---- how far
 
@@ -219,3 +237,17 @@ module _
 pub above_base : (from to n : ℕ) (more : Bool) → from ≡ n → (more && nat_lt from to) ≡ true → n < to
 above_base from to n false same is = absurd cc
 above_base from to n true same is = subst (λ (z : ℕ). z < to) same (ltb-true from to is)
+
+-- and it is begun where an item tells that the old one is full, unless that one has no entry
+pub asked_for : (from to n : ℕ) (more : Bool) → from ≡ n → n ≤ to → (lanes : List Lane)
+    → (more ≡ false → nat_lt from to ≡ true → FindNoneFull lanes) → (line lines end : ℕ) → IsFullIn lanes line lines end
+    → ((more && nat_lt from to) ≡ true) ⊎ (n ≡ to)
+asked_for from to n more same above lanes none line lines end full = pick (dec_lt from to)
+  where
+    by : (z : Bool) → (z ≡ false → nat_lt from to ≡ true → FindNoneFull lanes) → nat_lt from to ≡ true → (z && nat_lt from to) ≡ true
+    by true found is = is
+    by false found is = absurd (none_full lanes (found refl is) line lines end full)
+
+    pick : Dec (from < to) → ((more && nat_lt from to) ≡ true) ⊎ (n ≡ to)
+    pick (yes less) = inl (by more none (lt-ltb from to less))
+    pick (no not_less) = inr (omega arith)

@@ -1,9 +1,18 @@
--- The table that rounds leave.
-use Rattle.std.proofs.Common.{◌≡◌, ◌<◌, ◌≤◌, List, [], ◌∷◌, ◌++◌, Bool, true, false, refl, sym, ◌∙◌, subst, arith}
+-- The table that rounds leave, and when new ones are begun.
+use Rattle.std.proofs.Common.{◌≡◌, ◌<◌, ◌≤◌, ℕ, List, [], ◌∷◌, ◌++◌, Bool, true, false, refl, sym, ap, ◌∙◌, ◌⊎◌, inl, inr, subst, arith}
+use Rattle.std.specs.List.{list_any}
+use Rattle.std.specs.Prelude.{◌||◌}
+use Rattle.fish_lanes.specs.Outcome.{IsFullIn}
+use Rattle.fish_lanes.specs.declared.lane.Lane.{Lane}
+use Rattle.fish_report.specs.declared.item.Item.{Item}
+use Rattle.fish_report.specs.declared.item.Item.TheVariants as item
+use Rattle.fish_rule.specs.Views.{Among}
 use Rattle.fish_rule.specs.declared.view.Key.{Key}
 use Rattle.fish_rule.specs.declared.view.View.{View}
 use Rattle.fish_run.specs.Blocks.{AreInOne, Round}
+use Rattle.fish_run.specs.within.Turning.{FindNoneFull, tells_full}
 use Rattle.fish_run.specs.Steps.{IsTableAfter}
+use Rattle.fish_run.specs.Tables.{AreRenewed, IsNearLimits, is_next_new}
 
 one_join : (rounds more : List Round) → AreInOne rounds → AreInOne more → AreInOne (rounds ++ more)
 one_join [] more h k = k
@@ -59,3 +68,51 @@ table_both v w u rounds more fresh h k =
           let t = k.same (omega arith) in
           (t.0 ∙ s.0, one_join rounds more s.1 t.1, t.2);
     }
+
+-- ---- when new ones are begun
+
+-- one more round, after which a new table is begun if it is asked for
+pub renewed_push : (rounds : List Round) (b : Round) (fresh : Bool) → AreRenewed rounds b.fresh
+    → ((line lines end : ℕ) → IsFullIn b.lanes line lines end → (fresh ≡ true) ⊎ IsNearLimits b.span.to end)
+    → AreRenewed (rounds ++ b ∷ []) fresh
+renewed_push [] b fresh h one = (one, tt)
+renewed_push (x ∷ []) b fresh h one = (h.0, renewed_push [] b fresh h.1 one)
+renewed_push (x ∷ y ∷ rounds) b fresh h one = (h.0, renewed_push (y ∷ rounds) b fresh h.1 one)
+
+-- where none has to be begun after rounds, one may be
+no_longer : (fresh : Bool) (count end : ℕ) → (false ≡ true) ⊎ IsNearLimits count end → (fresh ≡ true) ⊎ IsNearLimits count end
+no_longer fresh count end (inl bad) = absurd cc
+no_longer fresh count end (inr near) = inr near
+
+pub renewed_any : (rounds : List Round) (fresh : Bool) → AreRenewed rounds false → AreRenewed rounds fresh
+renewed_any [] fresh h = tt
+renewed_any (x ∷ []) fresh h = (λ line lines end k. no_longer fresh x.span.to end (h.0 line lines end k), tt)
+renewed_any (x ∷ y ∷ rounds) fresh h = (h.0, renewed_any (y ∷ rounds) fresh h.1)
+
+pub renewed_true : (rounds : List Round) (fresh : Bool) → AreRenewed rounds fresh → AreRenewed rounds true
+renewed_true rounds true h = h
+renewed_true rounds false h = renewed_any rounds true h
+
+-- and others
+pub renewed_join : (rounds more : List Round) (fresh : Bool) → AreRenewed rounds false → AreRenewed more fresh
+    → AreRenewed (rounds ++ more) fresh
+renewed_join [] more fresh h k = k
+renewed_join (x ∷ []) more fresh h k =
+    (λ line lines end f. no_longer (is_next_new more fresh) x.span.to end (h.0 line lines end f), k)
+renewed_join (x ∷ y ∷ rounds) more fresh h k = (h.0, renewed_join (y ∷ rounds) more fresh h.1 k)
+
+-- an item of those of which none tells it doesn't
+none_tells : (items : List Item) (x : Item) → list_any tells_full items ≡ false → Among x items → tells_full x ≡ true → ⊥
+none_tells [] x none among is = elim among [ ]
+none_tells (y ∷ items) x none among is = by (λ rest m. none_tells items x rest m is) (tells_full y) refl none among
+  where
+    by : (list_any tells_full items ≡ false → Among x items → ⊥) → (b : Bool) → tells_full y ≡ b
+        → (b || list_any tells_full items) ≡ false → Among x (y ∷ items) → ⊥
+    by others true here bad m = absurd cc
+    by others false here rest (inl same) = absurd (let bad : true ≡ false = sym is ∙ ap tells_full (sym same) ∙ here in cc)
+    by others false here rest (inr m) = others rest m
+
+-- where no item of these lanes tells that the table is full, none of them was refused by a claim
+pub none_full : (lanes : List Lane) → FindNoneFull lanes → (line lines end : ℕ) → IsFullIn lanes line lines end → ⊥
+none_full lanes none line lines end f =
+    none_tells f.lane.items (item.IngestFull f.file line lines end f.stored f.refused) (none f.at f.lane f.lane_is) f.among refl

@@ -1,28 +1,21 @@
--- Lanes and statements over files that are still told.
-use Rattle.std.proofs.Common.{◌≡◌, ◌<◌, ℕ, zero, suc, List, [], ◌∷◌, length, get_or, slice_get, refl, sym, ◌∙◌, subst, arith, false}
-use Rattle.std.proofs.Common.{Option, Some, None}
-use Rattle.std.specs.Prelude.{IfSome}
-use Rattle.std.proofs.lemmas.Option.{same_Some, slice_get-get_or}
-use Rattle.fish_lang.specs.Language.{IsAccepted}
-use Rattle.fish_lanes.specs.Blocks.{AreLanes}
+-- Lanes and what they are given, over files that are still told.
+use Rattle.std.proofs.Common.{◌≡◌, ℕ, zero, suc, ◌+◌, ◌<◌, ◌≤◌, List, [], ◌∷◌, ◌++◌, length, refl, sym, ap, ◌∙◌, subst, arith}
+use Rattle.std.proofs.Common.{All, None, Option, Some, append-nil, false, inl, slice_get, true}
+use Rattle.fish_feed.proofs.Queues.{dones_later}
+use Rattle.fish_feed.specs.Queues.{AreIdle, IsGiven, IsQueue, LanesMayDo, MayDoAll, MayEnd}
+use Rattle.fish_feed.specs.Works.{AreDone, AreFirstOf, Pairs, Triples}
+use Rattle.fish_feed.specs.declared.queue.Queue.{Queue}
+use Rattle.fish_lanes.specs.Blocks.{AreLanes, IsNewLane}
 use Rattle.fish_lanes.specs.Registering.{IsAcceptable}
 use Rattle.fish_lanes.specs.Running.{IsShared}
 use Rattle.fish_lanes.specs.declared.lane.Lane.{Lane}
 use Rattle.fish_lanes.specs.declared.work.Work.{Work}
 use Rattle.fish_outside.specs.Told.{Files, StillTold}
 use Rattle.fish_run.proofs.Lists.{pairs_at, pairs_length, pairs_map}
-use Rattle.fish_run.specs.Works.{AreLanesOf, HadToDo, IsLaneOf, IsWorkOf, Pairs, to_do}
-use Rattle.fish_script.specs.Runnable.{IsRunnable, IsRunnableBlock}
-use Rattle.fish_script.specs.Script.{AreFree, is_control}
-use Rattle.fish_script.specs.declared.script.Block.{Block}
+use Rattle.fish_run.specs.within.Parts.{AreNewLanes, AreUngiven}
 use Rattle.fish_script.specs.declared.script.Statement.{Statement}
-use Rattle.fish_script.specs.declared.script.Statement.TheVariants as does
 
--- what holds of files that were told holds of those that still are
-pub told_later : (old new : Option Files) (P : Files → Type 0) → StillTold old new → IfSome old P → IfSome new P
-told_later old None P still h = tt
-told_later None (Some files) P still h = absurd (let bad : None ≡ Some files = still in cc)
-told_later (Some before) (Some files) P still h = subst P (same_Some before files still) h
+-- ---- files
 
 pub still_both : (a b c : Option Files) → StillTold a b → StillTold b c → StillTold a c
 still_both a b None p q = tt
@@ -33,80 +26,106 @@ pub still_self : (a : Option Files) → StillTold a a
 still_self None = tt
 still_self (Some files) = refl
 
--- a statement of before is one of later
-pub work_later : (old new : Option Files) → StillTold old new → (s : Statement) (w : Work) → IsWorkOf old s w → IsWorkOf new s w
-work_later old new still (does.Register name def) w h = h
-work_later old new still (does.Deregister name) w h = h
-work_later old new still (does.Ingest form header file) w h = (h.0, h.1, told_later old new _ still h.2)
-work_later old new still (does.Scan name value from to way) w h = h
-work_later old new still (does.Explain name value from to way) w h = h
-work_later old new still does.Checkpoint w h = h
+-- what did statements over files that were told did so over those that still are
+pub done_later : (old new : Option Files) → StillTold old new → (texts : List (List Statement)) (given : List (List Work))
+    → Pairs (AreDone old) texts given → Pairs (AreDone new) texts given
+done_later old new still texts given h =
+    pairs_map (AreDone old) (AreDone new) (λ ss ws k. dones_later old new still ss ws k) texts given h
 
-pub works_later : (old new : Option Files) → StillTold old new → (ss : List Statement) (ws : List Work)
-    → Pairs (IsWorkOf old) ss ws → Pairs (IsWorkOf new) ss ws
-works_later old new still ss ws h = pairs_map (IsWorkOf old) (IsWorkOf new) (work_later old new still) ss ws h
+pub first_later : (old new : Option Files) → StillTold old new → (texts : List (List Statement)) (given : List (List Work))
+    → Pairs (AreFirstOf old) texts given → Pairs (AreFirstOf new) texts given
+first_later old new still texts given h =
+    pairs_map (AreFirstOf old) (AreFirstOf new) (λ ss ws k. (k.0, dones_later old new still ss (ws ++ k.0) k.1)) texts given h
 
-pub had_later : (old new : Option Files) → StillTold old new → (texts : List (List Statement)) (lanes : List Lane)
-    → Pairs (HadToDo old) texts lanes → Pairs (HadToDo new) texts lanes
-had_later old new still texts lanes h =
-    pairs_map (HadToDo old) (HadToDo new) (λ ss x p. works_later old new still ss (to_do x) p) texts lanes h
+-- ---- queues
 
-pub lanes_later : (old new : Option Files) → StillTold old new → (texts : List (List Statement)) (lanes : List Lane)
-    → Pairs (IsLaneOf old) texts lanes → Pairs (IsLaneOf new) texts lanes
-lanes_later old new still texts lanes h =
-    pairs_map (IsLaneOf old) (IsLaneOf new) (λ ss x p. works_later old new still ss x.works p) texts lanes h
+module _ {F : Type 0} (left : F → Option (List ℕ)) where
+  -- what a queue was given may be all that it gives
+  pub may_all : (told : Option Files) (texts : List (List Statement)) (given : List (List Work)) (queues : List (Queue F))
+      → Triples (IsQueue told left) texts given queues → Triples (MayEnd told left) texts given queues
+  may_all told [] [] [] h = tt
+  may_all told [] [] (q ∷ queues) h = elim h [ ]
+  may_all told [] (ws ∷ given) queues h = elim h [ ]
+  may_all told (ss ∷ texts) [] queues h = elim h [ ]
+  may_all told (ss ∷ texts) (ws ∷ given) [] h = elim h [ ]
+  may_all told (ss ∷ texts) (ws ∷ given) (q ∷ queues) h = (
+    ([], inl (subst (λ (z : List Work). IsQueue told left ss z q) (sym (append-nil ws)) h.0)),
+    may_all told texts given queues h.1,
+  )
+
+  -- before anything was given
+  pub ungiven : (told : Option Files) (texts : List (List Statement)) (given : List (List Work)) (queues : List (Queue F))
+      → length given ≡ length queues → ((i : ℕ) (ws : List Work) → slice_get given i ≡ Some ws → ws ≡ [])
+      → AreUngiven told left texts queues → Triples (IsQueue told left) texts given queues
+  ungiven told [] [] [] many none h = tt
+  ungiven told [] (ws ∷ given) [] many none h = absurd (omega (many, arith))
+  ungiven told [] given (q ∷ queues) many none h = elim h [ ]
+  ungiven told (ss ∷ texts) given [] many none h = elim h [ ]
+  ungiven told (ss ∷ texts) [] (q ∷ queues) many none h = absurd (omega (many, arith))
+  ungiven told (ss ∷ texts) (ws ∷ given) (q ∷ queues) many none h = (
+    subst (λ (z : List Work). IsQueue told left ss z q) (sym (none 0 ws refl)) h.0,
+    ungiven told texts given queues (omega (many, arith)) (λ i z at. none (suc i) z at) h.1,
+  )
 
 -- ---- lanes that a block may run
 
--- a statement that can be run is acceptable
-acceptable_of : (told : Option Files) (s : Statement) (w : Work) → IsRunnable s → IsWorkOf told s w → IsAcceptable w
-acceptable_of told (does.Register name def) w can h =
-    subst IsAcceptable (sym h.1) ((can.0, can.1), (can.2.0, subst (IsAccepted can.2.0) (sym h.2) can.2.1))
-acceptable_of told (does.Deregister name) w can h = subst IsAcceptable (sym h) tt
-acceptable_of told (does.Ingest form header file) w can h = subst IsAcceptable (sym h.1) tt
-acceptable_of told (does.Scan name value from to way) w can h = subst IsAcceptable (sym h) tt
-acceptable_of told (does.Explain name value from to way) w can h = subst IsAcceptable (sym h) tt
-acceptable_of told does.Checkpoint w can h = subst IsAcceptable (sym h) tt
+all_acceptable : (ws : List Work) → MayDoAll true ws → All IsAcceptable ws
+all_acceptable [] h i d less = absurd (omega arith)
+all_acceptable (w ∷ ws) h zero d less = h.0
+all_acceptable (w ∷ ws) h (suc i) d less = all_acceptable ws h.1 i d (omega arith)
 
--- one that is no control statement any lane may do
-shared_of : (told : Option Files) (s : Statement) (w : Work) → is_control s ≡ false → IsWorkOf told s w → IsShared w
-shared_of told (does.Register name def) w no_control h = absurd cc
-shared_of told (does.Deregister name) w no_control h = absurd cc
-shared_of told (does.Ingest form header file) w no_control h = subst IsShared (sym h.1) tt
-shared_of told (does.Scan name value from to way) w no_control h = subst IsShared (sym h) tt
-shared_of told (does.Explain name value from to way) w no_control h = subst IsShared (sym h) tt
-shared_of told does.Checkpoint w no_control h = absurd cc
+all_shared : (ws : List Work) → MayDoAll false ws → All IsShared ws
+all_shared [] h i d less = absurd (omega arith)
+all_shared (w ∷ ws) h zero d less = h.0
+all_shared (w ∷ ws) h (suc i) d less = all_shared ws h.1 i d (omega arith)
 
-free_at : (ss : List Statement) (i : ℕ) (s : Statement) → AreFree ss → slice_get ss i ≡ Some s → is_control s ≡ false
-free_at [] i s h at = absurd cc
-free_at (x ∷ ss) zero s h at = subst (λ (z : Statement). is_control z ≡ false) (same_Some _ _ at) h.0
-free_at (x ∷ ss) (suc i) s h at = free_at ss i s h.1 at
+acceptable_first : (lanes : List Lane) → LanesMayDo true lanes → (x : Lane) → slice_get lanes 0 ≡ Some x → All IsAcceptable x.works
+acceptable_first [] h x at = absurd cc
+acceptable_first (y ∷ lanes) h x at = subst (λ (z : Lane). All IsAcceptable z.works) (let e : y ≡ x = cc in e) (all_acceptable y.works h.0)
 
--- the lanes of a block that can be run are such as a block may have
-pub are_lanes : (told : Option Files) (b : Block) (lanes : List Lane) → IsRunnableBlock b → AreLanesOf told b.lanes lanes
-    → AreLanes lanes
-are_lanes told b lanes can h =
-    let many = pairs_length (IsLaneOf told) b.lanes lanes h.works in
-    let some_ = can.some in
-    let few = can.few in
+shared_at : (lanes : List Lane) → LanesMayDo false lanes → (i : ℕ) (x : Lane) → slice_get lanes i ≡ Some x → All IsShared x.works
+shared_at [] h i x at = absurd cc
+shared_at (y ∷ lanes) h zero x at = subst (λ (z : Lane). All IsShared z.works) (let e : y ≡ x = cc in e) (all_shared y.works h.0)
+shared_at (y ∷ lanes) h (suc i) x at = shared_at lanes h.1 i x at
+
+shared_after : (lanes : List Lane) → LanesMayDo true lanes → (i : ℕ) (x : Lane) → 0 < i → slice_get lanes i ≡ Some x
+    → All IsShared x.works
+shared_after [] h i x above at = absurd cc
+shared_after (y ∷ lanes) h zero x above at = absurd (omega arith)
+shared_after (y ∷ lanes) h (suc i) x above at = shared_at lanes h.1 i x at
+
+-- lanes that were given statements, which they may do, may run
+pub lanes_given : (old new : List Lane) → AreLanes old → Pairs IsGiven old new → LanesMayDo true new → AreLanes new
+lanes_given old new are given may =
+    let many = pairs_length IsGiven old new given in
+    let some_ = are.some in
+    let few_ = are.few in
     record {
       some = omega arith;
       few = omega arith;
-      new = h.new;
-      acceptable = λ x at i d less. all_acceptable 0 x at i d less;
-      shared = λ i x above at j d less. all_shared i x above at j d less;
+      new = λ i y at.
+          let o = pairs_at IsGiven old new i y given at in
+          subst (IsNewLane (i + 1)) (sym o.2.is) (record {
+            number_is = (are.new i o.0 o.1).number_is;
+            empty = (are.new i o.0 o.1).empty;
+            nothing_left = (are.new i o.0 o.1).nothing_left;
+          });
+      acceptable = λ x at. acceptable_first new may x at;
+      shared = λ i x above at. shared_after new may i x above at;
     }
-  where
-    all_acceptable : (k : ℕ) (x : Lane) → slice_get lanes k ≡ Some x → (i : ℕ) (d : Work) → i < length x.works
-        → IsAcceptable (get_or x.works i d)
-    all_acceptable k x at i d less =
-        let t = pairs_at (IsLaneOf told) b.lanes lanes k x h.works at in
-        let s = pairs_at (IsWorkOf told) t.0 x.works i (get_or x.works i d) t.2 (slice_get-get_or x.works i d less) in
-        acceptable_of told s.0 (get_or x.works i d) (can.statements k t.0 t.1 i s.0 s.1) s.2
 
-    all_shared : (k : ℕ) (x : Lane) → 0 < k → slice_get lanes k ≡ Some x → (i : ℕ) (d : Work) → i < length x.works
-        → IsShared (get_or x.works i d)
-    all_shared k x above at i d less =
-        let t = pairs_at (IsLaneOf told) b.lanes lanes k x h.works at in
-        let s = pairs_at (IsWorkOf told) t.0 x.works i (get_or x.works i d) t.2 (slice_get-get_or x.works i d less) in
-        shared_of told s.0 (get_or x.works i d) (free_at t.0 i s.0 (can.free k t.0 above t.1) s.1) s.2
+-- so may lanes with no statement
+pub lanes_new : (count : ℕ) (lanes : List Lane) → AreNewLanes count lanes → 1 ≤ count → count ≤ 16 → AreLanes lanes
+lanes_new count lanes h some few =
+    let many = h.many in
+    record {
+      some = omega arith;
+      few = omega arith;
+      new = λ i x at. (h.new i x at).0;
+      acceptable = λ x at. subst (All IsAcceptable) (sym (h.new 0 x at).1) (λ i d less. absurd (omega (less, arith)));
+      shared = λ i x above at. subst (All IsShared) (sym (h.new i x at).1) (λ j d less. absurd (omega (less, arith)));
+    }
+
+pub idle_new : (lanes : List Lane) → ((i : ℕ) (x : Lane) → slice_get lanes i ≡ Some x → x.works ≡ []) → AreIdle lanes
+idle_new [] h = tt
+idle_new (x ∷ lanes) h = (h 0 x refl, idle_new lanes (λ i y at. h (suc i) y at))

@@ -22,10 +22,11 @@ use Rattle.fish_run.specs.Faults.{lane_fault}
 use Rattle.fish_run.specs.declared.fault.RunFault.{RunFault}
 use Rattle.fish_whole.specs.Whole.{Whole}
 
--- what ran at once in one table: whether that table was begun for it, since the one before was full; where it lies, its lanes with
--- their items, and what was found once they had ended
+-- what ran at once in one table: whether it was begun for it; what each lane was given; where it lies, its lanes with their
+-- items, and what was found once they had ended
 pub record Round : Type 0 where
   pub fresh : Bool
+  pub given : List (List Work)
   pub span : Span
   pub lanes : List Lane
   pub end : BlockEnd
@@ -45,7 +46,7 @@ rounds_of (b ∷ blocks) = b.rounds ++ rounds_of blocks
 abbrev pub first_registry : List CatRow → Registry
 first_registry rows = record { rows = rows; waiting = None; version = 0 }
 
--- the items of a block's first lane, and with the boundary that was found behind them
+-- the items of a block's first lane, and with the boundary behind them
 abbrev pub first_items : List Lane → List Item
 first_items [] = []
 first_items (x ∷ lanes) = x.items
@@ -204,8 +205,6 @@ pub record IsFirstFault (lanes : List Lane) (why : RunFault) : Type 0 where
   pub stopped : lane.fault ≢ cause.None
   pub is : why ≡ lane_fault lane.fault
   pub before : (i : ℕ) (x : Lane) → i < at → slice_get lanes i ≡ Some x → x.fault ≡ cause.None
-
--- ---- marks
 
 -- all refusals by a full log name marks
 abbrev pub AreMarked : View → List Round → Type 0

@@ -1,8 +1,7 @@
 pub mod Blocks
 pub mod Faults
-pub mod Going
+pub mod Joins
 pub mod Ran
-pub mod Reading
 pub mod Reports
 pub mod Rolls
 pub mod Rounds
@@ -10,4 +9,6 @@ pub mod Running
 pub mod Runs
 pub mod Saying
 pub mod Steps
+pub mod Tables
 pub mod Works
+pub mod within

@@ -3,31 +3,30 @@ use Rattle.std.specs.Prelude.{ℕ, ◌≡◌, ◌+◌, ◌≤◌, List, [], ◌�
 use Rattle.fish_catalog.specs.Clamps.{clamped}
 use Rattle.fish_catalog.specs.declared.commit.Commit.{Commit}
 use Rattle.fish_catalog.specs.declared.entry.Entry.{Entry}
+use Rattle.fish_feed.specs.Works.{AreDone, Pairs}
 use Rattle.fish_image.specs.Stands.{Stands}
 use Rattle.fish_outside.specs.Told.{Files, Gained, GainedPart}
 use Rattle.fish_recover.specs.Stores.{IsOpened}
 use Rattle.fish_recover.specs.declared.opened.Opened.{Opened}
 use Rattle.fish_report.specs.ReportText.{report_text}
 use Rattle.fish_report.specs.declared.item.Item.{Item}
-use Rattle.fish_rule.specs.ClosedLog.{IsClosed}
-use Rattle.fish_rule.specs.Start.{table_lines}
 use Rattle.fish_rule.specs.declared.close.Remains.{Remains}
-use Rattle.fish_rule.specs.declared.view.View.{View}
-use Rattle.fish_run.specs.Blocks.{AreAcknowledged, AreInOne, Block, FullsAgree, IsFirstFault, Round, TellsRun, left_table}
+use Rattle.fish_run.specs.Blocks.{AreAcknowledged, Block, IsFirstFault, Round, TellsRun}
 use Rattle.fish_run.specs.Blocks.{rounds_of, with_cut}
-use Rattle.fish_run.specs.Rounds.{AreAll, AreRounds}
+use Rattle.fish_run.specs.Rounds.{AreAll, AreRounds, FollowOn, given_in}
 use Rattle.fish_run.specs.Reports.{are_refused, first_item, report_of, whole_report}
-use Rattle.fish_run.specs.Works.{Pairs}
+use Rattle.fish_run.specs.Tables.{AreRenewed, LastTable}
 use Rattle.fish_run.specs.declared.fault.RunFault.{RunFault}
 use Rattle.fish_run.specs.declared.fault.RunFault.TheVariants as fault
 use Rattle.fish_script.specs.declared.script.Block as script
 use Rattle.fish_store.specs.Ending.{IsLost as LosesLog, IsShown}
 
--- a block that ran has the lanes of one of the script, with the files that they name and the numbers from 1 on, and its rounds do all
--- that they are to do
+-- a block that ran is one of the script: what its lanes were given over its rounds does their statements, with the files that they name,
+-- each round does what the one before it left to do and what was given for it, and the last one leaves nothing
 pub record IsBlockOf (told : Option Files) (s : script.Block) (b : Block) : Type 0 where
   pub several : b.several ≡ s.several
-  pub rounds : AreRounds told s.lanes b.rounds
+  pub follow : FollowOn b.rounds
+  pub done : Pairs (AreDone told) s.lanes (given_in b.rounds)
   pub all : AreAll b.rounds
 
 -- these are the first blocks of the script
@@ -82,19 +81,9 @@ opened_item o = first_item o.made o.count
 abbrev pub entries_of : Remains → ℕ
 entries_of remains = remains.base + length remains.log
 
--- what is left is that of a closed log, with the buckets of the table with which the run began; refusals of a full log in the rounds of
--- the table that is left agree, by the end that such a table has; and where it begins where the first one did, it is the first one, and
--- no other was begun
-pub record LastTable (o : Opened) (remains : Remains) (fresh : Bool) (rounds : List Round) (cut : Option Round) : Type 0 where
-  pub view : View
-  pub closed : IsClosed view remains
-  pub heads : length remains.heads ≡ o.log.key.buckets
-  pub fulls : FullsAgree (left_table fresh [] rounds cut) view.about.end
-  pub end : view.about.end ≡ view.about.line + table_lines o.log.shape.pages view.about.number view.about.line
-  pub same : remains.base ≡ o.log.key.number → (view.about ≡ o.log.key) × AreInOne (with_cut rounds cut) × (fresh ≡ false)
-
--- a run that came to its end: each block of the script ran; the text of their items, and that the log was closed, was written; refusals of
--- a full log agree, what is left is that of a closed log, and it has its buckets; and the disk keeps all of the log
+-- a run that came to its end: each block of the script ran; where a round found the table full, a new one was begun after it, but near
+-- the limits of a log; the text of their items, and that the log was closed, was written; refusals of a full log agree, what is left is
+-- that of a closed log, and it has its buckets; and the disk keeps all of the log
 pub record IsWhole
     {D : Type 0}
     (content : D → Option (List ℕ))
@@ -105,6 +94,7 @@ pub record IsWhole
     (refused : Bool) : Type 0 where
   pub blocks : List Block
   pub are : Pairs (IsBlockOf told) text blocks
+  pub renewed : AreRenewed (rounds_of blocks) false
   pub last : LastTable o remains false (rounds_of blocks) None
   pub written : Gained old new (report_text (whole_report (opened_item o) blocks (entries_of remains)))
   pub refused_is : refused ≡ are_refused blocks
@@ -118,9 +108,9 @@ WritesPart false first told text count old new blocks = GainedPart old new (repo
 WritesPart true first told text count old new blocks =
     Pairs (IsBlockOf told) text blocks × GainedPart old new (report_text (whole_report first blocks count))
 
--- a run that a fault stopped: the first blocks ran, and perhaps one more, in which a lane stopped at the fault; what is left is that
--- of a closed log; a first part of the report was written, without the cut block, and all of it where a file couldn't be read; and the
--- disk keeps what was committed
+-- a run that a fault stopped: the first blocks ran, and perhaps the first rounds of one more, in the last of which a lane stopped at the
+-- fault, but for one of a file that couldn't be read; what is left is that of a closed log; a first part of the report was written,
+-- without the cut block, and all of it where it was a file; and the disk keeps what was committed
 pub record IsStopped
     {D : Type 0}
     (content : D → Option (List ℕ))
@@ -136,10 +126,11 @@ pub record IsStopped
   pub are : AreFirst told text blocks
   pub next : AreNextOf told text (length blocks) (with_cut part cut)
   pub named : IfSome cut (λ b. IsFirstFault b.lanes why)
+  pub renewed : AreRenewed (with_cut (rounds_of blocks ++ part) cut) true
   pub last : LastTable o remains fresh (rounds_of blocks ++ part) cut
   pub ended : Bool
   pub written : WritesPart ended (opened_item o) told text (entries_of remains) old new blocks
-  pub input : why ≡ fault.Input → (with_cut part cut ≡ []) × Gained old new (report_text (report_of (opened_item o) blocks))
+  pub input : why ≡ fault.Input → (cut ≡ None) × Gained old new (report_text (report_of (opened_item o) blocks))
   pub keeps : (c : Commit) (log : List Entry) (t : ℕ) → StoodFor content images since moment disk disk' o c log t
       → Keeps (images disk') (since disk' t) c log ended (rounds_of blocks ++ part) cut remains
 

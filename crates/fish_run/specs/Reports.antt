@@ -7,7 +7,7 @@ use Rattle.fish_report.specs.ReportText.{is_refusal}
 use Rattle.fish_report.specs.declared.item.Item.{Item}
 use Rattle.fish_report.specs.declared.item.Item.TheVariants as item
 use Rattle.fish_run.specs.Blocks.{Block, Round}
-use Rattle.fish_run.specs.Rounds.{block_said}
+use Rattle.fish_run.specs.Joins.{block_said}
 use Rattle.fish_run.specs.declared.saying.Said.{Said}
 
 -- the number of a lane stands above its items, where there are several

@@ -9,9 +9,12 @@ use Rattle.fish_rule.specs.Passes.{view}
 use Rattle.fish_run.specs.Blocks.{Block, Round, first_registry, with_cut}
 use Rattle.fish_run.specs.Ran.{IsBlockOf}
 use Rattle.fish_run.specs.Reports.{block_items, said_refused}
-use Rattle.fish_run.specs.Rounds.{AreRounds, block_said}
+use Rattle.fish_run.specs.Joins.{block_said}
+use Rattle.fish_run.specs.Rounds.{AreRounds}
 use Rattle.fish_run.specs.Runs.{CanClose, CanGoOn}
-use Rattle.fish_run.specs.Steps.{Counts, HasRounds, RunsAll, RunsSome, StopsRounds}
+use Rattle.fish_run.specs.Steps.{HasRounds, RunsAll, RunsSome, StopsRounds}
+use Rattle.fish_run.specs.within.Counting.{Counts}
+use Rattle.fish_run.specs.Tables.{AreRenewed}
 use Rattle.fish_run.specs.declared.fault.RunFault.TheVariants as fault
 use Rattle.fish_run.specs.declared.lasting.Stopped.{Stopped}
 use Rattle.fish_run.specs.declared.running.Lasts.{Lasts}
@@ -39,13 +42,14 @@ pub record EndsOne
   pub is : IsBlockOf told text block
   pub ran : HasRounds content images since moment (point_at disk a.store) (point_at disk' b.store) a.count
       (registry_of (view a.store.pass) a.store.registrar) block.rounds false b.count (registry_of (view b.store.pass) b.store.registrar)
+  pub renewed : AreRenewed block.rounds false
   pub written : Gained old new (report_text (block_items block))
   pub refused : now ≡ before || said_refused (block_said block.rounds)
 
 -- rounds and one that was cut are the first ones of the block, of which nothing was written; or all of it ran, and a first part was written
 abbrev pub HowStopped : Option Files → script.Block → Option (List ℕ) → Option (List ℕ) → List Round → Option Round → Stopped → Type 0
 HowStopped told text old new rounds cut s =
-    (AreRounds told text.lanes (with_cut rounds cut) × Gained old new [] × (s.why ≡ fault.Input → with_cut rounds cut ≡ []))
+    (AreRounds told text.lanes (with_cut rounds cut) × Gained old new [] × (s.why ≡ fault.Input → cut ≡ None))
     ⊎ ((b : Block) × IsBlockOf told text b × (b.rounds ≡ rounds) × (cut ≡ None) × GainedPart old new (report_text (block_items b))
     × (s.why ≢ fault.Input))
 
@@ -61,6 +65,7 @@ pub record StopsOne
   pub cut : Option Round
   pub stops : StopsRounds content images since moment (point_at disk a.store) disk' a.count
       (registry_of (view a.store.pass) a.store.registrar) rounds cut s
+  pub renewed : AreRenewed (with_cut rounds cut) true
   pub how : HowStopped told text old new rounds cut s
 
 -- ---- a run

@@ -1,5 +1,5 @@
 -- What a run of a script asks for and leaves between two blocks.
-use Rattle.std.specs.Prelude.{ℕ, ◌≡◌, ◌+◌, ◌^◌, List, None, Option, Some, slice_get}
+use Rattle.std.specs.Prelude.{ℕ, ◌≡◌, ◌+◌, ◌^◌, List, None, Option}
 use Rattle.fish_lanes.specs.Controlling.{CanControl}
 use Rattle.fish_lanes.specs.Ending.{HasEnd}
 use Rattle.fish_lanes.specs.Registering.{KnowsRegistry, registry_of}
@@ -8,16 +8,10 @@ use Rattle.fish_rule.specs.Passes.{IsPassOf, view}
 use Rattle.fish_rule.specs.Start.{table_lines}
 use Rattle.fish_rule.specs.declared.table.Log.{Log}
 use Rattle.fish_scan.specs.Colder.{IsBelow}
-use Rattle.fish_script.specs.Runnable.{AreRunnable}
-use Rattle.fish_script.specs.declared.script.Statement.{Statement}
 use Rattle.fish_store.specs.Points.{point_at}
 use Rattle.fish_store.specs.Sound.{IsSoundBehind, MayGoOn}
 use Rattle.fish_store.specs.declared.store.Store.{Store}
 use Rattle.fish_whole.specs.Whole.{Whole}
-
--- the statements of each lane can be run
-abbrev pub AllRunnable : List (List Statement) → Type 0
-AllRunnable texts = (i : ℕ) (ss : List Statement) → slice_get texts i ≡ Some ss → AreRunnable ss
 
 -- the table has the buckets of its shape, and as many lines as a table of that shape has which begins there
 pub record IsTable (log : Log) : Type 0 where

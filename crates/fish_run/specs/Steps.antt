@@ -1,6 +1,7 @@
 -- What the steps of a run leave. Private clauses speak of it.
-use Rattle.std.specs.Prelude.{ℕ, ◌≡◌, ◌≢◌, ◌⊎◌, ◌<◌, ◌≤◌, List, [], ◌∷◌, ◌++◌, Bool, false, Option, Some, None}
+use Rattle.std.specs.Prelude.{ℕ, ◌≡◌, ◌≢◌, ◌⊎◌, ◌<◌, ◌≤◌, List, [], ◌∷◌, ◌++◌, Bool, false, true, Option, Some, None}
 use Rattle.std.specs.Prelude.{Result, Ok, Err, IfSome, length, slice_get}
+use Rattle.fish_feed.specs.Works.{Pairs}
 use Rattle.fish_lanes.specs.Blocks.{AreEnded, HasRegistered, IsBlockSpan, NameMarks, TellsBlock}
 use Rattle.fish_lanes.specs.Controlling.{IsCommitted}
 use Rattle.fish_lanes.specs.Outcome.{IsFullIn, LanesSayPlans, TellsShutBy}
@@ -12,7 +13,6 @@ use Rattle.fish_lanes.specs.Spans.{Span}
 use Rattle.fish_lanes.specs.declared.block.BlockEnd.{BlockEnd}
 use Rattle.fish_lanes.specs.declared.lane.Lane.{Lane}
 use Rattle.fish_lanes.specs.declared.work.LaneFault.TheVariants as cause
-use Rattle.fish_outside.specs.Causes.{Rose}
 use Rattle.fish_outside.specs.Told.{Files, Gained, GainedPart}
 use Rattle.fish_registry.specs.declared.registrar.Registrar.{Registrar}
 use Rattle.fish_report.specs.ReportText.{report_text}
@@ -28,7 +28,7 @@ use Rattle.fish_run.specs.Faults.{IsUndamaged}
 use Rattle.fish_run.specs.Ran.{AreFirst, AreNextOf, IsBlockOf}
 use Rattle.fish_run.specs.Reports.{are_refused, report_of}
 use Rattle.fish_run.specs.Runs.{CanClose}
-use Rattle.fish_run.specs.Works.{Pairs}
+use Rattle.fish_run.specs.Tables.{AreRenewed}
 use Rattle.fish_run.specs.declared.fault.RunFault.{RunFault}
 use Rattle.fish_run.specs.declared.fault.RunFault.TheVariants as fault
 use Rattle.fish_run.specs.declared.lasting.Stopped.{Stopped}
@@ -131,21 +131,6 @@ pub record HasRunFirst
 
 -- ---- why a run stops
 
--- counts of faults that didn't fall, of the host, the output and the disk
-pub record Counts : Type 0 where
-  pub host : ℕ
-  pub out : ℕ
-  pub disk : ℕ
-
-abbrev pub AreLater : Counts → Counts → Type 0
-AreLater a b = (a.host ≤ b.host) × ((a.out ≤ b.out) × (a.disk ≤ b.disk))
-
--- where the run stopped at one of them, its count rose
-pub record IsCausedBy (a b : Counts) (why : RunFault) : Type 0 where
-  pub input : why ≡ fault.Input → Rose a.host b.host
-  pub output : why ≡ fault.Output → Rose a.out b.out
-  pub disk : why ≡ fault.Disk → Rose a.disk b.disk
-
 -- a fault stopped rounds of a block, before a next one or in it, when the store was at a moment: it is there still, and may be closed,
 -- unless memory ran out for its table
 pub record StopsRounds
@@ -180,6 +165,7 @@ pub record WritesBlocks
   pub blocks : List Block
   pub are : Pairs (IsBlockOf told) text blocks
   pub ran : HasRounds content images since moment p q from r (rounds_of blocks) false to t
+  pub renewed : AreRenewed (rounds_of blocks) false
   pub written : Gained old new (report_text (report_of begin blocks))
   pub refused_is : refused ≡ are_refused blocks
 
@@ -195,6 +181,7 @@ pub record RunsAll
   pub blocks : List Block
   pub all : Pairs (IsBlockOf told) text blocks
   pub ran : HasRunFirst content images since moment p q from r (rounds_of blocks) false None end
+  pub renewed : AreRenewed (rounds_of blocks) false
   pub written : Gained old new (report_text (report_of begin blocks))
   pub refused_is : refused ≡ are_refused blocks
 
@@ -213,8 +200,9 @@ pub record RunsSome
   pub are : AreFirst told text blocks
   pub next : AreNextOf told text (length blocks) (with_cut part cut)
   pub stops : StopsRounds content images since moment p disk from r (rounds_of blocks ++ part) cut s
+  pub renewed : AreRenewed (with_cut (rounds_of blocks ++ part) cut) true
   pub written : GainedPart old new (report_text (report_of begin blocks))
-  pub input : s.why ≡ fault.Input → (with_cut part cut ≡ []) × Gained old new (report_text (report_of begin blocks))
+  pub input : s.why ≡ fault.Input → (cut ≡ None) × Gained old new (report_text (report_of begin blocks))
 
 -- all blocks ran, and all of the log was committed
 pub record CommitsAll

@@ -1,6 +1,7 @@
 //! The rounds of a block: its lanes go on at once in one table, and where one finds it full, in a further round in a new one.
 
 ghost use Rattle.std.specs.Prelude.{◌≡◌, ◌≢◌, ◌≤◌, length, ℕ, List, [], IfErr, IfOk, IsSome, MatchOption, OnOk, Some, None, false, true};
+ghost use Rattle.std.specs.List.{list_any};
 ghost use Rattle.fish_lanes.specs.Blocks.{AreKept, AreLanes, At};
 ghost use Rattle.fish_lanes.specs.Ending.{HasEnd};
 ghost use Rattle.fish_lanes.specs.Gains.{WasShut};
@@ -10,9 +11,10 @@ ghost use Rattle.fish_outside.specs.Causes.{Rose};
 ghost use Rattle.fish_rule.specs.Passes.{view};
 ghost use Rattle.fish_lanes.specs.Controlling.{bound_items};
 ghost use Rattle.fish_run.specs.Blocks.{IsFirstFault};
-ghost use Rattle.fish_run.specs.Going.{EndsBlock, EndsRounds, HasStepped, IsRenewed, RestOf, StepsLane, StopsBlock, StopsTurn, TurnsOn};
+ghost use Rattle.fish_run.specs.within.Going.{HasStepped, RestOf, StepsLane};
+ghost use Rattle.fish_run.specs.within.Turning.{FindNoneFull, IsRenewed, StopsTurn, TurnsAll, TurnsOn, tells_full};
+ghost use Rattle.fish_run.specs.Joins.{goes_on};
 ghost use Rattle.fish_run.specs.Rolls.{StopsRoll};
-ghost use Rattle.fish_run.specs.Rounds.{nothing_said};
 ghost use Rattle.fish_run.specs.Runs.{Behind, CanClose, CanGoOn};
 ghost use Rattle.fish_run.specs.Steps.{AreWhole, Leaves};
 ghost use Rattle.fish_store.specs.Points.{point_at};
@@ -21,7 +23,7 @@ ghost use Rattle.fish_whole.specs.Whole.{Later};
 
 use crate::fault::RunFault;
 use crate::lasting::{Stopped, roll_on};
-use crate::saying::{Said, say, say_nothing};
+use crate::saying::{Said, say};
 use crate::telling::fault_of;
 use fish_disk::Disk;
 use fish_lanes::{BlockEnd, Boundary, Gate, Lane, Work, Works, run_block};
@@ -32,14 +34,6 @@ use fish_store::Store;
 use std::alloc::{AllocError, Global};
 use std::mem::replace;
 use std::thread::Threads;
-
-/// A store after a block, and what the block's lanes said.
-#[derive(Drop)]
-pub(crate) struct Ended {
-    pub store: Store,
-    pub said: Vec<Said>,
-    pub end: BlockEnd,
-}
 
 /// What a round of a block begins with.
 #[derive(Drop)]
@@ -65,79 +59,32 @@ pub(crate) struct Turned {
     pub more: bool,
 }
 
-/// Runs the lanes of a block after a log of so many entries, up to the first fault, in as many rounds as the table is found full and
-/// something of it can be committed.
-pub(crate) fn run_rounds<R: Threads + Sync, D: Disk + Send, G: Gate + Sync>(
+/// Runs lanes up to the first fault, round after round, until they have done all that they have: in one more for each
+/// table that was full and has an entry.
+pub(crate) fn run_turns<R: Threads + Sync, D: Disk + Send, G: Gate + Sync>(
     rt: &R,
     alloc: Global,
-    store: Store,
-    from: u32,
-    lanes: Vec<Lane>,
-    disk: &mut D,
-    gate: &G,
-) -> Result<Ended, Stopped>
-    requires go { CanGoOn D.images disk.old store from }
-    requires lanes { AreLanes lanes.items }
-    ensures ended { IfOk result (EndsBlock D.content D.images D.since D.moment disk.old store from lanes.items disk.new) }
-    ensures stopped { IfErr result (StopsBlock D.content D.images D.since D.moment disk.old store from lanes.items disk.new) }
-    ensures inner { IfErr result (λ s. (s.why ≢ RunFault.Input) × (s.why ≢ RunFault.Output)) }
-    ensures rises { D.faults disk.old ≤ D.faults disk.new }
-    ensures disk { IfErr result (λ s. s.why ≡ RunFault.Disk → Rose (D.faults disk.old) (D.faults disk.new)) }
-{
-    let mut lanes = lanes;
-    match say_nothing(alloc, lanes.as_slice()) {
-        Ok(nothing) => {
-            let mut said = nothing;
-            let turned = run_turns(
-                rt,
-                alloc,
-                store,
-                from,
-                lanes.as_mut_slice(),
-                said.as_mut_slice(),
-                disk,
-                gate,
-            )?;
-            Ok(Ended {
-                store: turned.next.store,
-                said,
-                end: turned.end,
-            })
-        }
-        Err(_) => Err(out_of_memory(store)),
-    }
-}
-
-/// Runs lanes that said nothing yet, round after round.
-fn run_turns<R: Threads + Sync, D: Disk + Send, G: Gate + Sync>(
-    rt: &R,
-    alloc: Global,
-    store: Store,
-    from: u32,
+    start: RoundStart,
     lanes: &mut [Lane],
     said: &mut [Said],
     disk: &mut D,
     gate: &G,
 ) -> Result<Turned, Stopped>
-    requires go { CanGoOn D.images disk.old store from }
+    requires go { CanGoOn D.images disk.old start.store start.from }
     requires lanes { AreLanes lanes.old }
-    requires said { said.old ≡ nothing_said lanes.old }
-    ensures ended { IfOk result (λ t. EndsRounds D.content D.images D.since D.moment disk.old store from lanes.old disk.new
-        t.next.store t.end said.new) }
-    ensures stopped { IfErr result (StopsBlock D.content D.images D.since D.moment disk.old store from lanes.old disk.new) }
+    requires many { length lanes.old ≡ length said.old }
+    ensures on { IfOk result (TurnsAll D.content D.images D.since D.moment disk.old start lanes.old said.old disk.new
+        lanes.new said.new) }
+    ensures stopped { IfErr result (StopsTurn D.content D.images D.since D.moment disk.old start lanes.old said.old disk.new) }
     ensures inner { IfErr result (λ s. (s.why ≢ RunFault.Input) × (s.why ≢ RunFault.Output)) }
     ensures rises { D.faults disk.old ≤ D.faults disk.new }
     ensures disk { IfErr result (λ s. s.why ≡ RunFault.Disk → Rose (D.faults disk.old) (D.faults disk.new)) }
 {
-    let mut start = RoundStart {
-        store,
-        from,
-        fresh: false,
-        bound: None,
-    };
+    let mut start = start;
     loop {
         let turned = run_turn(rt, alloc, start, lanes, said, disk, gate)?;
-        if !turned.more {
+        let more = turned.more;
+        if !more {
             return Ok(turned);
         }
         start = turned.next;
@@ -229,7 +176,7 @@ fn renew<D: Disk>(
 }
 
 /// A store with which the run stops, since memory ran out.
-fn out_of_memory(store: Store) -> Stopped
+pub(crate) fn out_of_memory(store: Store) -> Stopped
     ensures store { result.store ≡ Some store }
     ensures why { result.why ≡ RunFault.Memory }
 {
@@ -269,25 +216,32 @@ fn run_round<R: Threads + Sync, D: Disk + Send, G: Gate + Sync>(
     run_block(rt, alloc, store, disk, lanes, gate)
 }
 
-/// Whether a lane goes on: with what it handed back; and where a new table may be begun, with the rest of its last file.
-fn go_on(lanes: &[Lane], full: bool) -> bool
+/// Whether a lane goes on: with what it handed back; and where a new table may be begun, also where it found this one full.
+fn go_on(lanes: &[Lane], some: bool) -> bool
     ensures done { result ≡ false → LeaveNone lanes.now }
-    ensures left { result ≡ true → full ≡ false → LeaveNone lanes.now → ⊥ }
+    ensures left { result ≡ true → some ≡ false → LeaveNone lanes.now → ⊥ }
+    ensures full { result ≡ false → some ≡ true → FindNoneFull lanes.now }
 {
     for lane in lanes {
-        if lane.left.len() > 0 || (full && is_cut(lane)) {
+        if lane.left.len() > 0 || (some && is_full(lane)) {
             return true;
         }
     }
     false
 }
 
-/// Whether a lane's last statement is a file of which records are left.
-fn is_cut(lane: &Lane) -> bool {
-    match lane.items.as_slice().last() {
-        Some(Item::IngestFull { .. }) => true,
-        _ => false,
-    }
+/// Whether an item of a lane tells that the table is full.
+fn is_full(lane: &Lane) -> bool
+    ensures { result ≡ list_any tells_full lane.now.items }
+{
+    lane.items.as_slice().iter().any(|item| tells_full(item))
+}
+
+/// Whether this one does.
+fn tells_full(item: &Item) -> bool
+    ensures { result ≡ tells_full item.now }
+{
+    matches!(item, Item::IngestFull { .. })
 }
 
 /// Keeps what lanes said in a round, and gives each what it goes on with.
@@ -323,6 +277,7 @@ fn step(
     ensures { OnOk result (StepsLane full fresh (bound_items bound) said.old said.new lane.old lane.new) }
 {
     let rest = if full { rest_of(alloc, lane)? } else { None };
+    let goes = goes_on(lane.works.as_slice());
     let mut works = replace(&mut lane.left, Works::new(alloc));
     match rest {
         Some(work) => works.push_first(work)?,
@@ -330,7 +285,17 @@ fn step(
     }
     lane.works = works;
     let items = replace(&mut lane.items, Items::new(alloc));
-    say(&mut said.items, fresh, bound, items)
+    say(&mut said.items, fresh, goes, bound, items)
+}
+
+/// Whether the first of these statements goes on with a file.
+fn goes_on(works: &[Work]) -> bool
+    ensures { result ≡ goes_on works.now }
+{
+    match works.first() {
+        Some(Work::Ingest { begin, .. }) => *begin == Begin::After,
+        _ => false,
+    }
 }
 
 /// The rest of a lane's last file, where its last item says that the table was full.

@@ -17,13 +17,13 @@ ghost use Rattle.fish_run.specs.Ran.{IsLost, IsStopped, IsWhole};
 ghost use Rattle.fish_run.specs.Reports.{first_item, said_items, said_refused};
 ghost use Rattle.fish_run.specs.Running.{EndsOne, EndsRun, StopsOne, StopsRun, counts_of};
 ghost use Rattle.fish_run.specs.Runs.{CanClose, CanGoOn, IsNewStore};
-ghost use Rattle.fish_run.specs.Steps.{AreLater, Finishes, IsCausedBy};
+ghost use Rattle.fish_run.specs.Steps.{Finishes};
+ghost use Rattle.fish_run.specs.within.Counting.{AreLater, IsCausedBy};
 ghost use Rattle.fish_script.specs.Runnable.{CanRun, IsRunnableBlock};
 
-use crate::building::lanes_of;
 use crate::fault::RunFault;
 use crate::lasting::{Stopped, commit};
-use crate::rounds::{Ended, run_rounds};
+use crate::parts::{Ended, run_lanes};
 use crate::saying::Said;
 use crate::telling::{has_refusal, write_block, write_opened};
 use fish_disk::Disk;
@@ -61,8 +61,8 @@ struct Lasts {
 /// the run after its block. Where none came, the log is committed after the last block; it is closed in any case.
 /// The gate is told where each lane of a block is.
 ///
-/// What was written is the text of the blocks' items: all of it where no fault came, all of it before the block whose
-/// file couldn't be read, and else a first part. Where the disk's content is told in the end, these items are true of a
+/// What was written is the text of the blocks' items: all of it where no fault came, all of it before the block in
+/// which a file couldn't be read, and else a first part. Where the disk's content is told in the end, these items are true of a
 /// whole log: it begins with that for which the disk stood as the store was opened, and ends with what is left. A block
 /// runs in one round, and in one more for each table that its lanes found full, as long as something of it can be
 /// committed: then a new table is begun, and the file that was cut goes on there. A crash leaves all of the log after a
@@ -77,6 +77,8 @@ pub fn run_script<R: Threads + Sync, H: Host, D: Disk + Send, W: Sink, G: Gate +
     out: &mut W,
     gate: &G,
 ) -> Ran
+where
+    H::Feed: Drop,
     requires opened { (c : Commit) × (log : List Entry)
         × IsOpened (D.content disk.old) (D.images disk.old) c log opened }
     requires script { CanRun script.now }
@@ -206,6 +208,8 @@ fn run_store<R: Threads + Sync, H: Host, D: Disk + Send, W: Sink, G: Gate + Sync
     refused: &mut bool,
     gate: &G,
 ) -> Result<Lasts, Stopped>
+where
+    H::Feed: Drop,
     requires new { IsNewStore D.images disk.old store }
     requires count { count ≡ store.log.key.number }
     requires script { CanRun script.now }
@@ -248,6 +252,8 @@ fn run_blocks<R: Threads + Sync, H: Host, D: Disk + Send, W: Sink, G: Gate + Syn
     refused: &mut bool,
     gate: &G,
 ) -> Result<Lasts, Stopped>
+where
+    H::Feed: Drop,
     requires new { IsNewStore D.images disk.old store }
     requires count { count ≡ store.log.key.number }
     requires script { CanRun script.now }
@@ -297,6 +303,8 @@ fn run_one<R: Threads + Sync, H: Host, D: Disk + Send, W: Sink, G: Gate + Sync>(
     refused: &mut bool,
     gate: &G,
 ) -> Result<Lasts, Stopped>
+where
+    H::Feed: Drop,
     requires go { CanGoOn D.images disk.old lasts.store lasts.count }
     requires block { IsRunnableBlock block.now }
     ensures ended { IfOk result (EndsOne D.content D.images D.since D.moment disk.old disk.new lasts (H.files host.new)
@@ -310,11 +318,8 @@ fn run_one<R: Threads + Sync, H: Host, D: Disk + Send, W: Sink, G: Gate + Sync>(
         (counts_of H.faults W.faults D.faults host.new out.new disk.new) s.why) }
 {
     let Lasts { store, count: from } = lasts;
-    let lanes = match lanes_of(alloc, host, block.lanes.as_slice()) {
-        Ok(lanes) => lanes,
-        Err(refusal) => return Err(stopped(store, RunFault::from(refusal))),
-    };
-    let Ended { store, said, end } = run_rounds(rt, alloc, store, from, lanes, disk, gate)?;
+    let texts = block.lanes.as_slice();
+    let Ended { store, said, end } = run_lanes(rt, alloc, store, from, texts, host, disk, gate)?;
     let told = tell(
         alloc,
         out,

@@ -1,11 +1,10 @@
 //! What the lanes of a block say over its rounds.
 
-ghost use Rattle.std.specs.Prelude.{◌≡◌, ◌≢◌, ◌++◌, ◌∷◌, ℕ, List, [], reverse, None, Some, IfOk, OnOk};
+ghost use Rattle.std.specs.Prelude.{◌≡◌, ◌++◌, ◌∷◌, [], Bool, false, true, reverse, None, IfOk, IfSome, OnOk};
 ghost use Rattle.fish_lanes.specs.Controlling.{bound_items};
-ghost use Rattle.fish_run.specs.Rounds.{first_more, nothing_said, said_after, sum_of, with_more};
-ghost use Rattle.fish_report.specs.declared.item.Item.TheVariants.{IngestFull as full_item};
-ghost use Rattle.fish_run.specs.Saying.{TakesFull};
-ghost use Rattle.fish_run.specs.declared.saying.Counted.{Counted};
+ghost use Rattle.fish_report.specs.declared.item.Item.{Item};
+ghost use Rattle.fish_run.specs.Joins.{first_joined, is_part, joined, nothing_said, said_after, sum_of, with_more};
+ghost use Rattle.fish_run.specs.Saying.{TakesPart};
 
 use fish_lanes::{Boundary, Lane};
 use fish_report::{Item, Items};
@@ -67,19 +66,18 @@ impl ItemList {
         Ok(())
     }
 
-    /// Takes away the last item where it says that the table was full, and gives its counts.
-    fn take_full(&mut self) -> Result<Option<Counted>, AllocError>
-        ensures { IfOk result (TakesFull self.old self.new) }
+    /// Takes away the last item where it is of a file that may go on.
+    fn take_part(&mut self) -> Result<Option<Item>, AllocError>
+        ensures { IfOk result (λ part. (fresh : Bool) → TakesPart fresh self.old self.new part) }
     {
         let Some(last) = self.items.pop() else {
             return Ok(None);
         };
-        let counted = counts_of(&last);
-        match counted {
-            Some(_) => drop(last),
-            None => self.push(last)?,
+        if is_part(&last) {
+            return Ok(Some(last));
         }
-        Ok(counted)
+        self.push(last)?;
+        Ok(None)
     }
 
     /// Puts items after the others, the last of which comes first here.
@@ -93,15 +91,24 @@ impl ItemList {
     }
 }
 
-/// The counts of an item that says that the table was full.
-fn counts_of(item: &Item) -> Option<Counted>
-    ensures none { result ≡ None → (file : List ℕ) (line lines end stored refused : ℕ)
-        → item.now ≢ full_item file line lines end stored refused }
-    ensures some { (c : Counted) → result ≡ Some c → (file : List ℕ) × (line : ℕ) × (lines : ℕ) × (end : ℕ)
-        × (item.now ≡ full_item file line lines end c.stored c.refused) }
+/// Whether an item is of a file that may go on.
+fn is_part(item: &Item) -> bool
+    ensures { result ≡ is_part item.now }
 {
     match item {
-        Item::IngestFull {
+        Item::Ingested { .. } => true,
+        Item::IngestFull { .. } => true,
+        _ => false,
+    }
+}
+
+/// The counts of the first parts of a file to which those of the next one are added.
+fn counts_of(fresh: bool, part: &Item) -> Option<Counted>
+    ensures none { result ≡ None → (y : Item) → joined fresh part.now y ≡ part.now }
+    ensures some { IfSome result (λ c. (y : Item) → joined fresh part.now y ≡ with_more c.stored c.refused y) }
+{
+    match part {
+        Item::Ingested {
             stored,
             refused,
             ..
@@ -109,7 +116,40 @@ fn counts_of(item: &Item) -> Option<Counted>
             stored: *stored,
             refused: *refused,
         }),
+        Item::IngestFull {
+            stored,
+            refused,
+            ..
+        } => counts_of_full(fresh, *stored, *refused),
         _ => None,
+    }
+}
+
+/// Those of one that found the table full: none where no new one was begun.
+fn counts_of_full(fresh: bool, stored: u32, refused: u32) -> Option<Counted>
+    ensures none { result ≡ None → fresh ≡ false }
+    ensures some { IfSome result (λ c. (fresh ≡ true) × (c ≡ record { stored = stored; refused = refused })) }
+{
+    if fresh {
+        Some(Counted { stored, refused })
+    } else {
+        None
+    }
+}
+
+/// The item of the first parts of a file and that of the next one, in one.
+fn joined(fresh: bool, part: Item, item: Item) -> Item
+    ensures { result ≡ joined fresh part item }
+{
+    match counts_of(fresh, &part) {
+        Some(counted) => {
+            drop(part);
+            with_more(counted, item)
+        }
+        None => {
+            drop(item);
+            part
+        }
     }
 }
 
@@ -149,48 +189,110 @@ fn with_more(counted: Counted, item: Item) -> Item
             stored: sum_of(counted.stored, stored),
             refused: sum_of(counted.refused, refused),
         },
+        Item::IngestTooLong {
+            file,
+            stored,
+            refused,
+        } => Item::IngestTooLong {
+            file,
+            stored: sum_of(counted.stored, stored),
+            refused: sum_of(counted.refused, refused),
+        },
         other => other,
     }
 }
 
-/// What a lane says in a round, after what it said before and a boundary that was found in between.
+/// What a lane says in a round, after what it said before and a boundary that was found in between; where it goes on with
+/// the file of its last item, its first one is told in that.
 pub(crate) fn say(
     said: &mut ItemList,
     fresh: bool,
+    goes: bool,
     bound: Option<Boundary>,
     items: Items,
 ) -> Result<(), AllocError>
-    ensures { OnOk result (said.new ≡ said_after fresh said.old (bound_items bound) items) }
+    ensures { OnOk result (said.new ≡ said_after fresh goes said.old (bound_items bound) items) }
 {
-    let counted = if fresh { said.take_full()? } else { None };
+    if !goes {
+        return say_apart(said, bound, items);
+    }
+    match said.take_part() {
+        Ok(Some(part)) => say_joined(said, fresh, part, bound, items),
+        Ok(None) => say_apart(said, bound, items),
+        Err(lost) => {
+            drop(items);
+            Err(lost)
+        }
+    }
+}
+
+/// Puts a boundary and items after the others.
+fn say_apart(said: &mut ItemList, bound: Option<Boundary>, items: Items) -> Result<(), AllocError>
+    ensures { OnOk result (said.new ≡ said.old ++ (bound_items bound ++ items)) }
+{
+    match push_bound(said, bound) {
+        Ok(()) => {
+            let mut rest = items.into_vec();
+            rest.reverse();
+            said.push_all(rest)
+        }
+        Err(lost) => {
+            drop(items);
+            Err(lost)
+        }
+    }
+}
+
+/// Puts a boundary and items after the others, with an item of the first parts of a file in the first of them.
+fn say_joined(
+    said: &mut ItemList,
+    fresh: bool,
+    part: Item,
+    bound: Option<Boundary>,
+    items: Items,
+) -> Result<(), AllocError>
+    ensures { OnOk result (said.new ≡ said.old ++ (bound_items bound ++ first_joined fresh part items)) }
+{
+    match push_bound(said, bound) {
+        Ok(()) => {
+            let mut rest = items.into_vec();
+            rest.reverse();
+            push_joined(said, fresh, part, &mut rest)?;
+            said.push_all(rest)
+        }
+        Err(lost) => {
+            drop((part, items));
+            Err(lost)
+        }
+    }
+}
+
+/// Puts a boundary after the others, if one was found.
+fn push_bound(said: &mut ItemList, bound: Option<Boundary>) -> Result<(), AllocError>
+    ensures { OnOk result (said.new ≡ said.old ++ bound_items bound) }
+{
     match bound {
         Some(bound) => said.push(Item::Bound {
             id: bound.id,
             from: bound.from,
-        })?,
-        None => {}
+        }),
+        None => Ok(()),
     }
-    let mut rest = items.into_vec();
-    rest.reverse();
-    match counted {
-        Some(counted) => push_first(said, counted, &mut rest)?,
-        None => {}
-    }
-    said.push_all(rest)
 }
 
-/// Puts the first of items after the others, where their last comes first here, told of the whole file.
-fn push_first(
+/// Puts an item after the others, with the first of items whose last comes first here.
+fn push_joined(
     said: &mut ItemList,
-    counted: Counted,
+    fresh: bool,
+    part: Item,
     reversed: &mut Vec<Item>,
 ) -> Result<(), AllocError>
     ensures { OnOk result (said.new ++ reverse reversed.new.items
-        ≡ said.old ++ first_more counted.stored counted.refused (reverse reversed.old.items)) }
+        ≡ said.old ++ first_joined fresh part (reverse reversed.old.items)) }
 {
     match reversed.pop() {
-        Some(first) => said.push(with_more(counted, first)),
-        None => Ok(()),
+        Some(first) => said.push(joined(fresh, part, first)),
+        None => said.push(part),
     }
 }
 

@@ -3,9 +3,9 @@
 use crate::expecting::{expect, expect_text};
 use crate::outside::{disk_of, host_of, sink_of, told_of, words_of};
 use fish_disk::MemoryDisk;
+use fish_feed::read_file;
 use fish_outside::{MemoryHost, MemorySink};
 use fish_program::run;
-use fish_run::read_file;
 use fish_value::Text;
 use std::alloc::{AllocError, Global};
 use std::process::Abort;

@@ -13,6 +13,8 @@ mod holds;
 #[cfg(test)]
 mod outside;
 #[cfg(test)]
+mod parts;
+#[cfg(test)]
 mod rolls;
 #[cfg(test)]
 mod samples;

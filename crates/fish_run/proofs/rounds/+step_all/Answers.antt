@@ -4,7 +4,7 @@ use Rattle.std.proofs.lemmas.Result.{on_ok_weaker}
 use Rattle.fish_lanes.specs.declared.lane.Lane.{Lane}
 use Rattle.fish_run.proofs.Stepping.{stepped_more}
 use Rattle.fish_lanes.specs.Controlling.{bound_items}
-use Rattle.fish_run.specs.Going.{HasStepped, StepsLane}
+use Rattle.fish_run.specs.within.Going.{HasStepped, StepsLane}
 use Rattle.fish_run.specs.declared.saying.Said.{Said}
 use Rattle.fish_run.proofs.rounds.+step_all.Goals as goal
 

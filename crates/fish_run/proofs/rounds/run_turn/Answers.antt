@@ -1,14 +1,19 @@
 -- A round ran: the lanes go on, in the same table or in a new one, or a fault stopped them.
-use Rattle.std.proofs.Common.{◌≡◌, ◌≢◌, ◌&&◌, List, Bool, arith}
+use Rattle.std.proofs.Common.{◌≡◌, ◌≢◌, ◌&&◌, ◌≤◌, ◌⊎◌, ℕ, List, Bool, true, inl, inr, subst, ⊎_elim, arith}
 use Rattle.std.specs.Prelude.{nat_lt}
+use Rattle.fish_lanes.specs.Outcome.{IsFullIn}
 use Rattle.fish_lanes.specs.declared.lane.Lane.{Lane}
 use Rattle.fish_outside.specs.Causes.{Rose}
+use Rattle.fish_rule.specs.declared.view.Key.{Key}
 use Rattle.fish_run.proofs.Faults.{commit_no_output, commit_other, first_no_input, first_no_output, lane_rose}
 use Rattle.fish_run.proofs.Going.{err_known}
+use Rattle.fish_run.proofs.Room.{near_limits}
 use Rattle.fish_run.proofs.Rounding.{and_false, ends_rounds, goes_more, renewed_go, stops_cut, stops_roll, stops_then}
-use Rattle.fish_run.proofs.Stepping.{above_base, fewer_tables, kept_pairs, lanes_next}
-use Rattle.fish_run.specs.Going.{HasStepped, StopsTurn}
+use Rattle.fish_run.proofs.Stepping.{above_base, asked_for, fewer_tables, idle_next, kept_pairs, lanes_next}
+use Rattle.fish_run.specs.within.Going.{HasStepped}
+use Rattle.fish_run.specs.within.Turning.{StopsTurn}
 use Rattle.fish_run.specs.Runs.{Behind, CanGoOn}
+use Rattle.fish_run.specs.Tables.{IsNearLimits}
 use Rattle.fish_run.specs.Steps.{AreWhole}
 use Rattle.fish_run.specs.declared.fault.RunFault.TheVariants as fault
 use Rattle.fish_run.specs.declared.lasting.Stopped.{Stopped}
@@ -16,12 +21,13 @@ use Rattle.fish_whole.specs.Whole.{Whole}
 use Rattle.fish_run.proofs.rounds.run_turn.Goals as goal
 
 pub returns-in-Err-clause-stopped : goal.returns-in-Err-clause-stopped
-returns-in-Err-clause-stopped g c = λ d s from first goes.
+returns-in-Err-clause-stopped g c = λ d s from now given ready.
     let disk = g.D.Disk in
     let a = c.args in
     let b = c.run_round-end in
     let e = b.ensures in
-    stops_cut disk.content disk.images disk.since disk.moment d s from first a.disk.now a.start a.lanes.now a.said.now goes
+    stops_cut disk.content disk.images disk.since disk.moment d s from a.disk.now a.start a.lanes.now a.said.now now
+    given ready
     c.requires.lanes b.new.disk b.new.store b.new.lanes b.result b.auto.lanes e.kept e.log e.goes e.later e.end e.leaves
     c.in-Err.why c.in-Err.ensures.first (disk.faults a.disk.now) (disk.faults b.new.disk) e.stops e.close
 
@@ -52,8 +58,9 @@ returns-in_err-next-clause-stopped g c =
     err_known c.from_residual.result
     (StopsTurn disk.content disk.images disk.since disk.moment a.disk.now a.start a.lanes.now a.said.now c.renew.new.disk) why
     c.from_residual.ensures.1
-    (λ d s from first goes.
-    stops_roll disk.content disk.images disk.since disk.moment d s from first a.disk.now a.start a.lanes.now a.said.now goes
+    (λ d s from now given ready.
+    stops_roll disk.content disk.images disk.since disk.moment d s from a.disk.now a.start a.lanes.now a.said.now now
+    given ready
     c.requires.lanes b.new.disk b.new.store b.new.lanes b.result b.auto.lanes e.kept e.log e.goes e.later e.end e.leaves whole e.close
     c.renew.new.disk why c.in_err-next.ensures.stopped)
 
@@ -86,6 +93,15 @@ returns-in-Ok-step_all-clause-on g c =
     disk.moment b.new.disk c.renew.new.disk b.new.store c.in_ok-next.next b.result.to (e.go whole) fresh c.in_ok-next.ensures.next in
     let h : HasStepped fresh a.start.fresh a.start.bound a.said.now c.step_all.new.said b.new.lanes c.step_all.new.lanes
     = c.in-Ok-step_all.ensures in
+    let rises = b.ensures.end.above in
+    let about = (e.go whole).can.of.about in
+    let least : b.new.store.log.key.number ≤ b.result.to = subst (λ (k : Key). k.number ≤ b.result.to) about rises in
+    let asked : (line lines end : ℕ) → IsFullIn b.new.lanes line lines end → (fresh ≡ true) ⊎ IsNearLimits b.result.to end
+    = λ line lines end full.
+    ⊎_elim (λ (new : fresh ≡ true). inl new) (λ (same : b.new.store.log.key.number ≡ b.result.to). inr
+    (near_limits disk.images b.new.disk b.new.store b.result.to (e.go whole) b.new.lanes e.leaves.marks same line lines end full))
+    (asked_for c.base.result.number b.result.to b.new.store.log.key.number more c.base.ensures.0 least b.new.lanes
+    c.go_on-more.ensures.full line lines end full) in
     record {
       go = go;
       lanes_are = lanes_next a.lanes.now b.new.lanes c.requires.lanes (kept_pairs a.lanes.now b.new.lanes b.auto.lanes e.kept) fresh
@@ -96,29 +112,35 @@ returns-in-Ok-step_all-clause-on g c =
           let said = c.step_all.auto.said in
           let before = c.requires.many in
           omega arith;
+      same = (let lanes = c.step_all.auto.lanes in let ran = b.auto.lanes in omega arith);
+      idle = λ last. idle_next a.lanes.now b.new.lanes c.requires.lanes (kept_pairs a.lanes.now b.new.lanes b.auto.lanes e.kept) fresh
+          c.step_all.new.lanes h.next (and_false more (nat_lt c.base.result.number b.result.to) last) (c.go_on-more.ensures.done last);
       less = fewer_tables disk.content disk.images disk.since disk.moment b.new.disk c.renew.new.disk a.start.store b.new.store
           c.in_ok-next.next c.base.result.number b.result.to b.new.lanes e.log c.base.ensures.0 (omega arith) e.left e.goes_on more
           c.go_on-more.ensures.left c.in_ok-next.ensures.next;
-      goes = λ d s from first goes.
-          goes_more disk.content disk.images disk.since disk.moment d s from first a.disk.now a.start a.lanes.now a.said.now goes
+      goes = λ d s from now given ready.
+          goes_more disk.content disk.images disk.since disk.moment d s from a.disk.now a.start a.lanes.now a.said.now now
+          given ready
           c.requires.lanes b.new.disk b.new.store b.new.lanes b.result b.auto.lanes e.kept e.log e.goes e.later e.end e.leaves whole e.close
-          fresh c.renew.new.disk c.in_ok-next.next c.in_ok-next.ensures.next above c.step_all.new.lanes c.step_all.new.said h;
-      ends = λ last d s from first goes.
-          ends_rounds disk.content disk.images disk.since disk.moment d s from first a.disk.now a.start a.lanes.now a.said.now goes
+          fresh c.renew.new.disk c.in_ok-next.next c.in_ok-next.ensures.next above c.step_all.new.lanes c.step_all.new.said h asked;
+      ends = λ last d s from now given ready.
+          ends_rounds disk.content disk.images disk.since disk.moment d s from a.disk.now a.start a.lanes.now a.said.now now
+          given ready
           c.requires.lanes b.new.disk b.new.store b.new.lanes b.result b.auto.lanes e.kept e.log e.goes e.later e.end e.leaves whole e.close
-          fresh c.renew.new.disk c.in_ok-next.next c.in_ok-next.ensures.next above c.step_all.new.lanes c.step_all.new.said h
+          fresh c.renew.new.disk c.in_ok-next.next c.in_ok-next.ensures.next above c.step_all.new.lanes c.step_all.new.said h asked
           (and_false more (nat_lt c.base.result.number b.result.to) last) (c.go_on-more.ensures.done last) go;
     }
 
 pub returns-in-Err-step_all-clause-stopped : goal.returns-in-Err-step_all-clause-stopped
-returns-in-Err-step_all-clause-stopped g c = λ d s from first goes.
+returns-in-Err-step_all-clause-stopped g c = λ d s from now given ready.
     let disk = g.D.Disk in
     let a = c.args in
     let b = c.run_round-end in
     let e = b.ensures in
     let whole : AreWhole b.new.lanes = c.in-Ok.ensures.whole in
     let fresh : Bool = c.go_on-more.result && nat_lt c.base.result.number b.result.to in
-    stops_then disk.content disk.images disk.since disk.moment d s from first a.disk.now a.start a.lanes.now a.said.now goes
+    stops_then disk.content disk.images disk.since disk.moment d s from a.disk.now a.start a.lanes.now a.said.now now
+    given ready
     c.requires.lanes b.new.disk b.new.store b.new.lanes b.result b.auto.lanes e.kept e.log e.goes e.later e.end e.leaves whole e.close
     fresh c.renew.new.disk c.in_ok-next.next c.in_ok-next.ensures.next
     (above_base c.base.result.number b.result.to b.new.store.log.key.number c.go_on-more.result c.base.ensures.0)

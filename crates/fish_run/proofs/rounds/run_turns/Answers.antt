@@ -1,42 +1,76 @@
 -- Round after round, until no lane goes on.
-use Rattle.std.proofs.Common.{◌≡◌, true, false, length, refl, sym, ap, ◌∙◌, arith, rules}
-use Rattle.fish_run.proofs.Rounding.{goes_first, nothing_length}
+use Rattle.std.proofs.Common.{◌≡◌, true, false, length, refl, arith, rules}
+use Rattle.std.specs.Prelude.{◌≢◌}
+use Rattle.fish_outside.specs.Causes.{Rose}
+use Rattle.fish_run.proofs.Going.{err_known}
+use Rattle.fish_run.proofs.Giving.{nones}
+use Rattle.fish_run.proofs.Rounding.{ready_none}
+use Rattle.fish_run.specs.within.Turning.{StopsTurn}
+use Rattle.fish_run.specs.declared.lasting.Stopped.{Stopped}
 use Rattle.fish_run.proofs.rounds.run_turns.Goals as goal
 
 pub loop-turned-init : goal.loop-turned-init
-loop-turned-init g c =
-    let disk = g.D.Disk in
-    let a = c.args in
-    record {
-      go = c.requires.go;
-      lanes = c.requires.lanes;
-      many = sym (ap length c.requires.said ∙ nothing_length a.lanes.now);
-      goes = goes_first disk.content disk.images disk.since disk.moment a.disk.now a.store a.from a.lanes.now c.requires.lanes _ refl refl
-          refl refl a.said.now c.requires.said;
-      disk = omega arith;
-    }
-
-pub returns-then-not-turned-clause-ended : goal.returns-then-not-turned-clause-ended
-returns-then-not-turned-clause-ended g c =
-    let a = c.args in
-    let last : c.in_ok-turned.turned.more ≡ false = search rules in
-    c.in_ok-turned.ensures.on.ends last a.disk.now a.store a.from a.lanes.now c.loop-turned.invariant.goes
+loop-turned-init g c = record {
+  go = c.requires.go;
+  lanes = c.requires.lanes;
+  many = c.requires.many;
+  same = refl;
+  goes = λ d s from now given ready. (now, ready);
+  disk = omega arith;
+}
 
 pub loop-turned-smaller : goal.loop-turned-smaller
 loop-turned-smaller g c =
-    let more : c.in_ok-turned.turned.more ≡ true = search rules in
+    let more : c.in_ok-turned.turned.more ≡ true = search (rules, c.if-not-more.false) in
     c.in_ok-turned.ensures.on.less more
 
 pub loop-turned-preserved : goal.loop-turned-preserved
 loop-turned-preserved g c =
-    let a = c.args in
+    let disk = g.D.Disk in
     let on = c.in_ok-turned.ensures.on in
-    let before = c.loop-turned.invariant.disk in
-    let now = c.run_turn.ensures.rises in
+    let inv = c.loop-turned.invariant in
+    let before = inv.disk in
+    let now_rises = c.run_turn.ensures.rises in
+    let same = on.same in
+    let was = inv.same in
     record {
       go = on.go;
       lanes = on.lanes_are;
       many = on.many;
-      goes = on.goes a.disk.now a.store a.from a.lanes.now c.loop-turned.invariant.goes;
+      same = omega arith;
+      goes = λ d s from now given ready.
+          let r = inv.goes d s from now given ready in (
+            nones c.run_turn.new.lanes,
+            ready_none disk.content disk.images disk.since disk.moment d s from c.run_turn.new.disk c.in_ok-turned.turned.next
+                c.run_turn.new.lanes c.run_turn.new.said given (on.goes d s from r.0 given r.1),
+          );
       disk = omega arith;
     }
+
+pub returns-then-not-more-clause-on : goal.returns-then-not-more-clause-on
+returns-then-not-more-clause-on g c =
+    let on = c.in_ok-turned.ensures.on in
+    let inv = c.loop-turned.invariant in
+    let last : c.in_ok-turned.turned.more ≡ false = search (rules, c.if-not-more.true) in
+    let same = on.same in
+    let was = inv.same in
+    record {
+      go = on.go;
+      lanes_are = on.lanes_are;
+      many = on.many;
+      same = omega arith;
+      idle = on.idle last;
+      goes = λ d s from now given ready. let r = inv.goes d s from now given ready in on.goes d s from r.0 given r.1;
+      ends = λ d s from now given ready. let r = inv.goes d s from now given ready in on.ends last d s from r.0 given r.1;
+    }
+
+pub returns-in_err-turned-clause-stopped : goal.returns-in_err-turned-clause-stopped
+returns-in_err-turned-clause-stopped g c =
+    let disk = g.D.Disk in
+    let a = c.args in
+    let why : Stopped = c.in_err-turned.field-0.0 in
+    err_known c.from_residual.result
+    (StopsTurn disk.content disk.images disk.since disk.moment a.disk.now a.start a.lanes.now a.said.now c.run_turn.new.disk) why
+    c.from_residual.ensures.1
+    (λ d s from now given ready.
+    let r = c.loop-turned.invariant.goes d s from now given ready in c.in_err-turned.ensures.stopped d s from r.0 given r.1)

@@ -1,8 +1,11 @@
--- The rounds so far ran from the block's first moment, and the lanes go on from the last one.
-use Rattle.std.proofs.Common.{◌≡◌, ◌≤◌, length}
+-- The rounds so far ran, and the lanes go on from the last one.
+use Rattle.std.proofs.Common.{◌≡◌, ◌≤◌, ℕ, List, length}
 use Rattle.fish_lanes.specs.Blocks.{AreLanes}
-use Rattle.fish_run.specs.Going.{GoesIn, tables_left}
+use Rattle.fish_lanes.specs.declared.work.Work.{Work}
+use Rattle.fish_run.specs.within.Going.{IsReady}
+use Rattle.fish_run.specs.within.Turning.{tables_left}
 use Rattle.fish_run.specs.Runs.{CanGoOn}
+use Rattle.fish_store.specs.declared.store.Store.{Store}
 use Rattle.fish_run.proofs.rounds.run_turns.Given as goal
 
 abbrev pub invariant-loop-turned : goal.invariant-loop-turned
@@ -10,8 +13,11 @@ invariant-loop-turned g l = record {
   go : CanGoOn g.D.Disk.images l.disk l.start.store l.start.from;
   lanes : AreLanes l.lanes;
   many : length l.lanes ≡ length l.said;
-  goes : GoesIn g.D.Disk.content g.D.Disk.images g.D.Disk.since g.D.Disk.moment l.fn.disk l.fn.store l.fn.from l.fn.lanes l.disk l.start
-      l.lanes l.said;
+  same : length l.lanes ≡ length l.fn.lanes;
+  goes : (d : g.row.D.Denot) (s : Store) (from : ℕ) (now given : List (List Work))
+      → IsReady g.D.Disk.content g.D.Disk.images g.D.Disk.since g.D.Disk.moment d s from l.fn.disk l.fn.start l.fn.lanes l.fn.said now given
+      → (next : List (List Work)) × IsReady g.D.Disk.content g.D.Disk.images g.D.Disk.since g.D.Disk.moment d s from l.disk l.start l.lanes
+      l.said next given;
   disk : g.D.Disk.faults l.fn.disk ≤ g.D.Disk.faults l.disk;
 }
 

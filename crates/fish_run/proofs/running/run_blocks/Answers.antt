@@ -16,7 +16,8 @@ use Rattle.fish_run.specs.Faults.{IsUndamaged, write_fault}
 use Rattle.fish_run.specs.Reports.{first_item}
 use Rattle.fish_run.specs.Running.{StopsRun, counts_of}
 use Rattle.fish_run.specs.Runs.{CanGoOn}
-use Rattle.fish_run.specs.Steps.{Counts, IsCausedBy, WritesBlocks}
+use Rattle.fish_run.specs.Steps.{WritesBlocks}
+use Rattle.fish_run.specs.within.Counting.{Counts, IsCausedBy}
 use Rattle.fish_run.specs.declared.fault.RunFault.{RunFault}
 use Rattle.fish_run.specs.declared.lasting.Stopped.{Stopped}
 use Rattle.fish_script.specs.declared.script.Block.{Block}
@@ -87,7 +88,7 @@ loop-block-preserved g c =
           (writes_more disk.content disk.images disk.since disk.moment c.args.count first begin p m q a.count
           (registry_of (view a.store.pass) a.store.registrar) old new c.run_one.ensures.told (written c.args.out.now)
           (written c.loop-block.out) (written c.run_one.new.out) text x b.count t c.loop-block.refused c.run_one.new.refused one.block
-          inv.writes one.is one.ran one.written one.refused);
+          inv.writes one.is one.ran one.renewed one.written one.refused);
       told = still_both (g.H.Host.files c.args.host.now) old new inv.told c.run_one.ensures.told;
       later = (omega arith, (omega arith, omega arith));
     }
@@ -147,7 +148,7 @@ returns-in_err-lasts-clause-some g c =
     (registry_of (view a.store.pass) a.store.registrar) old new c.run_one.ensures.told (written c.args.out.now)
     (written c.loop-block.out) (written c.run_one.new.out) c.args.script.now c.loop-block.block-index c.block-item.result
     c.loop-block.refused c.run_one.new.disk stop.rounds stop.cut e (omega (c.loop-block-test.true, arith)) c.block-item.is inv.writes
-    stop.stops stop.how)
+    stop.stops stop.renewed stop.how)
 
 pub returns-in_err-lasts-clause-told : goal.returns-in_err-lasts-clause-told
 returns-in_err-lasts-clause-told g c =

@@ -1,0 +1,160 @@
+-- Lanes are given statements, and do them, until nothing is left to be given.
+use Rattle.std.proofs.Common.{◌≡◌, true, length, List, Err, refl, sym, ap, ◌∙◌, subst, arith}
+use Rattle.fish_feed.specs.Queues.{both, works_of}
+use Rattle.fish_lanes.specs.declared.lane.Lane.{Lane}
+use Rattle.fish_lanes.specs.declared.work.Work.{Work}
+use Rattle.fish_outside.proofs.CauseLemmas.{Rose_earlier}
+use Rattle.fish_run.proofs.Faults.{feed_failed, feed_named, feed_no_disk, feed_no_output, feed_well}
+use Rattle.fish_run.proofs.Going.{err_known}
+use Rattle.fish_run.proofs.Giving.{nones, nones_at, nones_length}
+use Rattle.fish_run.proofs.Rounding.{goes_first, nothing_length, ready_given, stops_unread}
+use Rattle.fish_run.proofs.Works.{lanes_given, may_all, still_both, still_self, ungiven}
+use Rattle.fish_run.specs.Faults.{IsUndamaged, feed_fault}
+use Rattle.fish_run.specs.within.Parts.{StopsParts}
+use Rattle.fish_run.specs.declared.lasting.Stopped.{Stopped}
+use Rattle.fish_run.proofs.parts.run_given.Goals as goal
+
+pub loop-refusal-init : goal.loop-refusal-init
+loop-refusal-init g c =
+    let disk = g.D.Disk in
+    let a = c.args in
+    let lanes = a.lanes.now in
+    record {
+      go = c.requires.go;
+      lanes = c.requires.lanes;
+      idle = c.requires.idle;
+      many = c.requires.many;
+      said = sym (ap length c.requires.said ∙ nothing_length lanes);
+      fit = c.requires.fit;
+      given = nones lanes;
+      goes = goes_first disk.content disk.images disk.since disk.moment a.disk.now a.store a.from lanes c.requires.lanes c.requires.idle _ refl
+          refl refl refl a.said.now c.requires.said;
+      queues = λ texts h. ungiven g.H.Feed.Source.left (g.H.Host.files a.host.now) texts (nones lanes) a.queues.now
+          (nones_length lanes ∙ c.requires.many) (nones_at lanes) h;
+      told = still_self (g.H.Host.files a.host.now);
+      later = omega arith;
+      disk = omega arith;
+    }
+
+-- ---- none could be given
+
+pub returns-in-Err-clause-stopped : goal.returns-in-Err-clause-stopped
+returns-in-Err-clause-stopped g c =
+    let disk = g.D.Disk in
+    let a = c.args in
+    let l = c.loop-refusal in
+    let inv = l.invariant in
+    let refusal = c.in-Err.refusal in
+    let why : c.from.result ≡ feed_fault refusal = c.from.ensures in
+    record {
+      given = inv.given;
+      stops = stops_unread disk.content disk.images disk.since disk.moment a.disk.now a.store a.from l.disk l.start l.lanes l.said inv.given
+          inv.goes c.from.result (λ none. feed_named refusal (sym why ∙ none)) (subst IsUndamaged (sym why) (feed_well refusal)) inv.go;
+      may = λ texts h. c.in-Err.ensures.failed texts inv.given (inv.queues texts h);
+    }
+
+pub returns-in-Err-clause-told : goal.returns-in-Err-clause-told
+returns-in-Err-clause-told g c =
+    still_both (g.H.Host.files c.args.host.now) (g.H.Host.files c.loop-refusal.host) (g.H.Host.files c.give.new.host)
+    c.loop-refusal.invariant.told c.in-Err.ensures.told
+
+pub returns-in-Err-clause-inner : goal.returns-in-Err-clause-inner
+returns-in-Err-clause-inner g c = λ is. feed_no_output c.in-Err.refusal (sym c.from.ensures ∙ is)
+
+pub returns-in-Err-clause-input : goal.returns-in-Err-clause-input
+returns-in-Err-clause-input g c = λ is.
+    let faults = g.H.Host.faults in
+    let failed = feed_failed c.in-Err.refusal (sym c.from.ensures ∙ is) in
+    Rose_earlier (faults c.args.host.now) (faults c.loop-refusal.host) (faults c.give.new.host) c.loop-refusal.invariant.later
+    (c.in-Err.ensures.cause.failed (λ i. Err (failed i)))
+
+pub returns-in-Err-clause-disk : goal.returns-in-Err-clause-disk
+returns-in-Err-clause-disk g c = λ is. absurd (feed_no_disk c.in-Err.refusal (sym c.from.ensures ∙ is))
+
+-- ---- the rounds for what was given
+
+pub run_turns-requires-clause-lanes : goal.run_turns-requires-clause-lanes
+run_turns-requires-clause-lanes g c κs within =
+    lanes_given c.loop-refusal.lanes c.give.new.lanes c.loop-refusal.invariant.lanes c.in-Ok.ensures.lanes
+    (c.in-Ok.ensures.fit true c.loop-refusal.invariant.fit).1
+
+pub returns-in_err-turned-clause-stopped : goal.returns-in_err-turned-clause-stopped
+returns-in_err-turned-clause-stopped g c =
+    let disk = g.D.Disk in
+    let left = g.H.Feed.Source.left in
+    let told = g.H.Host.files c.give.new.host in
+    let a = c.args in
+    let l = c.loop-refusal in
+    let inv = l.invariant in
+    let lanes : List Lane = c.give.new.lanes in
+    let given = both inv.given (works_of lanes) in
+    let why : Stopped = c.in_err-turned.field-0.0 in
+    let ready = ready_given disk.content disk.images disk.since disk.moment a.disk.now a.store a.from l.disk l.start l.lanes l.said inv.given
+    inv.goes lanes c.in-Ok.ensures.lanes in
+    err_known c.from_residual.result
+    (StopsParts disk.content disk.images disk.since disk.moment a.disk.now a.store a.from left (g.H.Host.files a.host.now) a.queues.now
+    c.run_turns.new.disk told c.give.new.queues) why c.from_residual.ensures.1
+    (record {
+      given = given;
+      stops = c.in_err-turned.ensures.stopped a.disk.now a.store a.from (works_of lanes) given ready;
+      may = λ texts h. may_all left told texts given c.give.new.queues (c.in-Ok.ensures.given texts inv.given (inv.queues texts h));
+    })
+
+pub returns-in_err-turned-clause-told : goal.returns-in_err-turned-clause-told
+returns-in_err-turned-clause-told g c =
+    still_both (g.H.Host.files c.args.host.now) (g.H.Host.files c.loop-refusal.host) (g.H.Host.files c.give.new.host)
+    c.loop-refusal.invariant.told c.in-Ok.ensures.told
+
+-- ---- nothing is left to be given
+
+pub returns-then-not-has_more-clause-ended : goal.returns-then-not-has_more-clause-ended
+returns-then-not-has_more-clause-ended g c =
+    let disk = g.D.Disk in
+    let told = g.H.Host.files c.give.new.host in
+    let a = c.args in
+    let l = c.loop-refusal in
+    let inv = l.invariant in
+    let lanes : List Lane = c.give.new.lanes in
+    let given = both inv.given (works_of lanes) in
+    let ready = ready_given disk.content disk.images disk.since disk.moment a.disk.now a.store a.from l.disk l.start l.lanes l.said inv.given
+    inv.goes lanes c.in-Ok.ensures.lanes in
+    record {
+      given = given;
+      rounds = c.in_ok-turned.ensures.on.ends a.disk.now a.store a.from (works_of lanes) given ready;
+      done = λ texts h.
+          c.has_more.ensures.none c.if-not-has_more.true texts given told (c.in-Ok.ensures.given texts inv.given (inv.queues texts h));
+    }
+
+pub returns-then-not-has_more-clause-told : goal.returns-then-not-has_more-clause-told
+returns-then-not-has_more-clause-told g c =
+    still_both (g.H.Host.files c.args.host.now) (g.H.Host.files c.loop-refusal.host) (g.H.Host.files c.give.new.host)
+    c.loop-refusal.invariant.told c.in-Ok.ensures.told
+
+-- ---- more is left
+
+pub loop-refusal-preserved : goal.loop-refusal-preserved
+loop-refusal-preserved g c =
+    let disk = g.D.Disk in
+    let a = c.args in
+    let l = c.loop-refusal in
+    let inv = l.invariant in
+    let on = c.in_ok-turned.ensures.on in
+    let lanes : List Lane = c.give.new.lanes in
+    let given : List (List Work) = both inv.given (works_of lanes) in
+    let ready = ready_given disk.content disk.images disk.since disk.moment a.disk.now a.store a.from l.disk l.start l.lanes l.said inv.given
+    inv.goes lanes c.in-Ok.ensures.lanes in
+    record {
+      go = on.go;
+      lanes = on.lanes_are;
+      idle = on.idle;
+      many = (let ran = on.same in let got = c.give.auto.lanes in let rest = c.give.auto.queues in let was = inv.many in
+          omega (ran, got, rest, was, arith));
+      said = on.many;
+      fit = (c.in-Ok.ensures.fit true inv.fit).0;
+      given = given;
+      goes = on.goes a.disk.now a.store a.from (works_of lanes) given ready;
+      queues = λ texts h. c.in-Ok.ensures.given texts inv.given (inv.queues texts h);
+      told = still_both (g.H.Host.files a.host.now) (g.H.Host.files l.host) (g.H.Host.files c.give.new.host) inv.told c.in-Ok.ensures.told;
+      later = (let was = inv.later in let now = c.in-Ok.ensures.cause.later in omega (was, now, arith));
+      disk = (let was = inv.disk in let now = c.run_turns.ensures.rises in omega (was, now, arith));
+    }

@@ -1,0 +1,116 @@
+-- A block whose files were opened, and closed at its end.
+use Rattle.std.proofs.Common.{◌≡◌, [], Some, ap, arith, length, refl, subst, sym, ◌∙◌}
+use Rattle.std.proofs.lemmas.Result.{IfErr-weaker, IfOk-weaker}
+use Rattle.fish_feed.specs.Queues.{IsQueue, MayEnd}
+use Rattle.fish_feed.specs.Works.{Triples}
+use Rattle.fish_outside.proofs.CauseLemmas.{Rose_earlier, Rose_later}
+use Rattle.fish_outside.specs.Causes.{Rose}
+use Rattle.fish_run.proofs.Faults.{feed_named, feed_well}
+use Rattle.fish_run.proofs.Lists.{pairs_length, written_back}
+use Rattle.fish_run.proofs.One.{are_rounds}
+use Rattle.fish_run.proofs.Rounding.{stops_unopened}
+use Rattle.fish_run.proofs.Works.{done_later, still_both}
+use Rattle.fish_run.specs.Blocks.{with_cut}
+use Rattle.fish_run.specs.Faults.{IsUndamaged, feed_fault}
+use Rattle.fish_run.specs.within.Parts.{AreUngiven, EndsBlock, EndsLanes, StopsLanes, StopsParts}
+use Rattle.fish_run.specs.declared.fault.RunFault.TheVariants as fault
+use Rattle.fish_run.proofs.parts.run_lanes.Goals as goal
+
+pub run_parts-ended-requires-clause-some : goal.run_parts-ended-requires-clause-some
+run_parts-ended-requires-clause-some g c κs within =
+    let many = pairs_length (λ ss q. IsQueue (g.H.Host.files c.open_lanes.new.host) g.H.Feed.Source.left ss [] q) c.args.texts.now
+    c.in-Ok.opened.items c.in-Ok.ensures.queues in
+    let value = ap length c.as_mut_slice.ensures.value in
+    let some = c.requires.some in
+    omega (many, value, some, arith)
+
+pub run_parts-ended-requires-clause-few : goal.run_parts-ended-requires-clause-few
+run_parts-ended-requires-clause-few g c κs within =
+    let many = pairs_length (λ ss q. IsQueue (g.H.Host.files c.open_lanes.new.host) g.H.Feed.Source.left ss [] q) c.args.texts.now
+    c.in-Ok.opened.items c.in-Ok.ensures.queues in
+    let value = ap length c.as_mut_slice.ensures.value in
+    let few = c.requires.few in
+    omega (many, value, few, arith)
+
+-- ---- it came to its end
+
+pub returns-in-Ok-clause-ended : goal.returns-in-Ok-clause-ended
+returns-in-Ok-clause-ended g c =
+    let disk = g.D.Disk in
+    let left = g.H.Feed.Source.left in
+    let files = g.H.Host.files in
+    let a = c.args in
+    let mid = files c.run_parts-ended.new.host in
+    let new = files c.close.new.host in
+    let queues = c.as_mut_slice.result.now in
+    let opened = subst (AreUngiven (files c.open_lanes.new.host) left a.texts.now) (sym c.as_mut_slice.ensures.value) c.in-Ok.ensures.queues in
+    IfOk-weaker c.run_parts-ended.result
+    (EndsBlock disk.content disk.images disk.since disk.moment a.disk.now a.store a.from left (files c.open_lanes.new.host) queues
+    c.run_parts-ended.new.disk mid)
+    (EndsLanes disk.content disk.images disk.since disk.moment a.disk.now a.store a.from a.texts.now c.run_parts-ended.new.disk new)
+    (λ e h. record {
+      given = h.given;
+      rounds = h.rounds;
+      done = done_later mid new c.close.ensures.told a.texts.now h.given (h.done a.texts.now opened);
+    }) c.run_parts-ended.ensures.ended
+
+-- ---- or a fault came
+
+pub returns-in-Ok-clause-stopped : goal.returns-in-Ok-clause-stopped
+returns-in-Ok-clause-stopped g c =
+    let disk = g.D.Disk in
+    let left = g.H.Feed.Source.left in
+    let files = g.H.Host.files in
+    let a = c.args in
+    let mid = files c.run_parts-ended.new.host in
+    let new = files c.close.new.host in
+    let queues = c.as_mut_slice.result.now in
+    let rest = c.run_parts-ended.new.queues in
+    let items = c.in-Ok.opened.items in
+    let len = c.as_mut_slice.ensures.len in
+    let value = ap length c.as_mut_slice.ensures.value in
+    let kept = c.run_parts-ended.auto.queues in
+    let all = c.as_mut_slice-in-Ok.ensures.value
+    ∙ written_back c.in-Ok.opened.len rest items (omega (value, len, kept, arith)) (omega (value, kept, arith)) in
+    let opened = subst (AreUngiven (files c.open_lanes.new.host) left a.texts.now) (sym c.as_mut_slice.ensures.value) c.in-Ok.ensures.queues in
+    IfErr-weaker c.run_parts-ended.result
+    (StopsParts disk.content disk.images disk.since disk.moment a.disk.now a.store a.from left (files c.open_lanes.new.host) queues
+    c.run_parts-ended.new.disk mid rest)
+    (StopsLanes disk.content disk.images disk.since disk.moment a.disk.now a.store a.from a.texts.now c.run_parts-ended.new.disk new)
+    (λ e h.
+    let may = subst (Triples (MayEnd mid left) a.texts.now h.given) (sym all) (h.may a.texts.now opened) in
+    record {
+      given = h.given;
+      stops = h.stops;
+      are = are_rounds new a.texts.now h.given (with_cut h.stops.rounds h.stops.cut) h.stops.follow h.stops.were
+          (c.close.ensures.first a.texts.now h.given may);
+    }) c.run_parts-ended.ensures.stopped
+
+pub returns-in-Ok-clause-told : goal.returns-in-Ok-clause-told
+returns-in-Ok-clause-told g c =
+    let files = g.H.Host.files in
+    still_both (files c.args.host.now) (files c.open_lanes.new.host) (files c.close.new.host) c.in-Ok.ensures.told
+    (still_both (files c.open_lanes.new.host) (files c.run_parts-ended.new.host) (files c.close.new.host) c.run_parts-ended.ensures.told
+    c.close.ensures.told)
+
+pub returns-in-Ok-clause-input : goal.returns-in-Ok-clause-input
+returns-in-Ok-clause-input g c =
+    let faults = g.H.Host.faults in
+    IfErr-weaker c.run_parts-ended.result
+    (λ s. s.why ≡ fault.Input → Rose (faults c.open_lanes.new.host) (faults c.run_parts-ended.new.host))
+    (λ s. s.why ≡ fault.Input → Rose (faults c.args.host.now) (faults c.close.new.host))
+    (λ s h is. Rose_earlier (faults c.args.host.now) (faults c.open_lanes.new.host) (faults c.close.new.host) c.in-Ok.ensures.cause.later
+    (Rose_later (faults c.open_lanes.new.host) (faults c.run_parts-ended.new.host) (faults c.close.new.host) (h is) c.close.ensures.later))
+    c.run_parts-ended.ensures.input
+
+-- ---- its files couldn't be opened
+
+pub returns-in-Err-clause-stopped : goal.returns-in-Err-clause-stopped
+returns-in-Err-clause-stopped g c =
+    let disk = g.D.Disk in
+    let a = c.args in
+    let refusal = c.in-Err.refusal in
+    let why : c.from.result ≡ feed_fault refusal = c.from.ensures in
+    stops_unopened disk.content disk.images disk.since disk.moment a.disk.now a.store a.from
+    (record { store = Some a.store; why = c.from.result }) refl (λ none. feed_named refusal (sym why ∙ none))
+    (subst IsUndamaged (sym why) (feed_well refusal)) c.requires.go a.texts.now (g.H.Host.files c.open_lanes.new.host)
