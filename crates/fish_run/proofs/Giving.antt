@@ -1,5 +1,6 @@
 -- What lanes are given for a round.
-use Rattle.std.proofs.Common.{◌≡◌, ℕ, zero, suc, List, [], ◌∷◌, ◌++◌, Some, append-nil, arith, length, slice_get, refl, sym, ap, ◌∙◌, inl, inr}
+use Rattle.std.proofs.Common.{◌≡◌, ℕ, zero, suc, List, [], ◌∷◌, ◌++◌, Some}
+use Rattle.std.proofs.Common.{append-nil, arith, length, slice_get, refl, sym, ap, ◌∙◌, inl, inr}
 use Rattle.fish_feed.specs.Queues.{AreIdle, IsGiven, both, works_of}
 use Rattle.fish_feed.specs.Works.{Pairs, Triples}
 use Rattle.fish_lanes.specs.declared.lane.Lane.{Lane}

@@ -27,8 +27,8 @@ loop-refusal-init g c =
       said = sym (ap length c.requires.said ∙ nothing_length lanes);
       fit = c.requires.fit;
       given = nones lanes;
-      goes = goes_first disk.content disk.images disk.since disk.moment a.disk.now a.store a.from lanes c.requires.lanes c.requires.idle _ refl
-          refl refl refl a.said.now c.requires.said;
+      goes = goes_first disk.content disk.images disk.since disk.moment a.disk.now a.store a.from lanes c.requires.lanes
+          c.requires.idle _ refl refl refl refl a.said.now c.requires.said;
       queues = λ texts h. ungiven g.H.Feed.Source.left (g.H.Host.files a.host.now) texts (nones lanes) a.queues.now
           (nones_length lanes ∙ c.requires.many) (nones_at lanes) h;
       told = still_self (g.H.Host.files a.host.now);
@@ -89,8 +89,8 @@ returns-in_err-turned-clause-stopped g c =
     let lanes : List Lane = c.give.new.lanes in
     let given = both inv.given (works_of lanes) in
     let why : Stopped = c.in_err-turned.field-0.0 in
-    let ready = ready_given disk.content disk.images disk.since disk.moment a.disk.now a.store a.from l.disk l.start l.lanes l.said inv.given
-    inv.goes lanes c.in-Ok.ensures.lanes in
+    let ready = ready_given disk.content disk.images disk.since disk.moment a.disk.now a.store a.from l.disk l.start l.lanes l.said
+    inv.given inv.goes lanes c.in-Ok.ensures.lanes in
     err_known c.from_residual.result
     (StopsParts disk.content disk.images disk.since disk.moment a.disk.now a.store a.from left (g.H.Host.files a.host.now) a.queues.now
     c.run_turns.new.disk told c.give.new.queues) why c.from_residual.ensures.1
@@ -116,8 +116,8 @@ returns-then-not-has_more-clause-ended g c =
     let inv = l.invariant in
     let lanes : List Lane = c.give.new.lanes in
     let given = both inv.given (works_of lanes) in
-    let ready = ready_given disk.content disk.images disk.since disk.moment a.disk.now a.store a.from l.disk l.start l.lanes l.said inv.given
-    inv.goes lanes c.in-Ok.ensures.lanes in
+    let ready = ready_given disk.content disk.images disk.since disk.moment a.disk.now a.store a.from l.disk l.start l.lanes l.said
+    inv.given inv.goes lanes c.in-Ok.ensures.lanes in
     record {
       given = given;
       rounds = c.in_ok-turned.ensures.on.ends a.disk.now a.store a.from (works_of lanes) given ready;
@@ -141,8 +141,8 @@ loop-refusal-preserved g c =
     let on = c.in_ok-turned.ensures.on in
     let lanes : List Lane = c.give.new.lanes in
     let given : List (List Work) = both inv.given (works_of lanes) in
-    let ready = ready_given disk.content disk.images disk.since disk.moment a.disk.now a.store a.from l.disk l.start l.lanes l.said inv.given
-    inv.goes lanes c.in-Ok.ensures.lanes in
+    let ready = ready_given disk.content disk.images disk.since disk.moment a.disk.now a.store a.from l.disk l.start l.lanes l.said
+    inv.given inv.goes lanes c.in-Ok.ensures.lanes in
     record {
       go = on.go;
       lanes = on.lanes_are;

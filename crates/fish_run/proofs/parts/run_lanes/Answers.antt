@@ -43,7 +43,8 @@ returns-in-Ok-clause-ended g c =
     let mid = files c.run_parts-ended.new.host in
     let new = files c.close.new.host in
     let queues = c.as_mut_slice.result.now in
-    let opened = subst (AreUngiven (files c.open_lanes.new.host) left a.texts.now) (sym c.as_mut_slice.ensures.value) c.in-Ok.ensures.queues in
+    let opened = subst (AreUngiven (files c.open_lanes.new.host) left a.texts.now) (sym c.as_mut_slice.ensures.value)
+    c.in-Ok.ensures.queues in
     IfOk-weaker c.run_parts-ended.result
     (EndsBlock disk.content disk.images disk.since disk.moment a.disk.now a.store a.from left (files c.open_lanes.new.host) queues
     c.run_parts-ended.new.disk mid)
@@ -72,7 +73,8 @@ returns-in-Ok-clause-stopped g c =
     let kept = c.run_parts-ended.auto.queues in
     let all = c.as_mut_slice-in-Ok.ensures.value
     ∙ written_back c.in-Ok.opened.len rest items (omega (value, len, kept, arith)) (omega (value, kept, arith)) in
-    let opened = subst (AreUngiven (files c.open_lanes.new.host) left a.texts.now) (sym c.as_mut_slice.ensures.value) c.in-Ok.ensures.queues in
+    let opened = subst (AreUngiven (files c.open_lanes.new.host) left a.texts.now) (sym c.as_mut_slice.ensures.value)
+    c.in-Ok.ensures.queues in
     IfErr-weaker c.run_parts-ended.result
     (StopsParts disk.content disk.images disk.since disk.moment a.disk.now a.store a.from left (files c.open_lanes.new.host) queues
     c.run_parts-ended.new.disk mid rest)
