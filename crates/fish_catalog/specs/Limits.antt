@@ -16,7 +16,3 @@ newest_format = 2
 -- the most definitions that are active at once in a store file of format 1
 abbrev pub most_active_at_first : ℕ
 most_active_at_first = 16
-
--- the most bytes of a name
-abbrev pub longest_name : ℕ
-longest_name = 32

@@ -1,7 +1,8 @@
 -- The rows of a catalogue: what always holds of them, what a name finds, and how they change.
 use Rattle.std.specs.Prelude.{◌≡◌, ℕ, zero, suc, ◌≤◌, List, [], ◌∷◌, Bool, Option, Some, None, is_none, All, count_by, length, slice_get}
 use Rattle.fish_catalog.specs.Canonical.{IsCanonical}
-use Rattle.fish_catalog.specs.Limits.{longest_name, most_active, most_rows}
+use Rattle.fish_value.specs.Limits.{longest_name}
+use Rattle.fish_catalog.specs.Limits.{most_active, most_rows}
 use Rattle.fish_catalog.specs.declared.row.CatRow.{CatRow}
 
 -- a name has 1 to 32 bytes

@@ -4,6 +4,7 @@ ghost use Rattle.std.specs.Prelude.{◌≡◌, ◌≢◌, ◌↔◌, IfOk, IsTru
 ghost use Rattle.fish_catalog.specs.Canonical.{IsCanonical};
 ghost use Rattle.fish_lang.specs.Canonical.{definition_text};
 ghost use Rattle.fish_lang.specs.Definition.{definition_of};
+ghost use Rattle.fish_lang.specs.Language.{IsAccepted};
 
 use fish_lang::{Def, LangRefusal, parse_def, print_def};
 use fish_value::Text;
@@ -18,6 +19,19 @@ pub fn is_canonical(alloc: Global, text: &Text) -> Result<bool, AllocError>
         Ok(def) => is_written(alloc, def, text),
         Err(refusal) => refused(refusal),
     }
+}
+
+/// The definition that a canonical text is, which is written as this text again.
+pub fn parse_canonical(alloc: Global, text: &[u8]) -> Result<Def, AllocError>
+    requires { IsCanonical text.now }
+    ensures read { IfOk result (λ def. IsAccepted text.now (definition_of def)) }
+    ensures written { IfOk result (λ def. definition_text (definition_of def) ≡ text.now) }
+{
+    // a canonical text is a definition, so only memory can fail
+    let Ok(def) = parse_def(alloc, text) else {
+        return Err(AllocError);
+    };
+    Ok(def)
 }
 
 /// A text that is no definition isn't canonical; want of memory says nothing of it.

@@ -3,7 +3,7 @@
 ghost use Rattle.std.specs.Prelude.{◌≡◌};
 ghost use Rattle.fish_catalog.specs.PageStarts.{page_after as next_page};
 
-use fish_layout::PAGE_LINES;
+use fish_layout::page_of;
 use fish_value::Sequence;
 
 /// The first region that begins in a page of 32,768 lines.
@@ -24,7 +24,7 @@ pub fn page_after(starts: &[PageStart]) -> u64
 {
     let last = starts.len().saturating_sub(1);
     match starts.get(last).copied() {
-        Some(start) => start.line / PAGE_LINES + 1,
+        Some(start) => page_of(start.line) + 1,
         None => 0,
     }
 }

@@ -4,10 +4,7 @@ ghost use Rattle.std.specs.Prelude.{◌≡◌, ◌↔◌, IsTrue};
 ghost use Rattle.fish_catalog.specs.Covering.{Covers};
 ghost use Rattle.fish_catalog.specs.Rows.{IsActive, IsName, is_active};
 
-use fish_value::Text;
-
-/// The most bytes of a name.
-pub const MAX_NAME: usize = 32;
+use fish_value::{MAX_NAME, Text};
 
 /// Whether a text can be a name: it has 1 to 32 bytes.
 pub fn is_name(name: &Text) -> bool

@@ -1,9 +1,10 @@
 -- The way down from the head to the place of the own entry.
-use Rattle.std.proofs.Common.{◌≡◌, ℕ, ◌+◌, ◌*◌, ◌<◌, suc, refl, sym, ap, ◌∙◌, subst, arith, Some, Option, None}
+use Rattle.std.proofs.Common.{◌≡◌, ℕ, ◌<◌, suc, refl, sym, ap, ◌∙◌, subst, arith, Some, Option, None}
 use Rattle.fish_chain.proofs.Changes.{changed_next, still_links}
 use Rattle.fish_chain.specs.Links.{CanLink, CanLinkBelow, IsBelow, Tried, with_linked}
 use Rattle.fish_layout.specs.Cleared.{body_of}
 use Rattle.fish_layout.specs.Header.{keys_of}
+use Rattle.fish_layout.specs.Pages.{place_of}
 use Rattle.fish_rule.proofs.laws.Steps.{flight_law}
 use Rattle.fish_rule.specs.Flying.{region_in, region_of}
 use Rattle.fish_rule.specs.ChainSteps.{own_place}
@@ -31,7 +32,7 @@ line_low k v f o r about stands flying kept is =
 
 -- the place of the entry, by the line that the pass keeps of its record in flight and the entry's count
 pub place_kept : (v : View) (f : Flight) (o : Option Region) (r : Region) (key wide : ℕ) → v.flight ≡ Some f
-    → o ≡ region_in v.flight → o ≡ Some r → f.linked ≡ key → wide ≡ key → r.line * 4 + 1 + 3 * wide ≡ own_place f
+    → o ≡ region_in v.flight → o ≡ Some r → f.linked ≡ key → wide ≡ key → place_of r.line wide ≡ own_place f
 place_kept v f o r key wide flying kept is next same =
     let line = line_kept v f o r flying kept is in
     omega arith

@@ -10,6 +10,7 @@ ghost use Rattle.fish_rule.specs.ChainSteps.{own_place};
 ghost use Rattle.fish_rule.specs.Passes.{IsPassOf, view};
 ghost use Rattle.fish_rule.specs.declared.view.Flight.{Flight};
 
+use fish_layout::place_of;
 use fish_rule::{
     Log, Pass, aim_entry, in_flight, load_head, load_previous, splice_entry, swing_head,
 };
@@ -26,7 +27,7 @@ pub fn link(log: &Log, pass: &mut Pass, key: u16, bucket: u32)
     let Some(region) = in_flight(pass) else {
         unreachable!()
     };
-    let place = region.line * 4 + 1 + 3 * u64::from(key);
+    let place = place_of(region.line, u64::from(key));
     let Some(mut above) = swing_up(log, pass, u64::from(bucket), place) else {
         return;
     };

@@ -10,7 +10,7 @@ use crate::refusal::ColdRefusal;
 use crate::starts::{joined, start_of};
 use fish_catalog::{Entry, PageStarts};
 use fish_disk::Disk;
-use fish_layout::{PAGE_LINES, PAGE_WORDS};
+use fish_layout::{PAGE_WORDS, page_of};
 use fish_psf::Steps;
 use fish_rule::Base;
 use lru::LruCache;
@@ -152,7 +152,7 @@ impl Cold {
         if number < start.number || self.base.line <= start.line {
             return None;
         }
-        Some((start.line / PAGE_LINES, number - start.number))
+        Some((page_of(start.line), number - start.number))
     }
 
     /// The entry of a region of a page.
@@ -315,7 +315,7 @@ impl Cold {
     fn held(&self, page: u64) -> Option<&Page>
         ensures { option_copied result ≡ held_in self.now page }
     {
-        if page == self.base.line / PAGE_LINES {
+        if page == page_of(self.base.line) {
             self.tail.as_ref()
         } else {
             self.cache.peek(&page)
@@ -367,7 +367,7 @@ impl Cold {
         ensures kept { OnOk result ((p : Page) → Some p ≡ option_or fresh (held_in self.old page) → Uses page p self.old self.new) }
         ensures refused { OnErr result (self.new ≡ self.old) }
     {
-        let last = page == self.base.line / PAGE_LINES;
+        let last = page == page_of(self.base.line);
         match fresh {
             Some(read) if last => {
                 drop(replace(&mut self.tail, Some(read)));

@@ -17,8 +17,8 @@ use crate::page::Page;
 use crate::refusal::ColdRefusal;
 use fish_catalog::Entry;
 use fish_layout::{
-    KeyPart, LINE_WORDS, PAGE_WORDS, Payload, find_key, find_payload, lines_in, number_in,
-    offset_in, place_in, size_in, void_header,
+    KeyPart, LINE_WORDS, PAGE_WORDS, Payload, entry_at as key_at, find_key, find_payload, lines_in,
+    number_in, offset_in, place_in, size_in, void_header,
 };
 use fish_psf::Steps;
 use std::alloc::{AllocError, Global};
@@ -357,7 +357,7 @@ fn rest_around(words: &[u64], at: usize, key: u16) -> Option<&[u64]>
         (λ r. (line : ℕ) → at ≡ 4 * line + key_at key → r.now ≡ drop (4 * line) words.now) }
     ensures some { IfSome result (λ r. 0 < length r.now) }
 {
-    let front = 1 + 3 * usize::from(key);
+    let front = key_at(u64::from(key)) as usize;
     if at < front || (at - front) % 4 != 0 {
         return None;
     }

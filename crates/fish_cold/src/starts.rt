@@ -5,7 +5,7 @@ ghost use Rattle.fish_catalog.specs.declared.page_start.PageStart.{PageStart as 
 ghost use Rattle.fish_cold.specs.Starts.{IsStartIn, IsStartOf, with_start, with_starts};
 
 use fish_catalog::{PageStart, PageStarts, page_after};
-use fish_layout::PAGE_LINES;
+use fish_layout::page_of;
 use std::alloc::{AllocError, Global};
 
 /// The last page start that isn't after a number.
@@ -23,7 +23,7 @@ pub(crate) fn start_of(starts: &[PageStart], number: u32) -> Option<PageStart>
 pub(crate) fn start_in(starts: &[PageStart], page: u64) -> Option<PageStart>
     ensures { (start : Start) → IsStartIn starts.now page start → result ≡ Some start }
 {
-    let behind = starts.partition_point(|start| start.line / PAGE_LINES <= page);
+    let behind = starts.partition_point(|start| page_of(start.line) <= page);
     if behind == 0 {
         return None;
     }
@@ -60,7 +60,7 @@ fn copied(alloc: Global, starts: &[PageStart]) -> Result<PageStarts, AllocError>
 fn add(all: &mut PageStarts, start: &PageStart) -> Result<(), AllocError>
     ensures { OnOk result (all.new ≡ with_start all.old start.now) }
 {
-    if page_after(all.as_slice()) <= start.line / PAGE_LINES {
+    if page_after(all.as_slice()) <= page_of(start.line) {
         all.push(*start)?;
     }
     Ok(())

@@ -12,17 +12,13 @@ ghost use Rattle.fish_csv.specs.Turns.{IsStored, TakesRow, ends_line, is_mark};
 
 use crate::bytes::{without_ends, without_mark};
 use crate::machine::read_row;
-use crate::record::MAX_PAYLOAD;
 use crate::text::read_one;
 use crate::write::write_row;
 use csv::ByteRecord;
-use fish_value::{Text, Texts};
+use fish_value::{MAX_FILE, MAX_PAYLOAD, Text, Texts};
 use memchr::memchr3;
 use std::alloc::{AllocError, Global};
 use thiserror::Error;
-
-/// The most bytes that a file may have.
-pub const MAX_FILE: usize = 67_108_864;
 
 /// Why a file was not read.
 #[derive(Clone, Copy, Debug, PartialEq, Eq, Error)]

@@ -14,6 +14,7 @@ mod record;
 mod text;
 mod write;
 
-pub use file::{CsvRefusal, CsvRows, MAX_FILE, RowTexts, rows};
+pub use file::{CsvRefusal, CsvRows, RowTexts, rows};
+pub use fish_value::{MAX_FILE, MAX_PAYLOAD};
 pub use reader::{CsvReader, CsvRow};
-pub use record::{CsvRecord, CsvRecordRefusal, MAX_PAYLOAD};
+pub use record::{CsvRecord, CsvRecordRefusal};

@@ -15,9 +15,6 @@ use fish_value::{Field, FieldView, Path};
 use std::alloc::{AllocError, Global};
 use thiserror::Error;
 
-/// The most bytes that a payload may have.
-pub const MAX_PAYLOAD: usize = 524_288;
-
 /// The fields for which a record takes room at once.
 const FIELDS: usize = 16;
 

@@ -9,8 +9,9 @@ ghost use Rattle.fish_csv.specs.Reading.{only, row_of, row_reading, rows_in};
 
 use crate::bytes::{without_ends, without_mark};
 use crate::machine::read_row;
-use crate::record::{CsvRecordRefusal, MAX_PAYLOAD};
+use crate::record::CsvRecordRefusal;
 use csv::ByteRecord;
+use fish_value::MAX_PAYLOAD;
 use std::alloc::AllocError;
 
 /// The text that a payload is, without a byte order mark at its front.

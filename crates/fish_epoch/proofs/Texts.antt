@@ -1,44 +1,14 @@
 -- Definitions by their texts.
 use Rattle.std.proofs.Common.{◌≡◌, ℕ, ◌+◌, ◌<◌, suc, List, [], ◌∷◌, ◌++◌, All, get_or, length, map, take, sym, ap, ◌∙◌}
-use Rattle.std.proofs.Common.{subst, Ok, true, false, Bool, add-one, append-nil}
-use Rattle.std.specs.Prelude.{Result, filter, cond}
+use Rattle.std.proofs.Common.{subst, true, false, Bool, add-one, append-nil}
+use Rattle.std.specs.Prelude.{filter, cond}
 use Rattle.std.proofs.lemmas.List.{map-append}
 use Rattle.std.proofs.lemmas.List.Elements.{All-push, filter-append}
 use Rattle.std.proofs.Math.Seq.{take-suc}
-use Rattle.fish_catalog.specs.Canonical.{IsCanonical}
 use Rattle.fish_catalog.specs.Listing.{active_texts, is_on}
 use Rattle.fish_catalog.specs.declared.listed.Listed.{Listed}
-use Rattle.fish_lang.proofs.Accepted.{accepted-again}
-use Rattle.fish_lang.specs.Canonical.{definition_text}
-use Rattle.fish_lang.specs.Definition.{Definition, definition_of}
-use Rattle.fish_lang.specs.Language.{IsAccepted, IsOutcome}
-use Rattle.fish_lang.specs.Outcome.{Gives}
-use Rattle.fish_lang.specs.declared.definition.Def.{Def}
-use Rattle.fish_lang.specs.declared.parse.LangRefusal.{LangRefusal}
 use Rattle.fish_psf.specs.declared.key.ActiveDef.{ActiveDef}
 use Rattle.fish_rule.specs.Keys.{IsWritten, text_of}
-
--- a canonical text is a definition
-pub canonical_read : (text : List ℕ) (h : IsCanonical text) → IsOutcome text (Ok h.said)
-canonical_read text h = subst (λ (b : List ℕ). IsAccepted b h.said) (sym h.spells) (accepted-again h.source h.said h.read)
-
--- two answers are the same where they are of one definition
-same_ok : {a b : Definition} → ◌≡◌ {A = Result Definition LangRefusal} (Ok a) (Ok b) → a ≡ b
-same_ok e = cc
-
--- what was parsed of it has it as its text
-pub parsed_text : (text : List ℕ) (h : IsCanonical text) (def : Def) → Gives definition_of (Ok def) (Ok h.said)
-    → definition_text (definition_of def) ≡ text
-parsed_text text h def gives = ap definition_text (sym (same_ok gives)) ∙ sym h.spells
-
--- and is what its text is read as
-pub parsed_written : (text : List ℕ) (h : IsCanonical text) (def : Def) → Gives definition_of (Ok def) (Ok h.said)
-    → IsAccepted (definition_text (definition_of def)) (definition_of def)
-parsed_written text h def gives =
-    subst (λ (z : Definition). IsAccepted (definition_text z) z) (same_ok gives)
-    (accepted-again h.source h.said h.read)
-
--- ---- the active ones
 
 -- an active definition more
 pub texts_on : (ls : List Listed) (l : Listed) → l.active ≡ true → active_texts (ls ++ l ∷ []) ≡ active_texts ls ++ (l.id, l.def) ∷ []

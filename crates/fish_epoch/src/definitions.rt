@@ -8,8 +8,7 @@ ghost use Rattle.fish_epoch.specs.Rows.{OnlyReads};
 ghost use Rattle.fish_rule.specs.Passes.{IsPassOf, view};
 
 use crate::rows::read_rows;
-use fish_catalog::Listed;
-use fish_lang::parse_def;
+use fish_catalog::{Listed, parse_canonical};
 use fish_psf::ActiveDef;
 use fish_read::RecordReader;
 use fish_rule::{Log, Pass};
@@ -174,9 +173,6 @@ fn parse_row(alloc: Global, row: &Listed) -> Result<ActiveDef, AllocError>
     ensures text { IfOk result (λ active. text_of active ≡ (row.now.id, row.now.def)) }
     ensures written { IfOk result IsWritten }
 {
-    // a canonical text is a definition, so nothing but memory is wanting
-    let Ok(def) = parse_def(alloc, row.def.as_bytes()) else {
-        return Err(AllocError);
-    };
+    let def = parse_canonical(alloc, row.def.as_bytes())?;
     Ok(ActiveDef { id: row.id, def })
 }

@@ -17,7 +17,7 @@ ghost use Rattle.fish_flush.specs.Reading.{IsLineAt};
 use crate::flusher::Flusher;
 use crate::region::{copy_region, put_words};
 use fish_catalog::PageStart;
-use fish_layout::{LINE_BYTES, LINE_WORDS, PAGE_LINES};
+use fish_layout::{LINE_BYTES, LINE_WORDS, PAGE_LINES, page_of};
 use fish_rule::{Log, Pass};
 use std::alloc::{AllocError, Global};
 
@@ -49,7 +49,7 @@ pub(crate) struct Batch {
 pub(crate) fn new_batch(alloc: Global, flusher: &Flusher, end: u64) -> Result<Batch, AllocError>
     ensures { IfOk result (Begins flusher.now end) }
 {
-    let pages = (end / PAGE_LINES + 1).saturating_sub(flusher.line / PAGE_LINES);
+    let pages = (page_of(end) + 1).saturating_sub(page_of(flusher.line));
     let mut starts = Vec::from_slice(alloc, flusher.starts.as_slice())?;
     starts.reserve(pages as usize)?;
     Ok(Batch {
@@ -114,7 +114,7 @@ fn keep_start(starts: &mut Vec<PageStart>, page: u64, number: u32, line: u64) ->
     ensures kept { page_of line < page → vec_len starts.new ≡ vec_len starts.old }
     ensures capacity { vec_capacity starts.new ≡ vec_capacity starts.old }
 {
-    let here = line / PAGE_LINES;
+    let here = page_of(line);
     if page <= here {
         starts.push_reserved(PageStart { number, line });
     }

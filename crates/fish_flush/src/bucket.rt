@@ -5,7 +5,7 @@ ghost use Rattle.std.specs.List.{range_with_len};
 ghost use Rattle.fish_layout.specs.Bucket.{bucket_of, byte_behind};
 ghost use Rattle.fish_layout.specs.Hash.{fnv1a_behind, fnv_step};
 
-use fish_layout::{bucket_of as bucket_in, id_in, keys_in, offset_in, size_in};
+use fish_layout::{bucket_of as bucket_in, entry_at, id_in, keys_in, offset_in, size_in};
 
 /// Where FNV-1a of 64 bits begins.
 const START: u64 = 0xcbf2_9ce4_8422_2325;
@@ -20,9 +20,9 @@ pub(crate) fn entry_bucket(words: &[u64], c: u64, buckets: u64) -> u64
     ensures bucket { result ≡ bucket_of buckets (slice_index words.now) c }
     ensures fits { result < buckets }
 {
-    let behind = 1 + 3 * u64::from(keys_in(word(words, 0)));
-    let third = word(words, 1 + 3 * c + 2);
-    let id = id_in(word(words, 1 + 3 * c + 1));
+    let behind = entry_at(u64::from(keys_in(word(words, 0))));
+    let third = word(words, entry_at(c) + 2);
+    let id = id_in(word(words, entry_at(c) + 1));
     let hash = mix(START, &id.to_le_bytes());
     let from = offset_in(third) as u64;
     let size = size_in(third) as u64;

@@ -9,7 +9,7 @@ ghost use Rattle.fish_layout.specs.Header.{keys_of};
 ghost use Rattle.fish_flush.specs.Linking.{AreSpelled};
 
 use crate::bucket::entry_bucket;
-use fish_layout::keys_in;
+use fish_layout::{entry_at, keys_in, place_of};
 
 /// Puts the previous nodes of the record at a line into its words, and its key entries into the heads. For a
 /// void nothing changes. The words of which a bucket is made are none of those that change.
@@ -24,7 +24,7 @@ pub(crate) fn link(heads: &mut Vec<u64>, line: u64, words: &mut [u64])
     let keys = u64::from(keys_in(words[0]));
     for c in 0..keys {
         let bucket = entry_bucket(words, c, heads.len() as u64) as usize;
-        words[1 + 3 * c as usize] = heads[bucket];
-        heads[bucket] = 4 * line + 1 + 3 * c;
+        words[entry_at(c) as usize] = heads[bucket];
+        heads[bucket] = place_of(line, c);
     }
 }

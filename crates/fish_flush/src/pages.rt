@@ -13,7 +13,7 @@ ghost use Rattle.fish_flush.specs.Writing.{HasPut, pages_between};
 
 use crate::batch::{Batch, add_region};
 use fish_disk::Disk;
-use fish_layout::{LINE_BYTES, LINES_AT, PAGE_LINES};
+use fish_layout::{LINE_BYTES, LINES_AT, page_of};
 use fish_outside::Failed;
 use fish_rule::{Log, Pass};
 
@@ -45,7 +45,7 @@ pub(crate) fn write_settled<D: Disk>(
 {
     for number in from..to {
         add_region(log, pass, number, batch);
-        let full = batch.written / PAGE_LINES < batch.line / PAGE_LINES;
+        let full = page_of(batch.written) < page_of(batch.line);
         if full || number + 1 == to {
             write_pending(batch, disk)?;
         }

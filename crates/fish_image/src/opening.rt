@@ -10,8 +10,7 @@ ghost use Rattle.fish_image.specs.Terms.{AreIndexRows, IsIndexRow};
 
 use crate::progress::Progress;
 use crate::terms::{IndexRow, Terms};
-use fish_catalog::{CatRow, Checked, PageStarts};
-use fish_lang::parse_def;
+use fish_catalog::{CatRow, Checked, PageStarts, parse_canonical};
 use fish_value::Numbers64;
 use std::alloc::{AllocError, Global};
 
@@ -32,10 +31,7 @@ fn index_row(alloc: Global, row: &CatRow) -> Result<IndexRow, AllocError>
     requires { IsCanonical row.now.def }
     ensures { IfOk result (λ x. IsIndexRow row.now x) }
 {
-    // a canonical text is a definition, so nothing but memory is wanting
-    let Ok(def) = parse_def(alloc, row.def.as_bytes()) else {
-        return Err(AllocError);
-    };
+    let def = parse_canonical(alloc, row.def.as_bytes())?;
     Ok(IndexRow {
         def,
         from: row.from,

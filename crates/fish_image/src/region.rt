@@ -22,7 +22,8 @@ use crate::progress::Progress;
 use crate::terms::{IndexRow, Terms};
 use fish_catalog::PageStart;
 use fish_layout::{
-    BodyParts, KeyPart, PAGE_LINES, bucket_of, key_hash, lines_in, read_body, void_header,
+    BodyParts, KeyPart, bucket_of, crosses_page, key_hash, lines_in, page_of, place_of, read_body,
+    void_header,
 };
 use fish_psf::{PsfRefusal, Steps};
 use fish_read::RecordReader;
@@ -69,7 +70,7 @@ fn take_void(at: &mut Progress, lines: u64) -> Result<bool, AllocError>
     ensures { IfOk result (λ yes. (c : Commit) (s : Reached) → IsAt c s at.old
         → Took yes c (λ n. (page_of s.line < page_of (s.line + lines - 1)) × (n ≡ behind s lines s.places Void)) at.new) }
 {
-    if at.line / PAGE_LINES >= (at.line + lines - 1) / PAGE_LINES {
+    if !crosses_page(at.line, lines) {
         return Ok(false);
     }
     pass(at, lines)?;
@@ -84,7 +85,7 @@ fn pass(at: &mut Progress, lines: u64) -> Result<(), AllocError>
     ensures { OnOk result ((c : Commit) (s : Reached) (entry : Entry) → IsAt c s at.old
         → IsAt c (behind s lines s.places entry) at.new) }
 {
-    let page = at.line / PAGE_LINES;
+    let page = page_of(at.line);
     if at.page <= page {
         let start = PageStart {
             number: at.number,
@@ -165,7 +166,7 @@ fn take_parts(
     ensures { IfOk result (λ yes. (c : Commit) (s : Reached) → AreTermsOf c terms.now → IsAt c s at.old
         → Took yes c (λ n. IsKeptAt c s lines parts.now × (n ≡ behind_record c s lines parts.now)) at.new) }
 {
-    if (at.line + lines - 1) / PAGE_LINES != at.line / PAGE_LINES {
+    if crosses_page(at.line, lines) {
         return Ok(false);
     }
     if !is_kept(alloc, terms.rows.as_slice(), reader, at.number, parts)? {
@@ -244,7 +245,7 @@ fn link(heads: &mut Vec<u64>, line: u64, keys: &[KeyPart]) -> bool
         if heads[bucket] != key.prev {
             return false;
         }
-        heads[bucket] = 4 * line + 1 + 3 * c as u64;
+        heads[bucket] = place_of(line, c as u64);
     }
     true
 }

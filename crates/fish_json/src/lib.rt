@@ -10,6 +10,7 @@ mod reader;
 mod record;
 mod row;
 
+pub use fish_value::MAX_PAYLOAD;
 pub use reader::JsonReader;
-pub use record::{JsonRecord, MAX_PAYLOAD, RecordRefusal};
+pub use record::{JsonRecord, RecordRefusal};
 pub use row::JsonRow;

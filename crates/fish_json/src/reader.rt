@@ -10,8 +10,9 @@ ghost use Rattle.fish_json.specs.Row.{row_contents};
 ghost use Rattle.fish_json.specs.Tape.{data_at, Stands};
 
 use crate::nodes::fits;
-use crate::record::{MAX_PAYLOAD, RecordRefusal};
+use crate::record::RecordRefusal;
 use crate::row::JsonRow;
+use fish_value::MAX_PAYLOAD;
 use json::{Element, Scratch, Tape};
 use std::alloc::{AllocError, Global};
 

@@ -8,12 +8,9 @@ ghost use Rattle.fish_value.specs.Limits.{longest_payload};
 ghost use Rattle.fish_value.specs.Seen.{field_seen};
 ghost use Rattle.fish_json.specs.Reading.{at_path, items_in, items_of, field_in, kind_of, record_of};
 
-use fish_value::{Field, FieldView, Fields, Path, Sequence, Text, read_json};
+use fish_value::{Field, FieldView, Fields, MAX_PAYLOAD, Path, Sequence, Text, read_json};
 use std::alloc::{AllocError, Global};
 use thiserror::Error;
-
-/// The most bytes that a payload may have.
-pub const MAX_PAYLOAD: usize = 524_288;
 
 /// Why bytes are no record.
 #[derive(Clone, Copy, Debug, PartialEq, Eq, Error)]

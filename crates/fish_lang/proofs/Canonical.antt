@@ -6,8 +6,9 @@ use Rattle.fish_value.specs.declared.value.Value.{Value}
 use Rattle.fish_value.specs.declared.value.Value.TheVariants as value
 use Rattle.fish_lang.specs.Definition.{Steps, Formula, compares, is_there, begins, negated, both, either}
 use Rattle.fish_lang.specs.Definition.{Definition, takes, eaches, buckets, flags}
-use Rattle.fish_lang.specs.Grammar.{Spot, keyword, spots, path_spots, literal_spot, test_spots, cond_spots, conj_spots}
-use Rattle.fish_lang.specs.Grammar.{neg_spots, width_fault, nesting_fault, when_spots}
+use Rattle.fish_lang.specs.Grammar.{Terminal, keyword, terminals, path_terminals, literal_terminal}
+use Rattle.fish_lang.specs.Grammar.{test_terminals, cond_terminals, conj_terminals}
+use Rattle.fish_lang.specs.Grammar.{neg_terminals, width_fault, nesting_fault, when_terminals}
 use Rattle.fish_lang.specs.Derivation.{Path, one_step, more_steps, compare, exist, start, step_name, path_steps}
 use Rattle.fish_lang.specs.Derivation.{literal_value, cond_formula, conj_formula, neg_formula, meaning}
 use Rattle.fish_lang.specs.Token.{is_ident}
@@ -77,23 +78,23 @@ derivation-means (buckets p n w) h = rw (path-means p h.0, when-means w h.3)
 derivation-means (flags a) h = rw ((means a h).cond)
 
 -- no place of these is refused
-abbrev pub AreFine : List Spot → Type 0
+abbrev pub AreFine : List Terminal → Type 0
 AreFine [] = Unit {0}
 AreFine (x ∷ xs) = (x.fault ≡ None) × AreFine xs
 
-pub fine-append : (xs ys : List Spot) → AreFine xs → AreFine ys → AreFine (xs ++ ys)
+pub fine-append : (xs ys : List Terminal) → AreFine xs → AreFine ys → AreFine (xs ++ ys)
 fine-append [] ys f g = g
 fine-append (x ∷ xs) ys f g = (f.0, fine-append xs ys f.1 g)
 
-pub fine-front : (xs ys : List Spot) → AreFine (xs ++ ys) → AreFine xs × AreFine ys
+pub fine-front : (xs ys : List Terminal) → AreFine (xs ++ ys) → AreFine xs × AreFine ys
 fine-front [] ys f = (tt, f)
 fine-front (x ∷ xs) ys f = let rest = fine-front xs ys f.1 in ((f.0, rest.0), rest.1)
 
-path-fine : (p : Path) → AreFine (path_spots p)
+path-fine : (p : Path) → AreFine (path_terminals p)
 path-fine (one_step s) = (refl, tt)
-path-fine (more_steps p s) = fine-append (path_spots p) _ (path-fine p) (refl, (refl, tt))
+path-fine (more_steps p s) = fine-append (path_terminals p) _ (path-fine p) (refl, (refl, tt))
 
-literal-fine : (v : Value) → (literal_spot (literal_of v)).fault ≡ None
+literal-fine : (v : Value) → (literal_terminal (literal_of v)).fault ≡ None
 literal-fine (value.Bool true) = refl
 literal-fine (value.Bool false) = refl
 literal-fine (value.Int n) = refl
@@ -104,59 +105,59 @@ shallow n h =
     let e : nat_lt n 16 ≡ true = grind (arith, nat_tests) in
     rw e
 
-compares-fine : (p : Path) (op : Op) (v : Value) → AreFine (test_spots (compare p op (literal_of v)))
-compares-fine p op v = fine-append (path_spots p) _ (path-fine p) (refl, (literal-fine v, tt))
+compares-fine : (p : Path) (op : Op) (v : Value) → AreFine (test_terminals (compare p op (literal_of v)))
+compares-fine p op v = fine-append (path_terminals p) _ (path-fine p) (refl, (literal-fine v, tt))
 
-is_there-fine : (p : Path) → AreFine (test_spots (exist p))
-is_there-fine p = fine-append (path_spots p) _ (path-fine p) (refl, tt)
+is_there-fine : (p : Path) → AreFine (test_terminals (exist p))
+is_there-fine p = fine-append (path_terminals p) _ (path-fine p) (refl, tt)
 
-begins-fine : (p : Path) (s : List ℕ) → AreFine (test_spots (start p s))
-begins-fine p s = fine-append (path_spots p) _ (path-fine p) (refl, (refl, tt))
+begins-fine : (p : Path) (s : List ℕ) → AreFine (test_terminals (start p s))
+begins-fine p s = fine-append (path_terminals p) _ (path-fine p) (refl, (refl, tt))
 
 -- a condition that nests no deeper than 16, at each place
 mutual
-  cond-fine : (a : Formula) (n : ℕ) → n + cond_depth (cond_of a) ≤ 16 → AreFine (cond_spots n (cond_of a))
+  cond-fine : (a : Formula) (n : ℕ) → n + cond_depth (cond_of a) ≤ 16 → AreFine (cond_terminals n (cond_of a))
   cond-fine (compares p op v) n h = compares-fine (path_of p) op v
   cond-fine (is_there p) n h = is_there-fine (path_of p)
   cond-fine (begins p s) n h = begins-fine (path_of p) s
   cond-fine (negated a) n h = (shallow n (omega arith), neg-fine a (suc n) (omega arith))
-  cond-fine (both a b) n h = fine-append (conj_spots n (conj_of a)) _ (conj-fine a n (omega arith))
+  cond-fine (both a b) n h = fine-append (conj_terminals n (conj_of a)) _ (conj-fine a n (omega arith))
       (refl, neg-fine b n (omega arith))
-  cond-fine (either a b) n h = fine-append (cond_spots n (cond_of a)) _
+  cond-fine (either a b) n h = fine-append (cond_terminals n (cond_of a)) _
       (cond-fine a n (omega arith)) (refl, conj-fine b n (omega arith))
 
-  conj-fine : (a : Formula) (n : ℕ) → n + conj_depth (conj_of a) ≤ 16 → AreFine (conj_spots n (conj_of a))
+  conj-fine : (a : Formula) (n : ℕ) → n + conj_depth (conj_of a) ≤ 16 → AreFine (conj_terminals n (conj_of a))
   conj-fine (compares p op v) n h = compares-fine (path_of p) op v
   conj-fine (is_there p) n h = is_there-fine (path_of p)
   conj-fine (begins p s) n h = begins-fine (path_of p) s
   conj-fine (negated a) n h = (shallow n (omega arith), neg-fine a (suc n) (omega arith))
-  conj-fine (both a b) n h = fine-append (conj_spots n (conj_of a)) _ (conj-fine a n (omega arith))
+  conj-fine (both a b) n h = fine-append (conj_terminals n (conj_of a)) _ (conj-fine a n (omega arith))
       (refl, neg-fine b n (omega arith))
   conj-fine (either a b) n h = (
     shallow n (omega arith),
-    fine-append (cond_spots (suc n) (cond_of a)
-        ++ keyword word.Or ∷ conj_spots (suc n) (conj_of b)) _
-        (fine-append (cond_spots (suc n) (cond_of a)) _ (cond-fine a (suc n) (omega arith))
+    fine-append (cond_terminals (suc n) (cond_of a)
+        ++ keyword word.Or ∷ conj_terminals (suc n) (conj_of b)) _
+        (fine-append (cond_terminals (suc n) (cond_of a)) _ (cond-fine a (suc n) (omega arith))
         (refl, conj-fine b (suc n) (omega arith))) (refl, tt),
   )
 
-  neg-fine : (a : Formula) (n : ℕ) → n + neg_depth (neg_of a) ≤ 16 → AreFine (neg_spots n (neg_of a))
+  neg-fine : (a : Formula) (n : ℕ) → n + neg_depth (neg_of a) ≤ 16 → AreFine (neg_terminals n (neg_of a))
   neg-fine (compares p op v) n h = compares-fine (path_of p) op v
   neg-fine (is_there p) n h = is_there-fine (path_of p)
   neg-fine (begins p s) n h = begins-fine (path_of p) s
   neg-fine (negated a) n h = (shallow n (omega arith), neg-fine a (suc n) (omega arith))
   neg-fine (both a b) n h = (
     shallow n (omega arith),
-    fine-append (conj_spots (suc n) (conj_of a)
-        ++ keyword word.And ∷ neg_spots (suc n) (neg_of b)) _
-        (fine-append (conj_spots (suc n) (conj_of a)) _ (conj-fine a (suc n) (omega arith))
+    fine-append (conj_terminals (suc n) (conj_of a)
+        ++ keyword word.And ∷ neg_terminals (suc n) (neg_of b)) _
+        (fine-append (conj_terminals (suc n) (conj_of a)) _ (conj-fine a (suc n) (omega arith))
         (refl, neg-fine b (suc n) (omega arith))) (refl, tt),
   )
   neg-fine (either a b) n h = (
     shallow n (omega arith),
-    fine-append (cond_spots (suc n) (cond_of a)
-        ++ keyword word.Or ∷ conj_spots (suc n) (conj_of b)) _
-        (fine-append (cond_spots (suc n) (cond_of a)) _ (cond-fine a (suc n) (omega arith))
+    fine-append (cond_terminals (suc n) (cond_of a)
+        ++ keyword word.Or ∷ conj_terminals (suc n) (conj_of b)) _
+        (fine-append (cond_terminals (suc n) (cond_of a)) _ (cond-fine a (suc n) (omega arith))
         (refl, conj-fine b (suc n) (omega arith))) (refl, tt),
   )
 
@@ -171,15 +172,15 @@ IsShallow (eaches p w) = when_depth w ≤ 16
 IsShallow (buckets p n w) = (when_depth w ≤ 16) × (width_fault (Some n) ≡ None)
 IsShallow (flags a) = cond_depth (cond_of a) ≤ 16
 
-when-fine : (w : Option Formula) → when_depth w ≤ 16 → AreFine (when_spots (when_of w))
+when-fine : (w : Option Formula) → when_depth w ≤ 16 → AreFine (when_terminals (when_of w))
 when-fine None h = tt
 when-fine (Some a) h = (refl, cond-fine a 0 (omega arith))
 
-pub derivation-fine : (d : Definition) → IsShallow d → AreFine (spots (derivation_of d))
+pub derivation-fine : (d : Definition) → IsShallow d → AreFine (terminals (derivation_of d))
 derivation-fine (takes p w) h =
-    (refl, fine-append (path_spots (path_of p)) _ (path-fine (path_of p)) (when-fine w h))
+    (refl, fine-append (path_terminals (path_of p)) _ (path-fine (path_of p)) (when-fine w h))
 derivation-fine (eaches p w) h =
-    (refl, fine-append (path_spots (path_of p)) _ (path-fine (path_of p)) (when-fine w h))
+    (refl, fine-append (path_terminals (path_of p)) _ (path-fine (path_of p)) (when-fine w h))
 derivation-fine (buckets p n w) h =
-    (refl, fine-append (path_spots (path_of p)) _ (path-fine (path_of p)) (refl, (h.1, when-fine w h.0)))
+    (refl, fine-append (path_terminals (path_of p)) _ (path-fine (path_of p)) (refl, (h.1, when-fine w h.0)))
 derivation-fine (flags a) h = (refl, (refl, cond-fine a 0 (omega arith)))

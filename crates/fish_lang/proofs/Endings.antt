@@ -4,7 +4,7 @@ use Rattle.std.specs.Prelude.{pos, true, false, Some, None, codes}
 use Rattle.std.proofs.lemmas.Str.{IsUtf8-from_ascii}
 use Rattle.fish_value.specs.Number.{int_of}
 use Rattle.fish_lang.specs.Definition.{Definition}
-use Rattle.fish_lang.specs.Grammar.{Spot, spot, keyword, spots, path_spots}
+use Rattle.fish_lang.specs.Grammar.{Terminal, terminal, keyword, terminals, path_terminals}
 use Rattle.fish_lang.specs.Derivation.{Step, ident, Path, one_step, more_steps, truth, Cond, one_conj, more_conjs}
 use Rattle.fish_lang.specs.Derivation.{one_neg, Neg, compare, exist, start, test, Derivation, take_def, each_def, bucket_def}
 use Rattle.fish_lang.specs.Derivation.{flag_def, meaning, cond_formula}
@@ -20,8 +20,8 @@ use Rattle.fish_lang.proofs.Trees.{in_whole, behind_or, Head, take_when, each_wh
 use Rattle.fish_lang.proofs.Trees.{of_bucket, of_test, Tree, start_tree, flag_tree, first_of_take, first_of_each, first_of_bucket}
 use Rattle.fish_lang.proofs.Trees.{behind_dot, behind_step, width, behind_width, operand, literal, prefix}
 use Rattle.fish_lang.proofs.Trees.{behind_operand, head_state, state_of, before, owner_before, with_cond}
-use Rattle.fish_lang.proofs.Trees.{with_cond-spots, round, round_joint, behind, joint_behind, round-spots}
-use Rattle.fish_lang.proofs.Trees.{round_joint-spots}
+use Rattle.fish_lang.proofs.Trees.{with_cond-terminals, round, round_joint, behind, joint_behind, round-terminals}
+use Rattle.fish_lang.proofs.Trees.{round_joint-terminals}
 
 -- the tokens with which the derivations below go on
 abbrev IsToken : Token → Type 0
@@ -86,11 +86,11 @@ mutual
   behind-real (under_not k) = behind-real k
 
 -- a derivation that begins with places, and goes on with tokens
-pub record Finishes (front : List Spot) : Type 0 where
+pub record Finishes (front : List Terminal) : Type 0 where
   pub tree : Derivation
-  pub more : List Spot
+  pub more : List Terminal
   pub real : AreTokens more
-  pub spells : spots tree ≡ front ++ more
+  pub spells : terminals tree ≡ front ++ more
 
 abbrev some_step : Step
 some_step = ident (codes "a")
@@ -98,11 +98,11 @@ some_step = ident (codes "a")
 abbrev some_test : Neg
 some_test = test (exist (one_step some_step))
 
-abbrev some_width : Spot
+abbrev some_width : Terminal
 some_width = record { token = kind.Number false (Some (pos 1)); fault = None }
 
 -- behind a step any part can end
-path_finishes : (o : Owner) (p : Path) → Finishes (owner_before o ++ path_spots p)
+path_finishes : (o : Owner) (p : Path) → Finishes (owner_before o ++ path_terminals p)
 path_finishes of_take p = record { tree = take_def p None; more = []; real = tt; spells = refl }
 path_finishes of_each p = record { tree = each_def p None; more = []; real = tt; spells = refl }
 path_finishes of_bucket p = record {
@@ -115,37 +115,37 @@ path_finishes (of_test k j) p = record {
   tree = round k j (test (exist p));
   more = keyword word.Exists ∷ behind j;
   real = (exists-token, behind-real j);
-  spells = round-spots k j (test (exist p)) ∙ simp append_assoc;
+  spells = round-terminals k j (test (exist p)) ∙ simp append_assoc;
 }
 
 pub finishes : (tree : Tree) → Finishes (before tree)
 finishes start_tree = record {
   tree = take_def (one_step some_step) None;
-  more = keyword word.Take ∷ spot (kind.Ident (codes "a")) ∷ [];
+  more = keyword word.Take ∷ terminal (kind.Ident (codes "a")) ∷ [];
   real = (take-token, (ident-token, tt));
   spells = refl;
 }
 finishes flag_tree = record {
   tree = flag_def (one_conj (one_neg some_test));
-  more = keyword word.When ∷ spot (kind.Ident (codes "a")) ∷ keyword word.Exists ∷ [];
+  more = keyword word.When ∷ terminal (kind.Ident (codes "a")) ∷ keyword word.Exists ∷ [];
   real = (when-token, (ident-token, (exists-token, tt)));
   spells = refl;
 }
 finishes first_of_take = record {
   tree = take_def (one_step some_step) None;
-  more = spot (kind.Ident (codes "a")) ∷ [];
+  more = terminal (kind.Ident (codes "a")) ∷ [];
   real = (ident-token, tt);
   spells = refl;
 }
 finishes first_of_each = record {
   tree = each_def (one_step some_step) None;
-  more = spot (kind.Ident (codes "a")) ∷ [];
+  more = terminal (kind.Ident (codes "a")) ∷ [];
   real = (ident-token, tt);
   spells = refl;
 }
 finishes first_of_bucket = record {
   tree = bucket_def (one_step some_step) (Some (pos 1)) None;
-  more = spot (kind.Ident (codes "a")) ∷ keyword word.By ∷ some_width ∷ [];
+  more = terminal (kind.Ident (codes "a")) ∷ keyword word.By ∷ some_width ∷ [];
   real = (ident-token, (by-token, (number-token, tt)));
   spells = refl;
 }
@@ -153,7 +153,7 @@ finishes (behind_dot o p) =
     let f = path_finishes o (more_steps p some_step) in
     record {
       tree = f.tree;
-      more = spot (kind.Ident (codes "a")) ∷ f.more;
+      more = terminal (kind.Ident (codes "a")) ∷ f.more;
       real = (ident-token, f.real);
       spells = f.spells ∙ simp append_assoc;
     }
@@ -168,33 +168,33 @@ finishes (behind_width p n) =
     record { tree = bucket_def p n None; more = []; real = tt; spells = simp append-nil }
 finishes (operand k j) = record {
   tree = round k j some_test;
-  more = spot (kind.Ident (codes "a")) ∷ keyword word.Exists ∷ behind j;
+  more = terminal (kind.Ident (codes "a")) ∷ keyword word.Exists ∷ behind j;
   real = (ident-token, (exists-token, behind-real j));
-  spells = round-spots k j some_test;
+  spells = round-terminals k j some_test;
 }
 finishes (literal k j p op) = record {
   tree = round k j (test (compare p op (truth true)));
   more = keyword word.True ∷ behind j;
   real = (true-token, behind-real j);
-  spells = round-spots k j (test (compare p op (truth true))) ∙ simp append_assoc;
+  spells = round-terminals k j (test (compare p op (truth true))) ∙ simp append_assoc;
 }
 finishes (prefix k j p) = record {
   tree = round k j (test (start p []));
-  more = spot (kind.Str []) ∷ behind j;
+  more = terminal (kind.Str []) ∷ behind j;
   real = (empty-token, behind-real j);
-  spells = round-spots k j (test (start p [])) ∙ simp append_assoc;
+  spells = round-terminals k j (test (start p [])) ∙ simp append_assoc;
 }
 finishes (behind_operand k j c) = record {
   tree = round_joint k j c;
   more = joint_behind j;
   real = joint-real j;
-  spells = round_joint-spots k j c ∙ simp append_assoc;
+  spells = round_joint-terminals k j c ∙ simp append_assoc;
 }
 
 -- a whole derivation with what it spells and means
 pub record Ends (tree : Tree) (d : Definition) : Type 0 where
   pub whole : Derivation
-  pub spells : spots whole ≡ before tree
+  pub spells : terminals whole ≡ before tree
   pub means : meaning whole ≡ d
 
 -- what is known behind a condition is what it means
@@ -213,13 +213,13 @@ ends (behind_width p n) d h = record { whole = bucket_def p n None; spells = ref
 ends (behind_operand k (in_whole top) c) d h = record {
   whole = with_cond k (one_conj c);
   spells =
-      with_cond-spots k (one_conj c);
+      with_cond-terminals k (one_conj c);
   means = cc (with_cond-means k (one_conj c));
 }
 ends (behind_operand k (behind_or a top) c) d h =
     record {
       whole = with_cond k (more_conjs a c);
-      spells = with_cond-spots k (more_conjs a c)
+      spells = with_cond-terminals k (more_conjs a c)
           ∙ simp append_assoc;
       means = cc (with_cond-means k (more_conjs a c));
     }

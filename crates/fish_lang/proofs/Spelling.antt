@@ -3,7 +3,7 @@ use Rattle.std.proofs.Common.{◌≡◌, ℕ, List, [], ◌∷◌, ◌++◌, ref
 use Rattle.std.specs.Prelude.{false, Option, Some, None, codes}
 use Rattle.fish_lang.specs.Canonical.{path_text, formula_text, when_text, definition_text}
 use Rattle.fish_lang.specs.Definition.{Formula, Definition, takes, eaches, buckets, flags}
-use Rattle.fish_lang.specs.Grammar.{Spot, spelled, spots, path_spots, cond_spots, when_spots}
+use Rattle.fish_lang.specs.Grammar.{Terminal, spelled, terminals, path_terminals, cond_terminals, when_terminals}
 use Rattle.fish_lang.specs.Derivation.{Cond, Derivation, take_def, each_def, bucket_def, flag_def}
 use Rattle.std.specs.Fmt.{signed_decimal}
 use Rattle.fish_lang.specs.declared.print.Part.TheVariants.{Whole}
@@ -33,34 +33,34 @@ when-ends None = tt
 when-ends (Some a) = refl
 
 -- at the end of the text
-at-end : (text : List ℕ) (xs : List Spot) → LexesTo text xs → lexed (text ++ []) ≡ spelled xs
+at-end : (text : List ℕ) (xs : List Terminal) → LexesTo text xs → lexed (text ++ []) ≡ spelled xs
 at-end text xs h = h [] tt ∙ rw lexed-none (append-nil (spelled xs))
 
-when-lexed : (w : Option Formula) → IsWhen w → lexed (when_text w ++ []) ≡ spelled (when_spots (when_of w))
+when-lexed : (w : Option Formula) → IsWhen w → lexed (when_text w ++ []) ≡ spelled (when_terminals (when_of w))
 when-lexed None h = lexed-none
 when-lexed (Some a) h =
     lexed-blank (codes "when " ++ (formula_text Whole a ++ []))
     ∙ lexed-when (formula_text Whole a ++ []) ∙ ap (λ ts. kind.Keyword word.When ∷ ts)
-    (at-end (formula_text Whole a) (cond_spots 0 (cond_of a)) (condition-lexed Whole a 0 h))
+    (at-end (formula_text Whole a) (cond_terminals 0 (cond_of a)) (condition-lexed Whole a 0 h))
 
 definition-lexed-nil : (d : Definition) → IsWritable d → lexed (definition_text d ++ [])
-    ≡ spelled (spots (derivation_of d))
+    ≡ spelled (terminals (derivation_of d))
 definition-lexed-nil (takes p w) h =
     simp (append_assoc, spelled-append)
     (lexed-take (path_text p ++ (when_text w ++ [])) ∙ ap (λ ts. kind.Keyword word.Take ∷ ts)
     (path-lexed p (when_text w ++ []) h.0 (when-ends w)
-    ∙ ap (λ ts. spelled (path_spots (path_of p)) ++ ts) (when-lexed w h.1)))
+    ∙ ap (λ ts. spelled (path_terminals (path_of p)) ++ ts) (when-lexed w h.1)))
 definition-lexed-nil (eaches p w) h =
     simp (append_assoc, spelled-append)
     (lexed-each (path_text p ++ (when_text w ++ [])) ∙ ap (λ ts. kind.Keyword word.Each ∷ ts)
     (path-lexed p (when_text w ++ []) h.0 (when-ends w)
-    ∙ ap (λ ts. spelled (path_spots (path_of p)) ++ ts) (when-lexed w h.1)))
+    ∙ ap (λ ts. spelled (path_terminals (path_of p)) ++ ts) (when-lexed w h.1)))
 definition-lexed-nil (buckets p n w) h =
     simp (append_assoc, spelled-append)
     (lexed-bucket (path_text p ++ (codes " by " ++ (signed_decimal n ++ (when_text w ++ []))))
     ∙ ap (λ ts. kind.Keyword word.Bucket ∷ ts)
     (path-lexed p (codes " by " ++ (signed_decimal n ++ (when_text w ++ []))) h.0 refl
-    ∙ ap (λ ts. spelled (path_spots (path_of p)) ++ ts)
+    ∙ ap (λ ts. spelled (path_terminals (path_of p)) ++ ts)
     (lexed-by (signed_decimal n ++ (when_text w ++ []))
     ∙ ap (λ ts. kind.Keyword word.By ∷ ts) (lexed-int n (when_text w ++ []) h.1 (when-ends w)
     ∙ rw h.2 (ap (λ ts. kind.Number false (Some n) ∷ ts) (when-lexed w h.3))))))
@@ -69,9 +69,9 @@ definition-lexed-nil (flags a) h =
     (lexed-flag (codes "when " ++ (formula_text Whole a ++ []))
     ∙ ap (λ ts. kind.Keyword word.Flag ∷ ts) (lexed-when (formula_text Whole a ++ [])
     ∙ ap (λ ts. kind.Keyword word.When ∷ ts)
-    (at-end (formula_text Whole a) (cond_spots 0 (cond_of a)) (condition-lexed Whole a 0 h))))
+    (at-end (formula_text Whole a) (cond_terminals 0 (cond_of a)) (condition-lexed Whole a 0 h))))
 
 -- the tokens of the canonical text
 pub definition-lexed : (d : Definition) → IsWritable d → lexed (definition_text d)
-    ≡ spelled (spots (derivation_of d))
+    ≡ spelled (terminals (derivation_of d))
 definition-lexed d h = rw append-nil at (definition-lexed-nil d h)

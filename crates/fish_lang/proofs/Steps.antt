@@ -3,7 +3,7 @@ use Rattle.std.proofs.Common.{◌≡◌, ℕ, List, [], ◌∷◌, ◌++◌, ref
 use Rattle.std.specs.Prelude.{ℤ, true, false, Option, Some, None, option_map}
 use Rattle.fish_value.specs.declared.value.Value.{Value}
 use Rattle.fish_lang.specs.Definition.{compares, begins}
-use Rattle.fish_lang.specs.Grammar.{Spot, step_token, literal_spot}
+use Rattle.fish_lang.specs.Grammar.{Terminal, step_token, literal_terminal}
 use Rattle.fish_lang.specs.Derivation.{Step, ident, string, Path, one_step, more_steps, Literal, truth, number, text}
 use Rattle.fish_lang.specs.Derivation.{compare, exist, start, Conj, group, test, path_steps, step_name, literal_value}
 use Rattle.fish_lang.specs.Derivation.{conj_formula, one_conj, more_conjs}
@@ -24,7 +24,7 @@ use Rattle.fish_lang.proofs.Trees.{operand_state, head_state, owner_state, state
 use Rattle.fish_lang.proofs.Trees.{completed-before}
 
 -- a token in its place
-abbrev pub placed_at : State → Token → Spot
+abbrev pub placed_at : State → Token → Terminal
 placed_at s t = record { token = t; fault = fault_at s t }
 
 -- a tree that is one place longer than another, and stands for a state
@@ -47,14 +47,14 @@ names _ s h = cc
 -- a literal by its token
 record Stands (t : Token) (v : Value) : Type 0 where
   lit : Literal
-  spot : literal_spot lit ≡ record { token = t; fault = number_of t }
+  terminal : literal_terminal lit ≡ record { token = t; fault = number_of t }
   value : literal_value lit ≡ v
 
 stands : (t : Token) (v : Value) → value_of t ≡ Some v → Stands t v
-stands (Keyword True) v h = record { lit = truth true; spot = refl; value = cc }
-stands (Keyword False) v h = record { lit = truth false; spot = refl; value = cc }
-stands (Number negative n) v h = record { lit = number negative n; spot = refl; value = cc }
-stands (Str s) v h = record { lit = text s; spot = refl; value = cc }
+stands (Keyword True) v h = record { lit = truth true; terminal = refl; value = cc }
+stands (Keyword False) v h = record { lit = truth false; terminal = refl; value = cc }
+stands (Number negative n) v h = record { lit = number negative n; terminal = refl; value = cc }
+stands (Str s) v h = record { lit = text s; terminal = refl; value = cc }
 stands _ v h = cc
 
 -- one step more of a path that has begun
@@ -188,7 +188,7 @@ from_literal k j p op t s (Some v) e h =
     record {
       next = completed k j a;
       stands = completed-state k j a ∙ rw is.value cc;
-      spells = completed-before k j a ∙ rw is.spot (simp append_assoc);
+      spells = completed-before k j a ∙ rw is.terminal (simp append_assoc);
     }
 
 from_prefix : (k : Head) (j : Operand) (p : Path) (t : Token) (s : State)

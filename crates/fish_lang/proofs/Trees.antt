@@ -2,7 +2,8 @@
 -- far, and can be finished.
 use Rattle.std.proofs.Common.{◌≡◌, List, [], ◌∷◌, ◌++◌, refl, ◌∙◌, append_assoc, append-nil}
 use Rattle.std.specs.Prelude.{ℤ, pos, false, Option, Some, unwrap_or}
-use Rattle.fish_lang.specs.Grammar.{Spot, spot, keyword, path_spots, nesting_fault, width_fault, cond_spots, conj_spots, neg_spots, spots}
+use Rattle.fish_lang.specs.Grammar.{Terminal, terminal, keyword, path_terminals, nesting_fault, width_fault}
+use Rattle.fish_lang.specs.Grammar.{cond_terminals, conj_terminals, neg_terminals, terminals}
 use Rattle.fish_lang.specs.Derivation.{Path, Cond, one_conj, more_conjs, Conj, one_neg, more_negs, Neg, not_neg, group}
 use Rattle.fish_lang.specs.Derivation.{Derivation, take_def, each_def, bucket_def, flag_def, path_steps, cond_formula}
 use Rattle.fish_lang.specs.Derivation.{conj_formula, neg_formula}
@@ -96,53 +97,53 @@ state_of (prefix h k p) = machine.prefix (head_state h) (operand_state k) (path_
 state_of (behind_operand h j c) = machine.behind_operand (head_state h) (joint_state j) (conj_formula c)
 
 -- what each has spelled
-abbrev pub head_spots : Head → List Spot
-head_spots (take_when p) = keyword word.Take ∷ (path_spots p ++ keyword word.When ∷ [])
-head_spots (each_when p) = keyword word.Each ∷ (path_spots p ++ keyword word.When ∷ [])
-head_spots (bucket_when p n) = keyword word.Bucket ∷ (path_spots p
+abbrev pub head_terminals : Head → List Terminal
+head_terminals (take_when p) = keyword word.Take ∷ (path_terminals p ++ keyword word.When ∷ [])
+head_terminals (each_when p) = keyword word.Each ∷ (path_terminals p ++ keyword word.When ∷ [])
+head_terminals (bucket_when p n) = keyword word.Bucket ∷ (path_terminals p
     ++ keyword word.By ∷ record { token = kind.Number false n; fault = width_fault n } ∷ keyword
     word.When ∷ [])
-head_spots flag_when = keyword word.Flag ∷ keyword word.When ∷ []
+head_terminals flag_when = keyword word.Flag ∷ keyword word.When ∷ []
 
 abbrev mutual
-  pub whole_before : Head → Whole → List Spot
-  whole_before h top = head_spots h
+  pub whole_before : Head → Whole → List Terminal
+  whole_before h top = head_terminals h
   whole_before h (in_group k) = operand_before h k
       ++ record { token = kind.Open; fault = nesting_fault (nesting (operand_state k)) } ∷ []
 
-  pub joint_before : Head → Joint → List Spot
+  pub joint_before : Head → Joint → List Terminal
   joint_before h (in_whole w) = whole_before h w
-  joint_before h (behind_or a w) = whole_before h w ++ (cond_spots (whole_nesting (whole_state w)) a
+  joint_before h (behind_or a w) = whole_before h w ++ (cond_terminals (whole_nesting (whole_state w)) a
       ++ keyword word.Or ∷ [])
 
-  pub operand_before : Head → Operand → List Spot
+  pub operand_before : Head → Operand → List Terminal
   operand_before h (in_joint j) = joint_before h j
   operand_before h (behind_and c j) = joint_before h j
-      ++ (conj_spots (joint_nesting (joint_state j)) c ++ keyword word.And ∷ [])
+      ++ (conj_terminals (joint_nesting (joint_state j)) c ++ keyword word.And ∷ [])
   operand_before h (under_not k) = operand_before h k
       ++ record { token = kind.Keyword word.Not; fault = nesting_fault (nesting (operand_state k)) } ∷ []
 
-abbrev pub owner_before : Owner → List Spot
+abbrev pub owner_before : Owner → List Terminal
 owner_before of_take = keyword word.Take ∷ []
 owner_before of_each = keyword word.Each ∷ []
 owner_before of_bucket = keyword word.Bucket ∷ []
 owner_before (of_test h k) = operand_before h k
 
-abbrev pub before : Tree → List Spot
+abbrev pub before : Tree → List Terminal
 before start_tree = []
 before flag_tree = keyword word.Flag ∷ []
 before first_of_take = keyword word.Take ∷ []
 before first_of_each = keyword word.Each ∷ []
 before first_of_bucket = keyword word.Bucket ∷ []
-before (behind_dot o p) = owner_before o ++ (path_spots p ++ spot kind.Dot ∷ [])
-before (behind_step o p) = owner_before o ++ path_spots p
-before (width p) = keyword word.Bucket ∷ (path_spots p ++ keyword word.By ∷ [])
-before (behind_width p n) = keyword word.Bucket ∷ (path_spots p
+before (behind_dot o p) = owner_before o ++ (path_terminals p ++ terminal kind.Dot ∷ [])
+before (behind_step o p) = owner_before o ++ path_terminals p
+before (width p) = keyword word.Bucket ∷ (path_terminals p ++ keyword word.By ∷ [])
+before (behind_width p n) = keyword word.Bucket ∷ (path_terminals p
     ++ keyword word.By ∷ record { token = kind.Number false n; fault = width_fault n } ∷ [])
 before (operand h k) = operand_before h k
-before (literal h k p op) = operand_before h k ++ (path_spots p ++ spot (kind.Compare op) ∷ [])
-before (prefix h k p) = operand_before h k ++ (path_spots p ++ keyword word.Starts ∷ [])
-before (behind_operand h j c) = joint_before h j ++ conj_spots (joint_nesting (joint_state j)) c
+before (literal h k p op) = operand_before h k ++ (path_terminals p ++ terminal (kind.Compare op) ∷ [])
+before (prefix h k p) = operand_before h k ++ (path_terminals p ++ keyword word.Starts ∷ [])
+before (behind_operand h j c) = joint_before h j ++ conj_terminals (joint_nesting (joint_state j)) c
 
 -- behind an operand
 abbrev pub completed : Head → Operand → Neg → Tree
@@ -157,7 +158,7 @@ completed-state h (behind_and c j) a = refl
 completed-state h (under_not k) a = completed-state h k (not_neg a)
 
 pub completed-before : (h : Head) (k : Operand) (a : Neg) → before (completed h k a)
-    ≡ operand_before h k ++ neg_spots (nesting (operand_state k)) a
+    ≡ operand_before h k ++ neg_terminals (nesting (operand_state k)) a
 completed-before h (in_joint j) a = refl
 completed-before h (behind_and c j) a = simp append_assoc
 completed-before h (under_not k) a = completed-before h k (not_neg a) ∙ simp append_assoc
@@ -172,8 +173,8 @@ whole_of (in_whole w) = w
 whole_of (behind_or a w) = w
 
 pub ended-before : (h : Head) (j : Joint) (c : Conj) → joint_before h j
-    ++ conj_spots (joint_nesting (joint_state j)) c ≡ whole_before h (whole_of j)
-    ++ cond_spots (whole_nesting (whole_state (whole_of j))) (ended j c)
+    ++ conj_terminals (joint_nesting (joint_state j)) c ≡ whole_before h (whole_of j)
+    ++ cond_terminals (whole_nesting (whole_state (whole_of j))) (ended j c)
 ended-before h (in_whole w) c = refl
 ended-before h (behind_or a w) c = simp append_assoc
 
@@ -208,38 +209,38 @@ abbrev mutual
   round h (under_not k) a = round h k (not_neg a)
 
 abbrev mutual
-  pub whole_behind : Whole → List Spot
+  pub whole_behind : Whole → List Terminal
   whole_behind top = []
-  whole_behind (in_group k) = spot kind.Close ∷ behind k
+  whole_behind (in_group k) = terminal kind.Close ∷ behind k
 
-  pub joint_behind : Joint → List Spot
+  pub joint_behind : Joint → List Terminal
   joint_behind (in_whole w) = whole_behind w
   joint_behind (behind_or a w) = whole_behind w
 
-  pub behind : Operand → List Spot
+  pub behind : Operand → List Terminal
   behind (in_joint j) = joint_behind j
   behind (behind_and c j) = joint_behind j
   behind (under_not k) = behind k
 
-pub with_cond-spots : (h : Head) (c : Cond) → spots (with_cond h c) ≡ head_spots h ++ cond_spots 0 c
-with_cond-spots (take_when p) c = simp append_assoc
-with_cond-spots (each_when p) c = simp append_assoc
-with_cond-spots (bucket_when p n) c = simp append_assoc
-with_cond-spots flag_when c = refl
+pub with_cond-terminals : (h : Head) (c : Cond) → terminals (with_cond h c) ≡ head_terminals h ++ cond_terminals 0 c
+with_cond-terminals (take_when p) c = simp append_assoc
+with_cond-terminals (each_when p) c = simp append_assoc
+with_cond-terminals (bucket_when p n) c = simp append_assoc
+with_cond-terminals flag_when c = refl
 
 mutual
-  pub round_whole-spots : (h : Head) (w : Whole) (c : Cond) → spots (round_whole h w c)
-      ≡ whole_before h w ++ (cond_spots (whole_nesting (whole_state w)) c ++ whole_behind w)
-  round_whole-spots h top c = with_cond-spots h c ∙ simp append-nil
-  round_whole-spots h (in_group k) c = round-spots h k (group c) ∙ simp append_assoc
+  pub round_whole-terminals : (h : Head) (w : Whole) (c : Cond) → terminals (round_whole h w c)
+      ≡ whole_before h w ++ (cond_terminals (whole_nesting (whole_state w)) c ++ whole_behind w)
+  round_whole-terminals h top c = with_cond-terminals h c ∙ simp append-nil
+  round_whole-terminals h (in_group k) c = round-terminals h k (group c) ∙ simp append_assoc
 
-  pub round_joint-spots : (h : Head) (j : Joint) (c : Conj) → spots (round_joint h j c)
-      ≡ joint_before h j ++ (conj_spots (joint_nesting (joint_state j)) c ++ joint_behind j)
-  round_joint-spots h (in_whole w) c = round_whole-spots h w (one_conj c)
-  round_joint-spots h (behind_or a w) c = round_whole-spots h w (more_conjs a c) ∙ simp append_assoc
+  pub round_joint-terminals : (h : Head) (j : Joint) (c : Conj) → terminals (round_joint h j c)
+      ≡ joint_before h j ++ (conj_terminals (joint_nesting (joint_state j)) c ++ joint_behind j)
+  round_joint-terminals h (in_whole w) c = round_whole-terminals h w (one_conj c)
+  round_joint-terminals h (behind_or a w) c = round_whole-terminals h w (more_conjs a c) ∙ simp append_assoc
 
-  pub round-spots : (h : Head) (k : Operand) (a : Neg) → spots (round h k a) ≡ operand_before h k
-      ++ (neg_spots (nesting (operand_state k)) a ++ behind k)
-  round-spots h (in_joint j) a = round_joint-spots h j (one_neg a)
-  round-spots h (behind_and c j) a = round_joint-spots h j (more_negs c a) ∙ simp append_assoc
-  round-spots h (under_not k) a = round-spots h k (not_neg a) ∙ simp append_assoc
+  pub round-terminals : (h : Head) (k : Operand) (a : Neg) → terminals (round h k a) ≡ operand_before h k
+      ++ (neg_terminals (nesting (operand_state k)) a ++ behind k)
+  round-terminals h (in_joint j) a = round_joint-terminals h j (one_neg a)
+  round-terminals h (behind_and c j) a = round_joint-terminals h j (more_negs c a) ∙ simp append_assoc
+  round-terminals h (under_not k) a = round-terminals h k (not_neg a) ∙ simp append_assoc

@@ -2,7 +2,7 @@
 use Rattle.std.proofs.Common.{◌≡◌, ◌≢◌, ℕ, List, [], ◌∷◌, ◌++◌, refl, sym, ◌∙◌, ap, subst, append_assoc, append-nil, inl, inr}
 use Rattle.std.specs.Prelude.{Option, Some, None, Result, Ok, Err}
 use Rattle.fish_lang.specs.Definition.{Definition}
-use Rattle.fish_lang.specs.Grammar.{Spot, spot, spots, spelled}
+use Rattle.fish_lang.specs.Grammar.{Terminal, terminal, terminals, spelled}
 use Rattle.fish_lang.specs.Derivation.{Derivation}
 use Rattle.fish_lang.specs.Language.{kinds, unrefused, IsRead, BeginsWell, BeginsNone, Faulty, IsVerdict}
 use Rattle.fish_lang.specs.Machine as machine
@@ -27,7 +27,7 @@ reached-well ts s r =
     record { tree = f.tree; more = f.more; real = f.real; spells = f.spells ∙ rw r.spells }
 
 -- the tokens of what begins with places
-begins-with : (ts : List Placed) (p : Placed) (x : Spot) (xs : List Spot) (more : List Spot)
+begins-with : (ts : List Placed) (p : Placed) (x : Terminal) (xs : List Terminal) (more : List Terminal)
     → x.token ≡ p.token → xs ≡ (unrefused ts ++ x ∷ []) ++ more → spelled xs ≡ kinds (ts ++ p ∷ [])
     ++ spelled more
 begins-with ts p x xs more token e =
@@ -54,7 +54,7 @@ verdict-end ts s end None r f e =
         well = reached-well ts s r;
         none = λ tree same.
             let g = followed tree in
-            let t : s ≡ g.state = leads-same (unrefused ts) (spots tree) machine.start s g.state f
+            let t : s ≡ g.state = leads-same (unrefused ts) (terminals tree) machine.start s g.state f
             g.follows (same ∙ sym (spelled-unrefused ts)) in
             cc (ap finish t, g.finishes);
       },
@@ -83,9 +83,9 @@ verdict-turn ts p ps s end None k r f e g rest =
       well = reached-well ts s r;
       none = λ tree more same.
           let h = followed tree in
-          let front : spelled (spots tree) ≡ spelled (unrefused ts) ++ p.token ∷ more = same
+          let front : spelled (terminals tree) ≡ spelled (unrefused ts) ++ p.token ∷ more = same
           ∙ rw (kinds-append ts (p ∷ []), spelled-unrefused ts, append_assoc) in
-          let on = leads-on (unrefused ts) (spots tree) machine.start s h.state p.token more f
+          let on = leads-on (unrefused ts) (terminals tree) machine.start s h.state p.token more f
           h.follows front in
           cc (e, on.1);
     })
@@ -106,7 +106,7 @@ verdict-turn ts p ps s end (Some u) (Some fault) r f e g rest =
     })
 verdict-turn ts p ps s end (Some u) None r f e g rest =
     rest u (reached-more ts s p u r e g)
-    (rw unrefused-append (Follows-append (unrefused ts) (spot p.token ∷ []) machine.start s u f
+    (rw unrefused-append (Follows-append (unrefused ts) (terminal p.token ∷ []) machine.start s u f
     (u, e, g, refl)))
 
 verdict : (before : List Placed) (s : State) (ts : List Placed) (end : ℕ) → Reached before s
@@ -145,7 +145,7 @@ record Passed (ts : List Placed) : Type 0 where
 passed : (ts : List Placed) → BeginsWell ts → Passed ts
 passed ts well =
     let g = followed well.tree in
-    let P : List Spot → Type 0 = λ z. Follows machine.start z g.state in
+    let P : List Terminal → Type 0 = λ z. Follows machine.start z g.state in
     let front = Follows-front (unrefused ts) well.more machine.start g.state
     (subst P well.spells g.follows) in
     record {
@@ -158,7 +158,7 @@ passed ts well =
 only-read : (ts : List Placed) (end : ℕ) (d : Definition) → IsRead ts d → run machine.start ts end ≡ Ok d
 only-read ts end d h =
     let g = followed h.tree in
-    let P : List Spot → Type 0 = λ z. Follows machine.start z g.state in
+    let P : List Terminal → Type 0 = λ z. Follows machine.start z g.state in
     let way : Follows machine.start (unrefused ts) g.state = subst P h.spells g.follows in
     let all : run machine.start (ts ++ []) end ≡ run g.state [] end =
     run-front ts [] machine.start g.state end way in
@@ -175,11 +175,11 @@ only-stop before p behind end x (Some u) e none =
     let l = longer r.tree p.token u fits in
     let whole = finishes l.next in
     absurd (none whole.tree (spelled whole.more)
-    (begins-with before p (placed_at (state_of r.tree) p.token) (spots whole.tree) whole.more
+    (begins-with before p (placed_at (state_of r.tree) p.token) (terminals whole.tree) whole.more
     refl (whole.spells ∙ rw (l.spells, r.spells))))
 
 only-end : (ts : List Placed) (end : ℕ) (x : Passed ts) (d : Option Definition) → finish x.state ≡ d
-    → ((tree : Derivation) → spelled (spots tree) ≢ kinds ts) → run machine.start ts end
+    → ((tree : Derivation) → spelled (terminals tree) ≢ kinds ts) → run machine.start ts end
     ≡ Err (refusal.Unexpected end)
 only-end ts end x None e none =
     let all : run machine.start (ts ++ []) end ≡ run x.state [] end =
@@ -195,7 +195,7 @@ only-fault : (fault : Fault) (ts : List Placed) (at end : ℕ) → Faulty fault 
     → run machine.start ts end ≡ Err (refusal_of fault at)
 only-fault fault ts at end h =
     let g = followed h.tree in
-    let P : List Spot → Type 0 = λ z. Follows machine.start z g.state in
+    let P : List Terminal → Type 0 = λ z. Follows machine.start z g.state in
     let front = Follows-front (unrefused h.before) _ machine.start g.state (subst P h.spells g.follows) in
     let rest = front.2 in
     rw (

@@ -1,7 +1,7 @@
 -- Ways of tokens: the same tokens lead the same way, and to an unfinished derivation.
 use Rattle.std.proofs.Common.{◌≡◌, List, [], ◌∷◌, ◌++◌, refl, sym, ◌∙◌, ap, subst}
 use Rattle.std.specs.Prelude.{Some, None}
-use Rattle.fish_lang.specs.Grammar.{Spot, spot, spelled}
+use Rattle.fish_lang.specs.Grammar.{Terminal, terminal, spelled}
 use Rattle.fish_lang.specs.Language.{kinds, unrefused}
 use Rattle.fish_lang.specs.Machine.{State}
 use Rattle.fish_lang.specs.Moves.{advance, fault_at}
@@ -12,7 +12,7 @@ use Rattle.fish_lang.proofs.Trees.{Tree, state_of, before}
 use Rattle.fish_lang.proofs.Steps.{longer}
 
 -- the same tokens lead to the same state
-pub leads-same : (xs ys : List Spot) (s t u : State) → Follows s xs t → Follows s ys u → spelled ys
+pub leads-same : (xs ys : List Terminal) (s t u : State) → Follows s xs t → Follows s ys u → spelled ys
     ≡ spelled xs → t ≡ u
 leads-same [] [] s t u f g e = sym f ∙ g
 leads-same [] (y ∷ ys) s t u f g e = cc
@@ -24,7 +24,7 @@ leads-same (x ∷ xs) (y ∷ ys) s t u f g e =
     leads-same xs ys f.0 t u f.3 (subst P same g.3) cc
 
 -- where a derivation goes on, the token fits
-pub leads-on : (xs ys : List Spot) (s t u : State) (x : Token) (more : List Token) → Follows s xs t
+pub leads-on : (xs ys : List Terminal) (s t u : State) (x : Token) (more : List Token) → Follows s xs t
     → Follows s ys u → spelled ys ≡ spelled xs ++ x ∷ more → (v : State) × (advance t x ≡ Some v)
 leads-on [] [] s t u x more f g e = cc
 leads-on [] (y ∷ ys) s t u x more f g e =
@@ -38,7 +38,7 @@ leads-on (z ∷ xs) (y ∷ ys) s t u x more f g e =
     leads-on xs ys f.0 t u x more f.3 (subst P same g.3) cc
 
 -- a way goes through the end of its front
-pub Follows-front : (xs ys : List Spot) (s u : State) → Follows s (xs ++ ys) u → (t : State)
+pub Follows-front : (xs ys : List Terminal) (s u : State) → Follows s (xs ++ ys) u → (t : State)
     × Follows s xs t × Follows t ys u
 Follows-front [] ys s u f = (s, refl, f)
 Follows-front (x ∷ xs) ys s u f =
@@ -53,13 +53,13 @@ pub record Reached (ts : List Placed) (s : State) : Type 0 where
 
 pub unrefused-append : (xs ys : List Placed) → unrefused (xs ++ ys) ≡ unrefused xs ++ unrefused ys
 unrefused-append [] ys = refl
-unrefused-append (x ∷ xs) ys = ap (λ zs. spot x.token ∷ zs) (unrefused-append xs ys)
+unrefused-append (x ∷ xs) ys = ap (λ zs. terminal x.token ∷ zs) (unrefused-append xs ys)
 
 pub kinds-append : (xs ys : List Placed) → kinds (xs ++ ys) ≡ kinds xs ++ kinds ys
 kinds-append [] ys = refl
 kinds-append (x ∷ xs) ys = ap (λ zs. x.token ∷ zs) (kinds-append xs ys)
 
-pub spelled-append : (xs ys : List Spot) → spelled (xs ++ ys) ≡ spelled xs ++ spelled ys
+pub spelled-append : (xs ys : List Terminal) → spelled (xs ++ ys) ≡ spelled xs ++ spelled ys
 spelled-append [] ys = refl
 spelled-append (x ∷ xs) ys = ap (λ zs. x.token ∷ zs) (spelled-append xs ys)
 

@@ -11,15 +11,15 @@ use Rattle.fish_lang.specs.declared.token.Token.{Token}
 use Rattle.fish_lang.specs.declared.token.Token.TheVariants as kind
 
 -- a token in its place, and why it is refused there, if it is
-pub record Spot : Type 0 where
+pub record Terminal : Type 0 where
   pub token : Token
   pub fault : Option Fault
 
-abbrev pub spot : Token → Spot
-spot t = record { token = t; fault = None }
+abbrev pub terminal : Token → Terminal
+terminal t = record { token = t; fault = None }
 
-abbrev pub keyword : Keyword → Spot
-keyword k = spot (kind.Keyword k)
+abbrev pub keyword : Keyword → Terminal
+keyword k = terminal (kind.Keyword k)
 
 -- a number outside an i64 is too large; no number stands for it
 abbrev pub number_fault : Option ℤ → Option Fault
@@ -40,49 +40,49 @@ abbrev pub step_token : Step → Token
 step_token (ident s) = kind.Ident s
 step_token (string s) = kind.Str s
 
-abbrev pub path_spots : Path → List Spot
-path_spots (one_step s) = spot (step_token s) ∷ []
-path_spots (more_steps p s) = path_spots p ++ spot kind.Dot ∷ spot (step_token s) ∷ []
+abbrev pub path_terminals : Path → List Terminal
+path_terminals (one_step s) = terminal (step_token s) ∷ []
+path_terminals (more_steps p s) = path_terminals p ++ terminal kind.Dot ∷ terminal (step_token s) ∷ []
 
-abbrev pub literal_spot : Literal → Spot
-literal_spot (truth true) = keyword word.True
-literal_spot (truth false) = keyword word.False
-literal_spot (number negative n) = record { token = kind.Number negative n; fault = number_fault n }
-literal_spot (text s) = spot (kind.Str s)
+abbrev pub literal_terminal : Literal → Terminal
+literal_terminal (truth true) = keyword word.True
+literal_terminal (truth false) = keyword word.False
+literal_terminal (number negative n) = record { token = kind.Number negative n; fault = number_fault n }
+literal_terminal (text s) = terminal (kind.Str s)
 
-abbrev pub test_spots : Test → List Spot
-test_spots (compare p op l) = path_spots p ++ spot (kind.Compare op) ∷ literal_spot l ∷ []
-test_spots (exist p) = path_spots p ++ keyword word.Exists ∷ []
-test_spots (start p s) = path_spots p ++ keyword word.Starts ∷ spot (kind.Str s) ∷ []
+abbrev pub test_terminals : Test → List Terminal
+test_terminals (compare p op l) = path_terminals p ++ terminal (kind.Compare op) ∷ literal_terminal l ∷ []
+test_terminals (exist p) = path_terminals p ++ keyword word.Exists ∷ []
+test_terminals (start p s) = path_terminals p ++ keyword word.Starts ∷ terminal (kind.Str s) ∷ []
 
 -- the number is the nesting around
 abbrev mutual
-  pub cond_spots : ℕ → Cond → List Spot
-  cond_spots n (one_conj c) = conj_spots n c
-  cond_spots n (more_conjs a c) = cond_spots n a ++ keyword word.Or ∷ conj_spots n c
+  pub cond_terminals : ℕ → Cond → List Terminal
+  cond_terminals n (one_conj c) = conj_terminals n c
+  cond_terminals n (more_conjs a c) = cond_terminals n a ++ keyword word.Or ∷ conj_terminals n c
 
-  pub conj_spots : ℕ → Conj → List Spot
-  conj_spots n (one_neg a) = neg_spots n a
-  conj_spots n (more_negs c a) = conj_spots n c ++ keyword word.And ∷ neg_spots n a
+  pub conj_terminals : ℕ → Conj → List Terminal
+  conj_terminals n (one_neg a) = neg_terminals n a
+  conj_terminals n (more_negs c a) = conj_terminals n c ++ keyword word.And ∷ neg_terminals n a
 
-  pub neg_spots : ℕ → Neg → List Spot
-  neg_spots n (not_neg a) = record { token = kind.Keyword word.Not; fault = nesting_fault n } ∷
-      neg_spots (suc n) a
-  neg_spots n (group c) = record { token = kind.Open; fault = nesting_fault n } ∷
-      (cond_spots (suc n) c ++ spot kind.Close ∷ [])
-  neg_spots n (test t) = test_spots t
+  pub neg_terminals : ℕ → Neg → List Terminal
+  neg_terminals n (not_neg a) = record { token = kind.Keyword word.Not; fault = nesting_fault n } ∷
+      neg_terminals (suc n) a
+  neg_terminals n (group c) = record { token = kind.Open; fault = nesting_fault n } ∷
+      (cond_terminals (suc n) c ++ terminal kind.Close ∷ [])
+  neg_terminals n (test t) = test_terminals t
 
-abbrev pub when_spots : Option Cond → List Spot
-when_spots None = []
-when_spots (Some c) = keyword word.When ∷ cond_spots 0 c
+abbrev pub when_terminals : Option Cond → List Terminal
+when_terminals None = []
+when_terminals (Some c) = keyword word.When ∷ cond_terminals 0 c
 
-abbrev pub spots : Derivation → List Spot
-spots (take_def p w) = keyword word.Take ∷ (path_spots p ++ when_spots w)
-spots (each_def p w) = keyword word.Each ∷ (path_spots p ++ when_spots w)
-spots (bucket_def p n w) = keyword word.Bucket ∷ (path_spots p
-    ++ keyword word.By ∷ record { token = kind.Number false n; fault = width_fault n } ∷ when_spots w)
-spots (flag_def c) = keyword word.Flag ∷ keyword word.When ∷ cond_spots 0 c
+abbrev pub terminals : Derivation → List Terminal
+terminals (take_def p w) = keyword word.Take ∷ (path_terminals p ++ when_terminals w)
+terminals (each_def p w) = keyword word.Each ∷ (path_terminals p ++ when_terminals w)
+terminals (bucket_def p n w) = keyword word.Bucket ∷ (path_terminals p
+    ++ keyword word.By ∷ record { token = kind.Number false n; fault = width_fault n } ∷ when_terminals w)
+terminals (flag_def c) = keyword word.Flag ∷ keyword word.When ∷ cond_terminals 0 c
 
 -- the tokens alone
-abbrev pub spelled : List Spot → List Token
+abbrev pub spelled : List Terminal → List Token
 spelled = map (λ s. s.token)

@@ -2,7 +2,7 @@
 use Rattle.std.specs.Prelude.{◌≡◌, ◌≢◌, ℕ, ◌≤◌, ◌<◌, ◌⊎◌, List, [], ◌∷◌, ◌++◌, Some, Result, Ok, Err, length, map}
 use Rattle.fish_lang.specs.Canonical.{definition_text}
 use Rattle.fish_lang.specs.Definition.{Definition}
-use Rattle.fish_lang.specs.Grammar.{Spot, spot, spots, spelled}
+use Rattle.fish_lang.specs.Grammar.{Terminal, terminal, terminals, spelled}
 use Rattle.fish_lang.specs.Derivation.{Derivation, meaning}
 use Rattle.fish_lang.specs.Token.{tokens, token_of}
 use Rattle.fish_lang.specs.declared.parse.LangRefusal.{LangRefusal}
@@ -18,30 +18,30 @@ abbrev pub kinds : List Placed → List Token
 kinds = map (λ p. p.token)
 
 -- the tokens in places where none is refused
-abbrev pub unrefused : List Placed → List Spot
-unrefused = map (λ p. spot p.token)
+abbrev pub unrefused : List Placed → List Terminal
+unrefused = map (λ p. terminal p.token)
 
 -- tokens that bytes can be
-abbrev pub AreTokens : List Spot → Type 0
+abbrev pub AreTokens : List Terminal → Type 0
 AreTokens [] = Unit {0}
 AreTokens (x ∷ xs) = ((bytes : List ℕ) × (token_of bytes ≡ Some x.token)) × AreTokens xs
 
 -- the tokens are those of a derivation with this meaning, and none is refused
 pub record IsRead (ts : List Placed) (d : Definition) : Type 0 where
   pub tree : Derivation
-  pub spells : spots tree ≡ unrefused ts
+  pub spells : terminals tree ≡ unrefused ts
   pub means : meaning tree ≡ d
 
 -- a definition begins with the tokens, and none of them is refused
 pub record BeginsWell (ts : List Placed) : Type 0 where
   pub tree : Derivation
-  pub more : List Spot
+  pub more : List Terminal
   pub real : AreTokens more
-  pub spells : spots tree ≡ unrefused ts ++ more
+  pub spells : terminals tree ≡ unrefused ts ++ more
 
 -- no definition begins with the tokens
 abbrev pub BeginsNone : List Placed → Type 0
-BeginsNone ts = (tree : Derivation) (more : List Token) → spelled (spots tree) ≢ kinds ts ++ more
+BeginsNone ts = (tree : Derivation) (more : List Token) → spelled (terminals tree) ≢ kinds ts ++ more
 
 -- the first token such that no definition begins with the tokens up to it, and none before is refused
 pub record StopsAt (ts : List Placed) (at : ℕ) : Type 0 where
@@ -56,7 +56,7 @@ pub record StopsAt (ts : List Placed) (at : ℕ) : Type 0 where
 -- a definition begins with all tokens, but none has no more than them
 pub record StopsAtEnd (ts : List Placed) : Type 0 where
   pub well : BeginsWell ts
-  pub none : (tree : Derivation) → spelled (spots tree) ≢ kinds ts
+  pub none : (tree : Derivation) → spelled (terminals tree) ≢ kinds ts
 
 -- a definition begins with the tokens up to one that is refused in its place, and none before is
 pub record Faulty (fault : Fault) (ts : List Placed) (at : ℕ) : Type 0 where
@@ -66,9 +66,9 @@ pub record Faulty (fault : Fault) (ts : List Placed) (at : ℕ) : Type 0 where
   pub splits : ts ≡ before ++ placed ∷ behind
   pub place : placed.at ≡ at
   pub tree : Derivation
-  pub more : List Spot
+  pub more : List Terminal
   pub real : AreTokens more
-  pub spells : spots tree ≡ unrefused before ++ record { token = placed.token; fault = Some fault } ∷ more
+  pub spells : terminals tree ≡ unrefused before ++ record { token = placed.token; fault = Some fault } ∷ more
 
 -- what tokens are, whose source ends at a place
 abbrev pub IsVerdict : List Placed → ℕ → Result Definition LangRefusal → Type 0

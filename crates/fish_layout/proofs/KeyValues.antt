@@ -3,14 +3,13 @@ use Rattle.std.proofs.Common.{◌≡◌, ℕ, ◌+◌, ◌-◌, ◌*◌, ◌<◌
 use Rattle.std.proofs.Common.{sym, ap, ◌∙◌, arith, length-drop}
 use Rattle.fish_layout.specs.Body.{IsBody, IsProperValue, values_of}
 use Rattle.fish_layout.specs.Bytes.{bytes_in, words_for}
-use Rattle.fish_layout.specs.Cleared.{entry_at}
 use Rattle.fish_layout.specs.Entry.{value_kind, value_offset, value_size}
 use Rattle.fish_layout.specs.Values.{kind_code, value_bytes}
 use Rattle.fish_layout.specs.declared.parts.BodyParts.{BodyParts}
 use Rattle.fish_layout.specs.declared.parts.KeyPart.{KeyPart}
 use Rattle.fish_layout.proofs.Entries.{proper_at, values_within}
 use Rattle.fish_layout.proofs.KeyWords.{body_key, value_pointed}
-use Rattle.fish_layout.proofs.Outlines.{body_length, body_room, body_values, range_from}
+use Rattle.fish_layout.proofs.Outlines.{body_room, body_values, range_from}
 
 -- the third word of an entry points at its value in these words
 pub record PointsAt (third : ℕ) (behind : List ℕ) (k : KeyPart) (n : ℕ) : Type 0 where

@@ -5,7 +5,7 @@ use Rattle.std.specs.Int.{to_le_bytes}
 use Rattle.std.specs.Int.Width.{w64}
 use Rattle.std.specs.List.{flat_map}
 use Rattle.std.proofs.lemmas.Grind.{flat_map-append}
-use Rattle.std.proofs.lemmas.List.{drop-take, length-take-le, take-append-drop, take_all}
+use Rattle.std.proofs.lemmas.List.{drop-take, length-take-le, take-append-drop}
 use Rattle.std.proofs.Common.{length-drop}
 use Rattle.fish_layout.proofs.Outlines.{range_from}
 use Rattle.std.proofs.Math.Seq.{drop-append_seam}

@@ -4,11 +4,11 @@ ghost use Rattle.std.specs.Prelude.{◌≡◌, ◌≤◌, IsTrue, MatchOption, S
 ghost use Rattle.fish_layout.specs.Header.{void_word};
 ghost use Rattle.fish_layout.specs.Headers.{IsHeader, AreWithinLimits, IsRecordHeader, IsVoidHeader};
 
-use crate::parts::{MAX_KEYS, MAX_LANE, MAX_PAYLOAD, MAX_VERSION};
+use crate::parts::{MAX_KEYS, MAX_VERSION};
 use crate::word::{
     form_in, keys_in, lane_in, length_in, lines_in, pack_header, pack_void, version_in,
 };
-use fish_value::Form;
+use fish_value::{Form, MAX_LANE, MAX_PAYLOAD};
 
 /// What a header says of its region.
 #[derive(Clone, Copy, Debug, PartialEq, Eq)]

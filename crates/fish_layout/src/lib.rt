@@ -18,13 +18,15 @@ mod word;
 mod write;
 
 pub use body::{Body, set_number};
+pub use fish_value::{MAX_LANE, MAX_PAYLOAD};
 pub use hash::{bucket_of, key_hash};
 pub use header::{Header, header_of, void_header};
 pub use keys::find_key;
-pub use page::{LINE_BYTES, LINE_WORDS, LINES_AT, PAGE_BYTES, PAGE_LINES, PAGE_WORDS};
-pub use parts::{
-    BodyHead, BodyParts, KeyPart, KeyParts, MAX_KEYS, MAX_LANE, MAX_PAYLOAD, MAX_VERSION,
+pub use page::{
+    LINE_BYTES, LINE_WORDS, LINES_AT, PAGE_BYTES, PAGE_LINES, PAGE_WORDS, crosses_page, entry_at,
+    page_of, place_of,
 };
+pub use parts::{BodyHead, BodyParts, KeyPart, KeyParts, MAX_KEYS, MAX_VERSION};
 pub use read::{Payload, find_payload, read_body, read_payload};
 pub use word::{id_in, keys_in, kind_in, lines_in, number_in, offset_in, place_in, size_in};
 pub use write::{body_from, body_of};

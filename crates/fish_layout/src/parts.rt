@@ -2,14 +2,8 @@
 
 use fish_value::{Form, Sequence, Text, Value};
 
-/// The most bytes that a payload may have.
-pub const MAX_PAYLOAD: usize = 524_288;
-
 /// The most key entries.
 pub const MAX_KEYS: u16 = 256;
-
-/// The greatest lane.
-pub const MAX_LANE: u8 = 16;
 
 /// The greatest version of the registry.
 pub const MAX_VERSION: u16 = 512;

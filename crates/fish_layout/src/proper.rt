@@ -3,8 +3,8 @@
 ghost use Rattle.std.specs.Prelude.{◌↔◌, ◌≤◌, IsTrue, IsUtf8, length};
 ghost use Rattle.fish_layout.specs.Body.{AreProperKeys, IsApart, IsProper, IsProperValue};
 
-use crate::parts::{BodyParts, KeyPart, MAX_KEYS, MAX_LANE, MAX_PAYLOAD, MAX_VERSION};
-use fish_value::{MAX_VALUE, Text, Value};
+use crate::parts::{BodyParts, KeyPart, MAX_KEYS, MAX_VERSION};
+use fish_value::{MAX_LANE, MAX_PAYLOAD, MAX_VALUE, Text, Value};
 
 /// Whether a record may have these parts.
 pub(crate) fn is_proper(parts: &BodyParts) -> bool

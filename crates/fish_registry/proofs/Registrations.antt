@@ -52,7 +52,7 @@ module _ (v : View) (row : CatRow) (version id : ℕ) (u : View) (is : IsDrafted
   same_rows = ap (λ (z : View). z.rows) only
 
   -- the operation may be stored
-  pub can_store : CanDefineWord u (20 + version) (256 + id)
+  pub can_store : CanDefineWord u (op_at (suc version)) (256 + id)
   can_store = record {
     main = ap (λ (z : View). z.lane) only ∙ is.make.main;
     next = inl (
@@ -63,7 +63,7 @@ module _ (v : View) (row : CatRow) (version id : ℕ) (u : View) (is : IsDrafted
 
   -- the view then
   abbrev behind : View
-  behind = after_define_word u (20 + version) (256 + id)
+  behind = after_define_word u (op_at (suc version)) (256 + id)
 
   -- the words that stand in the next row
   abbrev in_row : ℕ → ℕ
@@ -72,7 +72,7 @@ module _ (v : View) (row : CatRow) (version id : ℕ) (u : View) (is : IsDrafted
   in_row_is : (i : ℕ) → 2 ≤ i → i < 39 → in_row i ≡ row_word row i
   in_row_is i low high =
       let few = is.make.few in
-      choose_second (ℕ_discrete (row_at (length v.rows) i) (20 + version)) (256 + id)
+      choose_second (ℕ_discrete (row_at (length v.rows) i) (op_at (suc version))) (256 + id)
       (main_word u.main_words (row_at (length v.rows) i)) (λ same. omega arith)
       ∙ is.main_word.row i low high ∙ is.says i high
 
@@ -86,7 +86,7 @@ module _ (v : View) (row : CatRow) (version id : ℕ) (u : View) (is : IsDrafted
 
   operation : next_operation behind ≡ 256 + length v.rows
   operation =
-      choose_first (ℕ_discrete (op_at (suc u.learned.version)) (20 + version)) (256 + id)
+      choose_first (ℕ_discrete (op_at (suc u.learned.version)) (op_at (suc version))) (256 + id)
       (main_word u.main_words (op_at (suc u.learned.version))) (let e = reached in omega arith)
       ∙ ap (λ (n : ℕ). 256 + n) (is.is_id ∙ is.may.id)
 
@@ -169,6 +169,6 @@ module _ (v : View) (row : CatRow) (version id : ℕ) (u : View) (is : IsDrafted
         round = waits;
         tail = ap (λ (z : View). z.tail) only;
         bounds = λ n i small. let few = is.make.few in
-            choose_second (ℕ_discrete (row_at n i) (20 + version)) (256 + id) (main_word u.main_words (row_at n i))
+            choose_second (ℕ_discrete (row_at n i) (op_at (suc version))) (256 + id) (main_word u.main_words (row_at n i))
             (λ same. omega arith) ∙ h.bounds n i small;
       }

@@ -9,10 +9,8 @@ ghost use Rattle.fish_rule.specs.LoadSteps.{IsAlone};
 ghost use Rattle.fish_rule.specs.declared.view.Epoch.TheVariants.{Out};
 
 use crate::registrar::Waiting;
+use fish_layout::MAX_LANE;
 use fish_rule::{Log, Pass, check_lane, load_bound, store_from};
-
-/// The last lane.
-const LAST_LANE: u8 = 16;
 
 /// A lane whose pass is entered at an older version than a registration's.
 #[derive(Clone, Copy)]
@@ -31,7 +29,7 @@ pub(crate) fn first_older(log: &Log, pass: &mut Pass, waiting: Waiting) -> Optio
     ensures clear { IsNone result → IsAwaited (view pass.new) (at_lane waiting 17) }
     ensures alone { IsAlone (view pass.old) → (view pass.old).epoch ≡ Out → IsNone result }
 {
-    for lane in waiting.lane..=LAST_LANE {
+    for lane in waiting.lane..=MAX_LANE {
         let word = check_lane(log, pass, lane);
         if word != 0 && word <= waiting.version {
             return Some(Older {

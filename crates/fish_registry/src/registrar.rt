@@ -20,11 +20,9 @@ use crate::outcome::{Poll, RegRefusal};
 use crate::rows::{count_tail, end_row, register_row};
 use fish_catalog::Catalog;
 use fish_lang::{Def, print_def};
+use fish_layout::MAX_VERSION;
 use fish_rule::{Log, Pass, load_version};
 use fish_value::Text;
-
-/// The most versions of a log.
-const MAX_VERSIONS: u64 = 512;
 
 /// A registration whose index hasn't begun.
 #[derive(Clone, Copy)]
@@ -216,7 +214,7 @@ impl Registrar {
             return Err(RegRefusal::Rolling { id: waiting.id });
         }
         let version = load_version(log, pass);
-        if version >= MAX_VERSIONS {
+        if version >= u64::from(MAX_VERSION) {
             return Err(RegRefusal::TooManyVersions);
         }
         Ok(version)

@@ -9,12 +9,7 @@ ghost use Rattle.fish_rule.specs.LoadSteps.{IsAlone};
 ghost use Rattle.fish_rule.specs.Passes.{IsPassOf, view};
 
 use fish_catalog::{CatRow, ROW_WORDS, row_words};
-use fish_rule::{Log, Pass, define_word, load_tail, raise_version, store_to};
-
-/// The operation that makes version 1, and the first word of the first row, among the words of a table.
-const OPERATIONS: u64 = 20;
-
-const ROWS: u64 = 532;
+use fish_rule::{Log, Pass, define_operation, define_row_word, load_tail, raise_version, store_to};
 
 /// What makes an operation one that registers the next row, or one that ends the row with an id.
 const REGISTERS: u64 = 256;
@@ -31,7 +26,7 @@ pub(crate) fn register_row(log: &Log, pass: &mut Pass, row: &CatRow, version: u6
 {
     let id = u64::from(row.id);
     define_row(log, pass, id, &row_words(row));
-    define_word(log, pass, OPERATIONS + version, REGISTERS + id);
+    define_operation(log, pass, version, REGISTERS + id);
     raise_version(log, pass, version);
 }
 
@@ -45,8 +40,7 @@ fn define_row(log: &Log, pass: &mut Pass, id: u64, words: &[u64; ROW_WORDS])
     ensures drafted { HasDrafted (view pass.old) words.now 39 (view pass.new) }
 {
     for place in 2..ROW_WORDS {
-        let index = ROWS + (id * 39 + place as u64);
-        define_word(log, pass, index, words[place]);
+        define_row_word(log, pass, id, place as u64, words[place]);
     }
 }
 
@@ -69,6 +63,6 @@ pub(crate) fn end_row(log: &Log, pass: &mut Pass, id: u16, to: u32, version: u64
     ensures ended { HasEnded (view pass.old) id to (view pass.new) }
 {
     store_to(log, pass, u64::from(id), u64::from(to));
-    define_word(log, pass, OPERATIONS + version, ENDS + u64::from(id));
+    define_operation(log, pass, version, ENDS + u64::from(id));
     raise_version(log, pass, version);
 }

@@ -1,5 +1,5 @@
 -- The entries that the words of a log spell.
-use Rattle.std.specs.Prelude.{ℕ, ◌≡◌, ◌+◌, ◌*◌, zero, suc, List, drop, length, map, slice_index}
+use Rattle.std.specs.Prelude.{ℕ, ◌+◌, ◌*◌, zero, suc, List, drop, map, slice_index}
 use Rattle.std.specs.List.{range_with_len}
 use Rattle.std.proofs.Math.Decide.{ℕ_discrete}
 use Rattle.fish_catalog.specs.declared.entry.Entry.{Entry}

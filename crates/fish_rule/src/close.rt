@@ -15,7 +15,7 @@ use crate::table::{Log, Pass};
 use crate::view::Kind;
 use crate::word::{kind_of_word, line_of_word};
 use fish_catalog::{PageStart, PageStarts};
-use fish_layout::PAGE_LINES;
+use fish_layout::page_of;
 use fish_value::Numbers64;
 use std::alloc::{AllocError, Global};
 
@@ -238,7 +238,7 @@ fn add_start(read: &mut ReadLog, number: u64, line: u64) -> Result<(), AllocErro
     requires { number < 268435456 }
     ensures { OnOk result (HasStart read.old number line read.new) }
 {
-    let page = line / PAGE_LINES;
+    let page = page_of(line);
     if page >= read.next_page {
         read.starts.push(PageStart {
             number: number as u32,

@@ -29,8 +29,8 @@ pub use kept::LogEntries;
 pub use law::{law_closed_log, law_every_schedule, law_found_regions, law_intervals, law_opens};
 pub use linking::{aim_entry, load_head, load_node, load_previous, splice_entry, swing_head};
 pub use registry::{
-    announce, define_word, load_opened, load_operation, load_row, load_version, raise_version,
-    retire,
+    announce, define_operation, define_row_word, load_opened, load_operation, load_row,
+    load_version, raise_version, retire,
 };
 pub use seats::{Start, base, buckets, first_version, join_pass, open_log, shape, split_pass};
 pub use space::{

@@ -1,7 +1,7 @@
 //! One atomic step each, on the words of the registry: how a pass enters its version and leaves, how
 //! it reads the definitions, and how the control pass changes them.
 
-ghost use Rattle.std.specs.Prelude.{◌≡◌, ◌<◌, ◌≤◌, ℕ, Some, length, slice_get};
+ghost use Rattle.std.specs.Prelude.{◌≡◌, ◌<◌, ◌≤◌, ℕ, Some, length, slice_get, suc};
 ghost use Rattle.fish_catalog.specs.Words.{IsWritable, row_word};
 ghost use Rattle.fish_catalog.specs.declared.row.CatRow.{CatRow};
 ghost use Rattle.fish_rule.specs.RegistrySteps.{CanAnnounce, CanRaiseVersion, CanDefineWord, CanEnter, CanLoadRegistry};
@@ -101,8 +101,28 @@ fn load_registry(log: &Log, pass: &mut Pass, index: u64) -> u64
         .load::<LoadRegistry>(&mut pass.seat, index as usize)
 }
 
+/// Stores a word of the next row.
+pub fn define_row_word(log: &Log, pass: &mut Pass, id: u64, place: u64, word: u64)
+    requires pass { IsPassOf log.now pass.old }
+    requires view { CanDefineWord (view pass.old) (row_at id place) word }
+    ensures pass { IsPassOf log.now pass.new }
+    ensures view { view pass.new ≡ after_define_word (view pass.old) (row_at id place) word }
+{
+    define_word(log, pass, ROWS + (id * 39 + place), word);
+}
+
+/// Stores the operation that makes the version after this one.
+pub fn define_operation(log: &Log, pass: &mut Pass, version: u64, operation: u64)
+    requires pass { IsPassOf log.now pass.old }
+    requires view { CanDefineWord (view pass.old) (op_at (suc version)) operation }
+    ensures pass { IsPassOf log.now pass.new }
+    ensures view { view pass.new ≡ after_define_word (view pass.old) (op_at (suc version)) operation }
+{
+    define_word(log, pass, OPERATIONS + version, operation);
+}
+
 /// Stores a word of the next operation or row.
-pub fn define_word(log: &Log, pass: &mut Pass, index: u64, word: u64)
+fn define_word(log: &Log, pass: &mut Pass, index: u64, word: u64)
     requires pass { IsPassOf log.now pass.old }
     requires view { CanDefineWord (view pass.old) index word }
     ensures pass { IsPassOf log.now pass.new }

@@ -23,7 +23,7 @@ use crate::step_kinds::{
 use crate::table::{Log, Pass, Region};
 use crate::view::{Kind, Position, Shut};
 use crate::word::{ONE, directory_word, position_in};
-use fish_layout::PAGE_LINES;
+use fish_layout::page_of;
 
 /// The claim that shut a pass, its own or one that it learned of by a split or a join.
 pub fn is_shut(pass: &Pass) -> Option<Shut>
@@ -213,7 +213,7 @@ fn region_kind(end: u64, line: u64, next: u64) -> Kind
 {
     if end < next {
         Kind::Mark
-    } else if line / PAGE_LINES < (next - 1) / PAGE_LINES {
+    } else if page_of(line) < page_of(next - 1) {
         Kind::Void
     } else {
         Kind::Stored

@@ -26,12 +26,12 @@ use Rattle.fish_scan.specs.Older.{FindsOlder}
 use Rattle.fish_scan.specs.Parses.{HasParsed}
 use Rattle.fish_scan.specs.Reach.{first_in}
 use Rattle.fish_scan.specs.Refusals.{refusal_of}
-use Rattle.fish_scan.specs.Scans.{IsPrepared, IsUnprepared, OnlyScans}
+use Rattle.fish_scan.specs.Scans.{IsPlannedScan, IsUnplanned, OnlyScans}
 use Rattle.fish_scan.specs.Work.{AreAllowed}
 use Rattle.fish_scan.specs.declared.ask.Ask.{Ask}
 use Rattle.fish_scan.specs.declared.refusal.ScanRefusal.{ScanRefusal}
 use Rattle.fish_scan.specs.declared.refusal.ScanRefusal.TheVariants as refusal
-use Rattle.fish_scan.specs.declared.scanning.Prepared.{Prepared}
+use Rattle.fish_scan.specs.declared.scanning.PlannedScan.{PlannedScan}
 use Rattle.fish_value.specs.declared.row.Row.{Row}
 use Rattle.fish_value.specs.declared.value.Value.{Value}
 
@@ -53,8 +53,8 @@ parsed_later v u opens pieces from to old new learns h = record {
 -- ---- answers
 
 pub answered_with : {content : Option (List ℕ)} {k : Key} {cold : Cold} (h : CarriesTable content k cold) (v m u : View)
-    (known : Known) (ask : Ask) (p : Prepared) (rows : List Row) (parsed parses loaded loads : ℕ) → m.about ≡ k → OnlyScans m u
-    → m.clock.loads ≡ v.clock.loads → IsPrepared v m known ask p → HasReadAcross h m u p.query p.plan [] rows parsed parses loaded loads
+    (known : Known) (ask : Ask) (p : PlannedScan) (rows : List Row) (parsed parses loaded loads : ℕ) → m.about ≡ k → OnlyScans m u
+    → m.clock.loads ≡ v.clock.loads → IsPlannedScan v m known ask p → HasReadAcross h m u p.query p.plan [] rows parsed parses loaded loads
     → IsAnswerWith h v u known ask (record {
       from = p.query.reach.from;
       to = p.query.reach.to;
@@ -105,33 +105,33 @@ answered_with {k = k} h v m u known ask p rows parsed parses loaded loads about 
 -- ---- refusals
 
 -- why there is no plan
-pub unprepared_with : (v u : View) (known : Known) (ask : Ask) (r : ScanRefusal) → IsUnprepared v u known ask r
+pub unplanned_with : (v u : View) (known : Known) (ask : Ask) (r : ScanRefusal) → IsUnplanned v u known ask r
     → IsRefusedWith v u known ask r
-unprepared_with v u known ask (refusal.UnknownName version) h = h
-unprepared_with v u known ask (refusal.EmptyRange a b) h = h
-unprepared_with v u known ask (refusal.NotCovered a b) h = h
-unprepared_with v u known ask (refusal.ColdRange base) h = h
-unprepared_with v u known ask refusal.DiskFault h = absurd h
-unprepared_with v u known ask (refusal.Damaged number) h = absurd h
-unprepared_with v u known ask refusal.OutOfMemory h = tt
+unplanned_with v u known ask (refusal.UnknownName version) h = h
+unplanned_with v u known ask (refusal.EmptyRange a b) h = h
+unplanned_with v u known ask (refusal.NotCovered a b) h = h
+unplanned_with v u known ask (refusal.ColdRange base) h = h
+unplanned_with v u known ask refusal.DiskFault h = absurd h
+unplanned_with v u known ask (refusal.Damaged number) h = absurd h
+unplanned_with v u known ask refusal.OutOfMemory h = tt
 
 -- is no fault and no damage
-pub unprepared_sound : (v u : View) (known : Known) (ask : Ask) (r : ScanRefusal) → IsUnprepared v u known ask r → IsUndamagedScan r
-unprepared_sound v u known ask (refusal.UnknownName version) h = tt
-unprepared_sound v u known ask (refusal.EmptyRange a b) h = tt
-unprepared_sound v u known ask (refusal.NotCovered a b) h = tt
-unprepared_sound v u known ask (refusal.ColdRange base) h = tt
-unprepared_sound v u known ask refusal.DiskFault h = tt
-unprepared_sound v u known ask (refusal.Damaged number) h = h
-unprepared_sound v u known ask refusal.OutOfMemory h = tt
+pub unplanned_sound : (v u : View) (known : Known) (ask : Ask) (r : ScanRefusal) → IsUnplanned v u known ask r → IsUndamagedScan r
+unplanned_sound v u known ask (refusal.UnknownName version) h = tt
+unplanned_sound v u known ask (refusal.EmptyRange a b) h = tt
+unplanned_sound v u known ask (refusal.NotCovered a b) h = tt
+unplanned_sound v u known ask (refusal.ColdRange base) h = tt
+unplanned_sound v u known ask refusal.DiskFault h = tt
+unplanned_sound v u known ask (refusal.Damaged number) h = h
+unplanned_sound v u known ask refusal.OutOfMemory h = tt
 
-pub unprepared_fault : (v u : View) (known : Known) (ask : Ask) (r : ScanRefusal) → IsUnprepared v u known ask r
+pub unplanned_fault : (v u : View) (known : Known) (ask : Ask) (r : ScanRefusal) → IsUnplanned v u known ask r
     → r ≡ refusal.DiskFault → ⊥
-unprepared_fault v u known ask r h is = subst (IsUnprepared v u known ask) is h
+unplanned_fault v u known ask r h is = subst (IsUnplanned v u known ask) is h
 
 -- a fault or damage came after the range was planned
-pub broken_with : (v m u : View) (known : Known) (ask : Ask) (p : Prepared) (base : ℕ) (e : ColdRefusal) → OnlyScans m u
-    → IsPrepared v m known ask p → base ≡ u.about.number → IsDamageIn p.query.reach.from base e
+pub broken_with : (v m u : View) (known : Known) (ask : Ask) (p : PlannedScan) (base : ℕ) (e : ColdRefusal) → OnlyScans m u
+    → IsPlannedScan v m known ask p → base ≡ u.about.number → IsDamageIn p.query.reach.from base e
     → IsRefusedWith v u known ask (refusal_of e)
 broken_with v m u known ask p base cold.DiskFault after ready is h = record {
   from = p.query.reach.from;

@@ -39,15 +39,15 @@ use Rattle.fish_scan.specs.Matching.{Finds}
 use Rattle.fish_scan.specs.Pieces.{AreReadable, IsReadable}
 use Rattle.fish_scan.specs.Reach.{IsExact, IsRange, IsReach, end_of}
 use Rattle.fish_scan.specs.Reading.{Adds}
-use Rattle.fish_scan.specs.Scans.{IsAsked, IsCovered, IsPlan, IsPlanRefused, IsPlanned, IsPrepared, IsQuery}
-use Rattle.fish_scan.specs.Scans.{IsUnprepared, OnlyPlans, OnlyScans, first_asked}
+use Rattle.fish_scan.specs.Scans.{IsAsked, IsCovered, IsPlan, IsPlanRefused, IsPlanned, IsPlannedScan, IsQuery}
+use Rattle.fish_scan.specs.Scans.{IsUnplanned, OnlyPlans, OnlyScans, first_asked}
 use Rattle.fish_scan.specs.declared.ask.Ask.{Ask}
 use Rattle.fish_scan.specs.declared.ask.How.{How}
 use Rattle.fish_scan.specs.declared.ask.How.TheVariants as how
 use Rattle.fish_scan.specs.declared.reach.Reach.{Reach}
 use Rattle.fish_scan.specs.declared.refusal.ScanRefusal.{ScanRefusal}
 use Rattle.fish_scan.specs.declared.refusal.ScanRefusal.TheVariants as refusal
-use Rattle.fish_scan.specs.declared.scanning.Prepared.{Prepared}
+use Rattle.fish_scan.specs.declared.scanning.PlannedScan.{PlannedScan}
 use Rattle.fish_value.specs.declared.row.Row.{Row}
 use Rattle.fish_value.specs.declared.value.Value.{Value}
 use Rattle.fish_walk.proofs.Looking.{ends_later, entry_later, stops_within}
@@ -317,7 +317,7 @@ module _ (v u : View) (known : Known) (def : Definition) (text : List ℕ) (reac
 pub plan_refused : (v m u t : View) (known : Known) (ask : Ask) (place : ℕ) (reach : Reach) (r : ScanRefusal)
     (asked : IsAsked v t known ask place) → Learns v m → Learns u t → IsReach v t (first_asked ask) ask.to reach
     → IsPlanRefused m u (rows_of known) asked.named.newest.listed.def ask.how reach.from reach.settled reach.to r
-    → IsUnprepared v t known ask r
+    → IsUnplanned v t known ask r
 plan_refused v m u t known ask place reach (refusal.NotCovered first last) asked before after reached h = (
   h.0,
   record {
@@ -354,7 +354,7 @@ pub errs : {A E : Type 0} (P Q : E → Type 0) (r : Result A E) → IsErrAnd r P
 errs P Q (Ok x) h f = tt
 errs P Q (Err e) h f = f e h
 
--- ---- what was prepared
+-- ---- what was planned
 
 -- what stands at the place of a row
 pub row_found : (rows got : List Listed) (place : ℕ) (listed other : Listed) → got ≡ rows
@@ -380,14 +380,14 @@ planned_at v u t known ask place reach plan asked more reached is = record {
   plan_is = is;
 }
 
--- and prepared what reads it
-pub prepared_at : (v u t : View) (known : Known) (ask : Ask) (place : ℕ) (reach : Reach) (plan : List Piece) (p : Prepared)
+-- and planned what reads it
+pub planned_scan_at : (v u t : View) (known : Known) (ask : Ask) (place : ℕ) (reach : Reach) (plan : List Piece) (p : PlannedScan)
     (asked : IsAsked v u known ask place) → OnlyScans u t → IsReach v t (first_asked ask) ask.to reach
     → IsPlan v t (rows_of known) asked.named.newest.listed.def ask.how reach.from reach.settled reach.to plan
     → IsQuery asked.named.newest.listed.def ask reach p.query → p.plan ≡ plan
-    → IsPrepared v t known ask p
+    → IsPlannedScan v t known ask p
 unfolding asked_later
-prepared_at v u t known ask place reach plan p asked more reached is query same = record {
+planned_scan_at v u t known ask place reach plan p asked more reached is query same = record {
   place = place;
   asked = asked_later v u t known ask place more asked;
   means = query.means;
@@ -398,20 +398,20 @@ prepared_at v u t known ask place reach plan p asked more reached is query same 
 }
 
 -- whatever the call answers
-pub prepared_all : (v t : View) (known : Known) (ask : Ask) (reach : Reach) (plan : List Piece) {text : List ℕ}
-    (r : Result Prepared ScanRefusal) → IfOk r (λ p. IsQuery text ask reach p.query) → IfOk r (λ p. p.plan ≡ plan)
-    → ((p : Prepared) → IsQuery text ask reach p.query → p.plan ≡ plan → IsPrepared v t known ask p)
-    → IfOk r (IsPrepared v t known ask)
-prepared_all v t known ask reach plan (Ok p) query same f = f p query same
-prepared_all v t known ask reach plan (Err e) query same f = tt
+pub planned_scan_all : (v t : View) (known : Known) (ask : Ask) (reach : Reach) (plan : List Piece) {text : List ℕ}
+    (r : Result PlannedScan ScanRefusal) → IfOk r (λ p. IsQuery text ask reach p.query) → IfOk r (λ p. p.plan ≡ plan)
+    → ((p : PlannedScan) → IsQuery text ask reach p.query → p.plan ≡ plan → IsPlannedScan v t known ask p)
+    → IfOk r (IsPlannedScan v t known ask)
+planned_scan_all v t known ask reach plan (Ok p) query same f = f p query same
+planned_scan_all v t known ask reach plan (Err e) query same f = tt
 
 -- memory may be wanting for it
-pub memory_refused : (v t : View) (known : Known) (ask : Ask) (r : ScanRefusal) → r ≡ refusal.OutOfMemory → IsUnprepared v t known ask r
-memory_refused v t known ask r is = subst (IsUnprepared v t known ask) (sym is) tt
+pub memory_refused : (v t : View) (known : Known) (ask : Ask) (r : ScanRefusal) → r ≡ refusal.OutOfMemory → IsUnplanned v t known ask r
+memory_refused v t known ask r is = subst (IsUnplanned v t known ask) (sym is) tt
 
 -- how the range is read is so later
-unfoldable pub planned_later : (v u t : View) (known : Known) (ask : Ask) (p : Prepared) → OnlyScans u t
-    → IsPrepared v u known ask p
+unfoldable pub planned_later : (v u t : View) (known : Known) (ask : Ask) (p : PlannedScan) → OnlyScans u t
+    → IsPlannedScan v u known ask p
     → IsPlanned v t known ask p.query.reach.from p.query.reach.to p.query.reach.opens p.plan
 unfolding asked_later range_within
 planned_later v u t known ask p after h = record {
@@ -439,10 +439,10 @@ adds_first v def value other from to opens before after none same h =
 
 -- ---- what is answered
 
--- the pieces of what was prepared can be read
-pub prepared_readable : (v u : View) (known : Known) (ask : Ask) (p : Prepared) → IsPrepared v u known ask p
+-- the pieces of what was planned can be read
+pub planned_readable : (v u : View) (known : Known) (ask : Ask) (p : PlannedScan) → IsPlannedScan v u known ask p
     → AreReadable u (definition_of p.query.def) p.query.reach p.plan
-prepared_readable v u known ask p h =
+planned_readable v u known ask p h =
     let first = h.reach.range.first_is in
     plan_readable v u known (definition_of p.query.def) h.asked.named.newest.listed.def p.query.reach h.asked.named.read
     h.means (omega arith) ask.how p.plan h.plan

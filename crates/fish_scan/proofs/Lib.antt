@@ -22,7 +22,7 @@ pub mod OlderLoads
 pub mod OlderReads
 pub mod OlderRows
 pub mod Parsing
-pub mod Preparing
+pub mod PlannedScans
 pub mod PriorChains
 pub mod PriorRecords
 pub mod Reaching

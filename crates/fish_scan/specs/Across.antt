@@ -19,7 +19,7 @@ use Rattle.fish_scan.specs.Older.{selectable}
 use Rattle.fish_scan.specs.Parses.{HasParsed}
 use Rattle.fish_scan.specs.Reach.{first_in}
 use Rattle.fish_scan.specs.Reading.{Adds}
-use Rattle.fish_scan.specs.Scans.{IsPlanned, IsUnprepared}
+use Rattle.fish_scan.specs.Scans.{IsPlanned, IsUnplanned}
 use Rattle.fish_scan.specs.Work.{AreAllowed, ArePiecesWork}
 use Rattle.fish_scan.specs.declared.ask.Answer.{Answer}
 use Rattle.fish_scan.specs.declared.ask.Ask.{Ask}
@@ -99,9 +99,9 @@ pub record IsBroken (v u : View) (known : Known) (ask : Ask) (first : ℕ) : Typ
 -- why there is no answer; a refusal comes only where none of those before it does. A fault or damage of the disk comes only where
 -- a range was planned that begins below the table, and damage is at one of its numbers, or at the table's first
 abbrev pub IsRefusedWith : View → View → Known → Ask → ScanRefusal → Type 0
-IsRefusedWith v u known ask (refusal.UnknownName version) = IsUnprepared v u known ask (refusal.UnknownName version)
-IsRefusedWith v u known ask (refusal.EmptyRange from to) = IsUnprepared v u known ask (refusal.EmptyRange from to)
-IsRefusedWith v u known ask (refusal.NotCovered from to) = IsUnprepared v u known ask (refusal.NotCovered from to)
+IsRefusedWith v u known ask (refusal.UnknownName version) = IsUnplanned v u known ask (refusal.UnknownName version)
+IsRefusedWith v u known ask (refusal.EmptyRange from to) = IsUnplanned v u known ask (refusal.EmptyRange from to)
+IsRefusedWith v u known ask (refusal.NotCovered from to) = IsUnplanned v u known ask (refusal.NotCovered from to)
 IsRefusedWith v u known ask (refusal.ColdRange base) = ⊥
 IsRefusedWith v u known ask refusal.DiskFault = IsBroken v u known ask u.about.number
 IsRefusedWith v u known ask (refusal.Damaged n) = (n ≤ u.about.number) × IsBroken v u known ask n

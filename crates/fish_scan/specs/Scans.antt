@@ -29,7 +29,7 @@ use Rattle.fish_scan.specs.declared.matching.Query.{Query}
 use Rattle.fish_scan.specs.declared.reach.Reach.{Reach}
 use Rattle.fish_scan.specs.declared.refusal.ScanRefusal.{ScanRefusal}
 use Rattle.fish_scan.specs.declared.refusal.ScanRefusal.TheVariants as refusal
-use Rattle.fish_scan.specs.declared.scanning.Prepared.{Prepared}
+use Rattle.fish_scan.specs.declared.scanning.PlannedScan.{PlannedScan}
 use Rattle.fish_walk.specs.Settling.{IsEnd, StopsAt}
 
 -- the second view is the first but for what was learned since, and the tail and the epoch that were seen
@@ -109,7 +109,7 @@ pub record IsQuery (text : List ℕ) (ask : Ask) (reach : Reach) (query : Query)
   pub reach_is : query.reach ≡ reach
 
 -- what the pass knows before it reads a record
-pub record IsPrepared (v u : View) (known : Known) (ask : Ask) (p : Prepared) : Type 0 where
+pub record IsPlannedScan (v u : View) (known : Known) (ask : Ask) (p : PlannedScan) : Type 0 where
   pub place : ℕ
   pub asked : IsAsked v u known ask place
   pub means : IsAccepted asked.named.newest.listed.def (definition_of p.query.def)
@@ -178,17 +178,17 @@ IsCold base from refusal.DiskFault = ⊥
 IsCold base from (refusal.Damaged number) = ⊥
 
 -- why there is no plan
-abbrev pub IsUnprepared : View → View → Known → Ask → ScanRefusal → Type 0
-IsUnprepared v u known ask (refusal.UnknownName version) = (version ≡ version_of known)
+abbrev pub IsUnplanned : View → View → Known → Ask → ScanRefusal → Type 0
+IsUnplanned v u known ask (refusal.UnknownName version) = (version ≡ version_of known)
     × HasLoaded v.clock u.clock Version version × AreRead u known × HasNone (rows_of known) ask.name
     × (v.learned.version ≤ version)
-IsUnprepared v u known ask (refusal.EmptyRange from to) = AreEmptyEnds ask from to
+IsUnplanned v u known ask (refusal.EmptyRange from to) = AreEmptyEnds ask from to
     × ((place : ℕ) × IsNamed v u known ask place)
-IsUnprepared v u known ask (refusal.NotCovered from to) = (ask.how ≡ how.Index) × IsUncovered v u known ask from to
-IsUnprepared v u known ask (refusal.ColdRange base) = ⊥
-IsUnprepared v u known ask refusal.DiskFault = ⊥
-IsUnprepared v u known ask (refusal.Damaged number) = ⊥
-IsUnprepared v u known ask refusal.OutOfMemory = ⊤
+IsUnplanned v u known ask (refusal.NotCovered from to) = (ask.how ≡ how.Index) × IsUncovered v u known ask from to
+IsUnplanned v u known ask (refusal.ColdRange base) = ⊥
+IsUnplanned v u known ask refusal.DiskFault = ⊥
+IsUnplanned v u known ask (refusal.Damaged number) = ⊥
+IsUnplanned v u known ask refusal.OutOfMemory = ⊤
 
 -- why there is no answer; a refusal comes only where none of those before it does
 abbrev pub IsRefused : View → View → Known → Ask → ScanRefusal → Type 0

@@ -21,7 +21,7 @@ use crate::cutting::cut_at;
 use crate::matching::Query;
 use crate::pieces::read_pieces;
 use crate::refusal::ScanRefusal;
-use crate::scanning::{answer_of, prepare};
+use crate::scanning::{answer_of, plan_scan};
 use fish_cold::{Cold, ColdRefusal};
 use fish_disk::Disk;
 use fish_epoch::Defs;
@@ -72,15 +72,15 @@ pub fn scan_with<D: Disk, P: Ledger, L: Ledger>(
     ensures fault { IsScanFault (D.faults disk.old) (D.faults disk.new) result }
     ensures whole { (h : CarriesTable (D.content disk.new) log.now.key cold.old) → IfErr result IsUndamagedScan }
 {
-    let prepared = prepare(alloc, log, pass, &mut defs.known, ask)?;
+    let planned = plan_scan(alloc, log, pass, &mut defs.known, ask)?;
     let mut rows = Rows::new(alloc);
     let read = read_across(
         alloc,
         log,
         pass,
         &mut defs.reader,
-        &prepared.query,
-        prepared.plan.pieces(),
+        &planned.query,
+        planned.plan.pieces(),
         cold,
         disk,
         &mut rows,
@@ -88,9 +88,9 @@ pub fn scan_with<D: Disk, P: Ledger, L: Ledger>(
         loads,
     );
     match read {
-        Ok(()) => Ok(answer_of(prepared, rows)),
+        Ok(()) => Ok(answer_of(planned, rows)),
         Err(refusal) => {
-            drop(prepared);
+            drop(planned);
             drop(rows);
             Err(ScanRefusal::from(refusal))
         }

@@ -5,18 +5,19 @@ ghost use Rattle.fish_catalog.specs.Canonical.{IsCanonical};
 ghost use Rattle.fish_epoch.specs.Definitions.{IsDefsOf, IsKnownOf};
 ghost use Rattle.fish_rule.specs.Passes.{IsPassOf, view};
 ghost use Rattle.fish_scan.specs.Parses.{HasParsed};
-ghost use Rattle.fish_scan.specs.Scans.{AreEmptyEnds, IsAnswer, IsAsked, IsCold, IsEmptyAsk, IsExplained, IsPrepared, IsQuery};
-ghost use Rattle.fish_scan.specs.Scans.{IsRefused, IsUnprepared, OnlyPlans, OnlyScans};
+ghost use Rattle.fish_scan.specs.Scans.{AreEmptyEnds, IsAnswer, IsAsked, IsCold, IsEmptyAsk, IsExplained, IsPlannedScan, IsQuery};
+ghost use Rattle.fish_scan.specs.Scans.{IsRefused, IsUnplanned, OnlyPlans, OnlyScans};
 ghost use Rattle.fish_scan.specs.Work.{IsWork};
 ghost use Rattle.fish_scan.specs.declared.refusal.ScanRefusal.TheVariants.{OutOfMemory};
 
 use crate::ask::{Answer, Ask, Explained};
 use crate::matching::Query;
-use crate::naming::{newest, parse_text};
+use crate::naming::newest;
 use crate::pieces::read_pieces;
 use crate::planning::find_plan;
 use crate::reach::{Reach, find_reach};
 use crate::refusal::ScanRefusal;
+use fish_catalog::parse_canonical;
 use fish_epoch::{Defs, Known};
 use fish_plan::{Plan, Stretch};
 use fish_psf::Steps;
@@ -27,7 +28,7 @@ use std::sync::ledger::Ledger;
 
 /// What is known before a record is read.
 #[derive(Drop)]
-pub(crate) struct Prepared {
+pub(crate) struct PlannedScan {
     pub query: Query,
     pub plan: Plan,
 }
@@ -63,35 +64,35 @@ pub fn scan<P: Ledger, L: Ledger>(
         parses.new) }
     ensures loads { IfOk result (λ answer. IsWork (view pass.old) (view pass.new) ask.now.value answer loads.old loads.new) }
 {
-    let prepared = prepare_in_table(alloc, log, pass, &mut defs.known, ask)?;
+    let planned = plan_scan_in_table(alloc, log, pass, &mut defs.known, ask)?;
     let mut rows = Rows::new(alloc);
     let read = read_pieces(
         alloc,
         log,
         pass,
         &mut defs.reader,
-        &prepared.query,
-        prepared.plan.pieces(),
+        &planned.query,
+        planned.plan.pieces(),
         &mut rows,
         parses,
         loads,
     );
     match read {
-        Ok(()) => Ok(answer_of(prepared, rows)),
+        Ok(()) => Ok(answer_of(planned, rows)),
         Err(refusal) => {
-            drop(prepared);
+            drop(planned);
             drop(rows);
             Err(ScanRefusal::from(refusal))
         }
     }
 }
 
-/// The answer to what was prepared, with the rows that were read.
-pub(crate) fn answer_of(prepared: Prepared, rows: Rows) -> Answer
-    ensures { let reach = prepared.query.reach in
-        result ≡ record { from = reach.from; to = reach.to; opens = reach.opens; rows = rows; plan = prepared.plan } }
+/// The answer to what was planned, with the rows that were read.
+pub(crate) fn answer_of(planned: PlannedScan, rows: Rows) -> Answer
+    ensures { let reach = planned.query.reach in
+        result ≡ record { from = reach.from; to = reach.to; opens = reach.opens; rows = rows; plan = planned.plan } }
 {
-    let Prepared { query, plan } = prepared;
+    let PlannedScan { query, plan } = planned;
     let Query { def, value, reach } = query;
     drop(def);
     drop(value);
@@ -128,17 +129,17 @@ pub fn explain(
     ensures defs { IsDefsOf (view pass.new) defs.new }
     ensures explained { IfOk result (λ e. (opens : List ℕ) × IsExplained (view pass.old) (view pass.new) defs.new.known ask.now
         e.from e.to opens e.plan) }
-    ensures refused { IfErr result (IsUnprepared (view pass.old) (view pass.new) defs.new.known ask.now) }
+    ensures refused { IfErr result (IsUnplanned (view pass.old) (view pass.new) defs.new.known ask.now) }
 {
-    let prepared = prepare(alloc, log, pass, &mut defs.known, ask)?;
-    Ok(explained_of(prepared))
+    let planned = plan_scan(alloc, log, pass, &mut defs.known, ask)?;
+    Ok(explained_of(planned))
 }
 
-/// How what was prepared would be read.
-fn explained_of(prepared: Prepared) -> Explained
-    ensures { let reach = prepared.query.reach in result ≡ record { from = reach.from; to = reach.to; plan = prepared.plan } }
+/// How what was planned would be read.
+fn explained_of(planned: PlannedScan) -> Explained
+    ensures { let reach = planned.query.reach in result ≡ record { from = reach.from; to = reach.to; plan = planned.plan } }
 {
-    let Prepared { query, plan } = prepared;
+    let PlannedScan { query, plan } = planned;
     let Query { def, value, reach } = query;
     drop(def);
     drop(value);
@@ -148,56 +149,56 @@ fn explained_of(prepared: Prepared) -> Explained
 }
 
 /// What is known before a record is read, where the range doesn't begin below the log's first number.
-fn prepare_in_table(
+fn plan_scan_in_table(
     alloc: Global,
     log: &Log,
     pass: &mut Pass,
     known: &mut Known,
     ask: &Ask,
-) -> Result<Prepared, ScanRefusal>
+) -> Result<PlannedScan, ScanRefusal>
     requires pass { IsPassOf log.now pass.old }
     requires known { IsKnownOf (view pass.old) known.old }
     ensures pass { IsPassOf log.now pass.new }
     ensures only { OnlyPlans (view pass.old) (view pass.new) }
     ensures known { IsKnownOf (view pass.new) known.new }
-    ensures prepared { IfOk result (IsPrepared (view pass.old) (view pass.new) known.new ask.now) }
+    ensures planned { IfOk result (IsPlannedScan (view pass.old) (view pass.new) known.new ask.now) }
     ensures base { IfOk result (λ p. log.now.key.number ≤ p.query.reach.from) }
     ensures refused { IfErr result (IsRefused (view pass.old) (view pass.new) known.new ask.now) }
 {
-    match prepare(alloc, log, pass, known, ask) {
-        Ok(prepared) => in_table(base(log).number, prepared),
+    match plan_scan(alloc, log, pass, known, ask) {
+        Ok(planned) => in_table(base(log).number, planned),
         Err(refusal) => Err(refusal),
     }
 }
 
-/// What was prepared: refused where the range begins below the log's first number.
-fn in_table(base: u32, prepared: Prepared) -> Result<Prepared, ScanRefusal>
-    ensures same { IfOk result (λ p. p ≡ prepared) }
+/// What was planned: refused where the range begins below the log's first number.
+fn in_table(base: u32, planned: PlannedScan) -> Result<PlannedScan, ScanRefusal>
+    ensures same { IfOk result (λ p. p ≡ planned) }
     ensures above { IfOk result (λ p. base ≤ p.query.reach.from) }
-    ensures refused { IfErr result (IsCold base prepared.query.reach.from) }
+    ensures refused { IfErr result (IsCold base planned.query.reach.from) }
 {
-    if prepared.query.reach.from < base {
-        drop(prepared);
+    if planned.query.reach.from < base {
+        drop(planned);
         return Err(ScanRefusal::ColdRange { base });
     }
-    Ok(prepared)
+    Ok(planned)
 }
 
 /// Finds what the name means, how far the scan looks, and how it reads what it reaches, in this order.
-pub(crate) fn prepare(
+pub(crate) fn plan_scan(
     alloc: Global,
     log: &Log,
     pass: &mut Pass,
     known: &mut Known,
     ask: &Ask,
-) -> Result<Prepared, ScanRefusal>
+) -> Result<PlannedScan, ScanRefusal>
     requires pass { IsPassOf log.now pass.old }
     requires known { IsKnownOf (view pass.old) known.old }
     ensures pass { IsPassOf log.now pass.new }
     ensures only { OnlyPlans (view pass.old) (view pass.new) }
     ensures known { IsKnownOf (view pass.new) known.new }
-    ensures prepared { IfOk result (IsPrepared (view pass.old) (view pass.new) known.new ask.now) }
-    ensures refused { IfErr result (IsUnprepared (view pass.old) (view pass.new) known.new ask.now) }
+    ensures planned { IfOk result (IsPlannedScan (view pass.old) (view pass.new) known.new ask.now) }
+    ensures refused { IfErr result (IsUnplanned (view pass.old) (view pass.new) known.new ask.now) }
 {
     let place = find_row(log, pass, known, ask)?;
     let reach = find_reach(alloc, log, pass, ask.from.unwrap_or(0), ask.to)?;
@@ -218,14 +219,14 @@ fn with_query(
     ask: &Ask,
     reach: Reach,
     plan: Plan,
-) -> Result<Prepared, ScanRefusal>
+) -> Result<PlannedScan, ScanRefusal>
     requires { IsCanonical text.now }
     ensures query { IfOk result (λ p. IsQuery text.now ask.now reach p.query) }
     ensures plan { IfOk result (λ p. p.plan ≡ plan) }
     ensures refused { IfErr result (λ refusal. refusal ≡ OutOfMemory) }
 {
     match query_of(alloc, text, ask, reach) {
-        Ok(query) => Ok(Prepared { query, plan }),
+        Ok(query) => Ok(PlannedScan { query, plan }),
         Err(refusal) => {
             drop(plan);
             Err(ScanRefusal::from(refusal))
@@ -238,7 +239,7 @@ fn query_of(alloc: Global, text: &[u8], ask: &Ask, reach: Reach) -> Result<Query
     requires { IsCanonical text.now }
     ensures { IfOk result (IsQuery text.now ask.now reach) }
 {
-    match parse_text(alloc, text) {
+    match parse_canonical(alloc, text) {
         Ok(def) => match ask.value.again(alloc) {
             Ok(value) => Ok(Query { def, value, reach }),
             Err(refusal) => {
@@ -263,7 +264,7 @@ fn find_row(log: &Log, pass: &mut Pass, known: &mut Known, ask: &Ask) -> Result<
     ensures known { IsKnownOf (view pass.new) known.new }
     ensures asked { IfOk result (IsAsked (view pass.old) (view pass.new) known.new ask.now) }
     ensures tail { (view pass.new).tail ≡ (view pass.old).tail }
-    ensures refused { IfErr result (IsUnprepared (view pass.old) (view pass.new) known.new ask.now) }
+    ensures refused { IfErr result (IsUnplanned (view pass.old) (view pass.new) known.new ask.now) }
 {
     let version = load_version(log, pass) as u16;
     known.refresh(log, pass, version)?;

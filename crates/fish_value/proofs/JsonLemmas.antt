@@ -1,6 +1,6 @@
 -- Readings of bytes, with and without UTF-8.
 use Rattle.std.proofs.Common.{◌≡◌, ℕ, List, refl}
-use Rattle.std.specs.Prelude.{Option, None, if◌then◌else◌, true, false, IsUtf8}
+use Rattle.std.specs.Prelude.{None, if◌then◌else◌, true, false, IsUtf8}
 use Rattle.std.specs.Str.{is_utf8}
 use Rattle.std.proofs.lemmas.Str.{IsUtf8-from_is_utf8, is_utf8-from_IsUtf8}
 use Rattle.serde_json.specs.Read.{read}

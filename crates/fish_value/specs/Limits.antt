@@ -12,3 +12,7 @@ longest_payload = 524288
 -- the most bytes of a file that is read whole
 abbrev pub longest_file : ℕ
 longest_file = 67108864
+
+-- the most bytes of a name
+abbrev pub longest_name : ℕ
+longest_name = 32

@@ -7,6 +7,7 @@
 mod bytes;
 mod field;
 mod json;
+mod limits;
 mod number;
 mod path;
 mod row;
@@ -18,6 +19,7 @@ mod value_text;
 pub use bytes::Bytes;
 pub use field::{Field, FieldView, Form};
 pub use json::{json_text, read_json};
+pub use limits::{MAX_FILE, MAX_LANE, MAX_NAME, MAX_PAYLOAD};
 pub use number::read_int;
 pub use path::Path;
 pub use row::{Row, Rows};

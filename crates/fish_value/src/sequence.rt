@@ -1,6 +1,6 @@
 //! The list type that stands behind every small list type of the project. Contracts see the list.
 
-ghost use Rattle.std.specs.Prelude.{◌≡◌, ◌==◌, ◌++◌, ◌∷◌, [], length, reverse, OnOk, OnErr};
+ghost use Rattle.std.specs.Prelude.{◌≡◌, ◌==◌, ◌++◌, ◌∷◌, [], length, reverse, IfOk, OnOk, OnErr};
 
 use crate::field::Field;
 use crate::text::Text;
@@ -45,6 +45,31 @@ impl<T> Sequence<T> {
         Sequence {
             items: Vec::new(alloc),
         }
+    }
+
+    /// One element alone. Takes room for no other.
+    pub fn one(alloc: Global, item: T) -> Result<Sequence<T>, AllocError>
+    where
+        T: Drop,
+        ensures { IfOk result (λ sequence. sequence ≡ item ∷ []) }
+    {
+        match Vec::with_capacity(alloc, 1) {
+            Ok(items) => Sequence { items }.with(item),
+            Err(error) => {
+                drop(item);
+                Err(error)
+            }
+        }
+    }
+
+    /// The elements with one more behind them.
+    fn with(mut self, item: T) -> Result<Sequence<T>, AllocError>
+    where
+        T: Drop,
+        ensures { IfOk result (λ sequence. sequence ≡ self ++ item ∷ []) }
+    {
+        self.items.push(item)?;
+        Ok(self)
     }
 
     /// How many there are.

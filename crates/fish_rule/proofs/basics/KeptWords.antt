@@ -1,28 +1,26 @@
 -- Where the words of a closed log's entries stand in its table.
 use Rattle.std.proofs.Common.{◌≡◌, ◌≢◌, ℕ, ◌+◌, ◌-◌, ◌*◌, ◌<◌, ◌≤◌, zero, suc, List, [], ◌∷◌, length, map, get_or, ap}
-use Rattle.std.proofs.Common.{refl, sym, ◌∙◌, subst, arith, slice_get, Some}
+use Rattle.std.proofs.Common.{refl, sym, ◌∙◌, arith, slice_get, Some}
 use Rattle.std.specs.List.{range_with_len}
 use Rattle.std.proofs.lemmas.List.FromFn.{length-map-range_with_len}
 use mathlib.Core.Option.{some-injective, some-ne-none}
-use Rattle.core.specs.Mem.Slots.{slots_counts, slots_items, slots_len}
-use Rattle.fish_catalog.specs.declared.entry.Entry.{Entry}
+use Rattle.core.specs.Mem.Slots.{slots_items, slots_len}
 use Rattle.fish_catalog.specs.declared.entry.Entry.TheVariants as entry
 use Rattle.fish_layout.proofs.Clearing.{cleared_head}
 use Rattle.fish_layout.proofs.Spelled.{spelled_lines}
 use Rattle.fish_layout.specs.Body.{IsBody, body_lines}
-use Rattle.fish_layout.specs.Cleared.{unlinked}
 use Rattle.fish_layout.specs.Header.{lines_of}
 use Rattle.fish_layout.specs.declared.parts.BodyParts.{BodyParts}
 use Rattle.fish_rule.proofs.basics.Bodies.{code_once, kind-inside}
-use Rattle.fish_rule.proofs.basics.Context.{Kind, Rule, World, get_elem?, some}
-use Rattle.fish_rule.proofs.basics.OneMoment.{claimed, stored_claimed, stored_line, stored_parts}
+use Rattle.fish_rule.proofs.basics.Context.{Kind, World, get_elem?, some}
+use Rattle.fish_rule.proofs.basics.OneMoment.{claimed, stored_line, stored_parts}
 use Rattle.fish_rule.proofs.basics.Regions.{few_slots, starts_above}
 use Rattle.fish_rule.proofs.basics.Worlds.{area-in}
 use Rattle.fish_rule.proofs.laws.LogWords.{entry_is_void, entry_stored, record_back, stored_body}
 use Rattle.fish_rule.specs.KeptEntries.{KeepsEntries, entries_kept, kept_world}
-use Rattle.fish_rule.specs.LogWords.{entry_in, record_in, region_at}
+use Rattle.fish_rule.specs.LogWords.{entry_in, region_at}
 use Rattle.fish_rule.specs.Regions.{code, kind_of}
-use Rattle.fish_rule.specs.World.{body, dir_at, high, log_at, log_size, low, slots, total}
+use Rattle.fish_rule.specs.World.{dir_at, high, log_at, log_size, low, slots}
 use Rattle.fish_rule.specs.declared.kept.LogEntries.TheInside.{Inside}
 use Rattle.fish_rule.specs.LoadSteps.{kind_told}
 use Rattle.fish_rule.specs.declared.view.Kind.TheVariants.{Mark, Stored, Void}

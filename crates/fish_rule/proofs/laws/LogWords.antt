@@ -12,8 +12,8 @@ use Rattle.fish_layout.proofs.Outlines.{body_payload, body_values_size, no_value
 use Rattle.fish_layout.proofs.Spelled.{body_says, body_spelled, spelled_lines}
 use Rattle.fish_layout.specs.Body.{IsBody, body_lines, values_of}
 use Rattle.fish_layout.specs.Bytes.{bytes_in, words_for}
-use Rattle.fish_layout.specs.Cleared.{Spells, body_of, choose, entry_at, unlinked}
-use Rattle.fish_layout.specs.Header.{form_code, form_of, keys_of, lane_of, length_of, lines_of}
+use Rattle.fish_layout.specs.Cleared.{Spells, body_of, entry_at, unlinked}
+use Rattle.fish_layout.specs.Header.{form_code, form_of, keys_of, lines_of}
 use Rattle.fish_layout.specs.declared.parts.BodyParts.{BodyParts}
 use Rattle.fish_rule.proofs.basics.Context.{Key, Kind, Rule, World, get_elem?, some}
 use Rattle.fish_rule.proofs.basics.OneMoment.{claimed, stored_parts}

@@ -1,5 +1,5 @@
 -- What was read of a log so far, and how it grows.
-use Rattle.std.proofs.Common.{◌≡◌, ℕ, ◌+◌, ◌*◌, ◌/◌, ◌<◌, ◌≤◌, suc, List, [], ◌∷◌, ◌++◌, refl, sym, ap, ◌∙◌}
+use Rattle.std.proofs.Common.{◌≡◌, ℕ, ◌*◌, ◌/◌, ◌<◌, ◌≤◌, suc, List, [], ◌∷◌, ◌++◌, refl, sym, ap, ◌∙◌}
 use Rattle.std.proofs.Common.{subst, inl, inr, ⊎_elim, arith}
 use Rattle.fish_rule.proofs.basics.Context.{Among, Key, View, World}
 use Rattle.std.proofs.lemmas.Nat.{le-div}
@@ -8,7 +8,6 @@ use Rattle.std.proofs.Math.Nat.{div-mul-le_self}
 use Rattle.fish_catalog.specs.declared.page_start.PageStart.{PageStart}
 use Rattle.fish_rule.proofs.basics.Regions.{starts_rise}
 use Rattle.fish_rule.proofs.basics.Lists.{all_among, all_append, among_either, among_left, among_right}
-use Rattle.fish_rule.proofs.laws.Learning.{learns_self}
 use Rattle.fish_rule.specs.ClosedLog.{HasLine, HasMarkAt, HasStart, IsCovered, IsRead, IsReadUpTo, PagesRise}
 use Rattle.fish_layout.specs.Pages.{page_of}
 use Rattle.fish_rule.specs.Facts.{IsFound}

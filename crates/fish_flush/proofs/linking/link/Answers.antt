@@ -1,5 +1,5 @@
 -- Each key entry is linked in turn.
-use Rattle.std.proofs.Common.{◌≡◌, ℕ, ◌+◌, ◌*◌, ◌<◌, List, length, get_or, refl, ap, ◌∙◌, arith}
+use Rattle.std.proofs.Common.{◌≡◌, ℕ, ◌<◌, List, length, get_or, refl, ap, ◌∙◌, arith}
 use Rattle.std.proofs.lemmas.Grind.{get_or_default_zero}
 use Rattle.std.proofs.lemmas.List.{length-set}
 use Rattle.fish_layout.specs.Bucket.{bucket_of}
@@ -45,7 +45,9 @@ loop-c-preserved c =
     let now : List ℕ = c.loop-c.heads.items in
     let out : List ℕ = c.loop-c.words in
     let b : ℕ = c.entry_bucket-bucket.result in
-    let p : ℕ = 4 * c.args.line + 1 + 3 * c.loop-c.c in
+    let p : ℕ = c.place_of.result in
+    let place = c.place_of.ensures in
+    let at = c.entry_at.ensures in
     let same : length now ≡ length heads = c.loop-c.invariant.heads in
     let ok = c.loop-c.heads.ok in
     let is_len = c.len.ensures in
@@ -61,7 +63,7 @@ loop-c-preserved c =
     record {
       heads = length-set now b p ∙ same;
       out = one_linked c.args.line c.args.words.now heads c.loop-c.c now out c.loop-c.invariant.out
-          b c.index.result.now (1 + 3 * c.loop-c.c) p same (omega arith) bucket fits prev refl (omega arith) room;
+          b c.index.result.now c.entry_at.result p same (omega arith) bucket fits prev at (omega arith) room;
     }
 
 pub returns-clause-heads : goal.returns-clause-heads

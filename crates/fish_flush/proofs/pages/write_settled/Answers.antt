@@ -73,6 +73,8 @@ loop-number-preserved g c =
     let counts = on.learns.count in
     let one = c.add_region.ensures.added in
     let test = c.loop-number-test.true in
+    let written = c.page_of.ensures in
+    let reached = c.page_of-in-loop-number.ensures in
     record {
       of = c.add_region.ensures.pass;
       extends = extends_both _ _ _ i.extends on;
@@ -85,7 +87,7 @@ loop-number-preserved g c =
             (turn_written disk.content disk.images disk.since disk.moment disk.faults c.args.disk.now v c.args.log.now.key.end c.args.from
             c.args.to a u x n b d y i.extends on test one i.turn w.write_pending.new.batch w.write_pending.new.disk
             (elim w.then-full.branch [
-              | then-full-via-then-full w' ↦ inl w'.if-full.true
+              | then-full-via-then-full w' ↦ inl (let less = w'.if-full.true in omega arith)
               | then-full-via-else-full+then-number-to w' ↦ inr w'.if-number-to.true
             ])
             w.write_pending.ensures.kept w.in_ok-write_pending.ensures.written w.in_ok-write_pending.ensures.content
@@ -94,7 +96,7 @@ loop-number-preserved g c =
             subst (λ (z : Batch × g.row.D.Denot). IsTurn disk.content disk.images disk.since disk.moment disk.faults c.args.disk.now v
             c.args.log.now.key.end c.args.from c.args.to a x (n + 1) z.0 z.1) (λ j. (sym w.batch-is j, sym w.disk-is j))
             (turn_more disk.content disk.images disk.since disk.moment disk.faults c.args.disk.now v c.args.log.now.key.end c.args.from
-            c.args.to a u x n b d y i.extends on test one i.turn w.if-full.false w.if-number-to.false)
+            c.args.to a u x n b d y i.extends on test one i.turn (let same = w.if-full.false in omega arith) w.if-number-to.false)
       ];
     }
 

@@ -1,5 +1,5 @@
 -- Each key entry is linked in turn.
-use Rattle.std.proofs.Common.{◌≡◌, ◌+◌, ◌*◌, ◌<◌, ℕ, List, length, get_or, arith, refl, sym, ◌∙◌}
+use Rattle.std.proofs.Common.{◌≡◌, ◌<◌, ℕ, List, length, get_or, arith, refl, sym, ◌∙◌}
 use Rattle.std.proofs.lemmas.Grind.{get_or_default_zero}
 use Rattle.std.proofs.lemmas.List.{length-set}
 use Rattle.fish_layout.specs.Hash.{bucket_in}
@@ -18,14 +18,14 @@ loop-c-preserved c =
     let now : List ℕ = c.loop-c.heads.items in
     let key = c.index-keys-c.result in
     let b : ℕ = c.bucket_of-bucket.result in
-    let p : ℕ = 4 * c.args.line + 1 + 3 * c.loop-c.c in
+    let p : ℕ = c.place_of.result in
     let ok = c.loop-c.heads.ok in let is_len = c.len.ensures in
     let len : c.len.result ≡ n = omega arith in
     let bucket : b ≡ bucket_of_key n key = c.bucket_of-bucket.ensures.value ∙ (λ i. bucket_in (c.key_hash-hash.ensures i) (len i)) in
     let within = c.bucket_of-bucket.ensures.fits in
     let fits : b < n = omega arith in
     let inside : b < length now = omega arith in
-    let place : p ≡ place_of c.args.line c.loop-c.c = omega arith in
+    let place : p ≡ place_of c.args.line c.loop-c.c = c.place_of.ensures in
     let prev : get_or now b 0 ≡ key.prev =
     sym (get_or_default_zero now b c.index.result.now inside) ∙ sym c.index.ensures ∙ c.if-index-key.false in
     record {

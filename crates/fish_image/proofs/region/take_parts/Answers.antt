@@ -1,5 +1,5 @@
 -- What was looked at is what is asked of a record.
-use Rattle.std.proofs.Common.{◌≡◌, ◌+◌, ◌-◌, ◌^◌, ℕ, List, arith, length, refl, sym, ap, subst, ◌∙◌}
+use Rattle.std.proofs.Common.{◌≡◌, ◌+◌, ◌-◌, ◌/◌, ◌<◌, ◌^◌, ℕ, List, arith, length, refl, sym, ap, subst, ◌∙◌}
 use Rattle.fish_catalog.specs.declared.entry.Entry.TheVariants.{Stored}
 use Rattle.fish_layout.proofs.Sizes.{few_keys_of}
 use Rattle.fish_layout.specs.declared.parts.KeyPart.{KeyPart}
@@ -45,12 +45,16 @@ returns c k s terms h =
     (subst (λ (xs : List IndexRow). HasKeysIn xs c.args.at.now.number p) c.as_slice.ensures.value asked) in
     let line = h.line in
     let lines = terms.lines in
-    let within = c.requires.can.within in (
+    let within = c.requires.can.within in
+    let one : c.args.at.now.line / 32768 < (c.args.at.now.line + c.args.lines - 1) / 32768 → ⊥ =
+    λ less. absurd (cc (c.crosses_page.ensures.1 less, c.if-crosses_page.false)) in
+    let some_ = c.requires.some in
+    let in_page : page_of (c.args.at.now.line + c.args.lines - 1) ≡ page_of c.args.at.now.line = omega arith in (
       behind_record k s c.args.lines p,
       (
         record {
           reads = has.reads;
-          in_page = ap (λ (l : ℕ). page_of (l + c.args.lines - 1)) (sym line) ∙ c.if-at-lines.false ∙ ap page_of line;
+          in_page = ap (λ (l : ℕ). page_of (l + c.args.lines - 1)) (sym line) ∙ in_page ∙ ap page_of line;
           within = omega arith;
           keys = keys_out terms.rows s.number p has;
           links = linked.0;

@@ -1,11 +1,9 @@
 -- One number more was read, or the log ends at it.
-use Rattle.std.proofs.Common.{ℕ, arith, subst}
+use Rattle.std.proofs.Common.{ℕ, arith}
 use Rattle.fish_rule.proofs.laws.Steps.{count_law}
 use Rattle.fish_rule.proofs.laws.ReadsOn.{lines_else}
 use Rattle.fish_rule.proofs.laws.ReadSoFar.{read_more, upto_later}
-use Rattle.fish_rule.specs.ClosedLog.{IsNext}
 use Rattle.fish_rule.specs.Passes.{view}
-use Rattle.fish_rule.specs.declared.close.Next.{Next}
 use Rattle.fish_rule.proofs.close.add_number.Goals as goal
 
 pub add_start-requires : goal.add_start-requires

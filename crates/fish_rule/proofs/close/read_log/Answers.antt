@@ -1,6 +1,6 @@
 -- What was read is what is left, and the pass read on.
 use Rattle.std.proofs.Common.{◌≡◌, ◌∙◌, ◌≤◌, ℕ, arith, ap, sym, subst, Some}
-use Rattle.fish_rule.proofs.laws.ReadsOn.{alone_on, heads_later, reads_version, stays_open, to_version}
+use Rattle.fish_rule.proofs.laws.ReadsOn.{heads_later, reads_version, stays_open, to_version}
 use Rattle.fish_rule.proofs.laws.ReadSoFar.{read_later}
 use Rattle.fish_rule.specs.ClosedLog.{AreHeads, StaysOpen}
 use Rattle.fish_rule.specs.LoadSteps.{after_load_tail}

@@ -1,5 +1,5 @@
 -- What was read may be settled, and stays read.
-use Rattle.std.proofs.Common.{◌≡◌, ◌+◌, ◌≤◌, ⊎_elim, arith, ap, sym, subst}
+use Rattle.std.proofs.Common.{◌≡◌, ◌≤◌, ⊎_elim, arith, ap, sym, subst}
 use Rattle.fish_rule.proofs.laws.ReadsOn.{extends_raise}
 use Rattle.fish_rule.proofs.laws.ReadSoFar.{read_later, settles_read}
 use Rattle.fish_rule.proofs.laws.Learning.{extends_both, learns_both}

@@ -1,18 +1,13 @@
 -- The table's words are those of the moment at which the pass ends, and what was read is what is left of it.
-use Rattle.std.proofs.Common.{◌≡◌, ◌∙◌, ◌+◌, ◌-◌, ◌*◌, ◌<◌, ◌≤◌, ℕ, List, Bool, length, refl, sym, ap, subst, arith}
-use Rattle.core.specs.Mem.Slots.{IsFull, slots_items, slots_len}
+use Rattle.std.proofs.Common.{◌≡◌, ◌∙◌, ◌+◌, ◌-◌, ℕ, List, Bool, sym, ap, subst, arith}
+use Rattle.core.specs.Mem.Slots.{IsFull, slots_items}
 use Rattle.core.specs.declared.slots.Slots.{Slots}
-use Rattle.atomic_table.specs.Table.{Final, Seen, State}
-use Rattle.fish_catalog.specs.declared.entry.Entry.{Entry}
+use Rattle.atomic_table.specs.Table.{Final, Seen}
 use Rattle.fish_rule.proofs.basics.Context.{Key, Rule, View, get_elem?, some, view}
 use Rattle.fish_rule.proofs.laws.Remains.{closes, entry_words}
-use Rattle.fish_rule.specs.ClosedLog.{IsClosed, IsWhole}
-use Rattle.fish_rule.specs.LoadSteps.{IsAlone}
 use Rattle.fish_rule.specs.LogWords.{entries_in}
-use Rattle.fish_rule.specs.Parts.{IsEntryWord}
 use Rattle.fish_rule.specs.Table.{Ruled, Stands}
 use Rattle.fish_rule.specs.World.{world}
-use Rattle.fish_rule.specs.declared.close.WholeLog.{WholeLog}
 use Rattle.fish_rule.proofs.close.remains_of.Goals as goal
 
 -- a moment that the words are, where the pass has its view

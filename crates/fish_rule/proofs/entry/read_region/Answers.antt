@@ -1,6 +1,6 @@
 -- All words of the region are read, behind those of before.
 use Rattle.std.proofs.Common.{◌≡◌, ◌∙◌, refl, sym, inl, inr, ap, arith, subst, ℕ, ◌<◌, ◌≤◌, ◌+◌, ◌*◌, List, [], ◌∷◌}
-use Rattle.std.proofs.Common.{◌++◌, length, get_or, length-append, Option, Some, None, is_some}
+use Rattle.std.proofs.Common.{◌++◌, length, get_or, Option, Some, None, is_some}
 use Rattle.std.proofs.Common.{unwrap_or}
 use Rattle.std.specs.Int.{from_bool}
 use Rattle.fish_layout.specs.Cleared.{IsKeyWord}

@@ -1,8 +1,8 @@
 -- One word more.
-use Rattle.std.proofs.Common.{◌≡◌, ◌+◌, ◌∙◌, ◌<◌, ◌*◌, ℕ, List, map, get_or, length, sym, ap, subst, arith, ◌++◌, ◌∷◌, []}
+use Rattle.std.proofs.Common.{◌+◌, ◌∙◌, ℕ, List, map, get_or, length, sym, ap, arith, ◌++◌, ◌∷◌, []}
 use Rattle.std.specs.List.{range_with_len}
 use Rattle.std.proofs.lemmas.List.FromFn.{length-map-range_with_len, map-range_with_len_more}
-use Rattle.core.specs.Mem.Slots.{slots_items, slots_len, slots_small}
+use Rattle.core.specs.Mem.Slots.{slots_items, slots_small}
 use Rattle.fish_layout.specs.Header.{lines_of}
 use Rattle.fish_rule.proofs.basics.KeptWords.{at_place}
 use Rattle.fish_rule.proofs.kept.region_of.Goals as goal

@@ -15,5 +15,5 @@ returns-in-None-2-clause-kept c p is =
       listed = λ apart. c.promote.ensures.entries ∙ ap (λ es. lru_cache es c.args.self.now.cache.cap)
           (listed_put c.args.self.now c.args.page p apart held);
       others = λ apart. refl;
-      beside = λ last. absurd (c.if-last-2.false last);
+      beside = λ last. absurd (c.if-last-2.false (last ∙ sym c.page_of.ensures));
     }

@@ -1,5 +1,5 @@
 -- The start is the one that was found.
-use Rattle.std.proofs.Common.{◌≡◌, ◌-◌, ◌∙◌, sym, ap, subst, arith}
+use Rattle.std.proofs.Common.{◌≡◌, ℕ, ◌-◌, ◌∙◌, sym, ap, subst, arith}
 use Rattle.std.specs.Prelude.{Some}
 use Rattle.std.proofs.lemmas.Option.{same_Some}
 use Rattle.fish_catalog.specs.declared.page_start.PageStart.{PageStart}
@@ -34,4 +34,5 @@ returns-clause-found c start h older =
     let found : c.start_of.result ≡ Some start = c.start_of.ensures start
     (subst (λ s. IsStartOf s c.args.number start) (sym c.as_slice.ensures) h) in
     let same : c.in_ok-start.start ≡ start = same_Some c.in_ok-start.start start (sym c.in_ok-start.was ∙ found) in
-    ap (λ (s : PageStart). Some (page_of s.line, c.args.number - s.number)) same
+    ap (λ (p : ℕ). Some (p, c.args.number - c.in_ok-start.start.number)) c.page_of.ensures
+    ∙ ap (λ (s : PageStart). Some (page_of s.line, c.args.number - s.number)) same

@@ -3,8 +3,8 @@ use Rattle.fish_registry.proofs.Changing.{stays_version}
 use Rattle.fish_rule.specs.Passes.{view}
 use Rattle.fish_registry.proofs.registrar.Registrar.last_version.Goals as goal
 
-pub returns-then-version-ge-MAX_VERSIONS-clause-stays : goal.returns-then-version-ge-MAX_VERSIONS-clause-stays
-returns-then-version-ge-MAX_VERSIONS-clause-stays c =
+pub returns-then-version-from-clause-stays : goal.returns-then-version-from-clause-stays
+returns-then-version-from-clause-stays c =
     stays_version (view c.args.pass.now) _ _ c.requires.outside
     (c.load_version-version.ensures.main c.requires.knows.main) c.load_version-version.ensures.view
 

@@ -1,5 +1,5 @@
 -- One entry more.
-use Rattle.std.proofs.Common.{◌≡◌, ◌+◌, ◌∙◌, ◌++◌, ◌∷◌, ◌<◌, ℕ, zero, suc, List, [], refl, sym, ap, length, take, slice_get, Some, arith}
+use Rattle.std.proofs.Common.{◌≡◌, ◌+◌, ◌∙◌, ◌++◌, ◌∷◌, ℕ, zero, suc, List, [], sym, ap, take, slice_get, Some, arith}
 use Rattle.std.proofs.lemmas.List.{take_all}
 use Rattle.fish_catalog.specs.declared.entry.Entry.{Entry}
 use Rattle.fish_rule.proofs.kept.LogEntries.all.Goals as goal

@@ -1,4 +1,4 @@
--- What was prepared fills its range, what is answered of it, and why there is no answer.
+-- What was planned fills its range, what is answered of it, and why there is no answer.
 use Rattle.std.proofs.Common.{◌≡◌, ℕ, ◌≤◌, List, [], min, sym, ◌∙◌, subst, arith}
 use Rattle.fish_catalog.specs.declared.listed.Listed.{Listed}
 use Rattle.fish_epoch.specs.declared.definitions.Known.{Known}
@@ -12,14 +12,14 @@ use Rattle.fish_rule.specs.declared.view.View.{View}
 use Rattle.fish_scan.proofs.Answering.{asked_later, planned_later, scans_extends}
 use Rattle.fish_scan.specs.Matching.{Finds}
 use Rattle.fish_scan.specs.Reach.{first_in}
-use Rattle.fish_scan.specs.Scans.{IsAnswer, IsCold, IsExplained, IsPlan, IsPrepared, IsRefused, IsUnprepared, OnlyScans}
+use Rattle.fish_scan.specs.Scans.{IsAnswer, IsCold, IsExplained, IsPlan, IsPlannedScan, IsRefused, IsUnplanned, OnlyScans}
 use Rattle.fish_scan.specs.declared.ask.Ask.{Ask}
 use Rattle.fish_scan.specs.declared.ask.How.{How}
 use Rattle.fish_scan.specs.declared.ask.How.TheVariants as how
 use Rattle.fish_scan.specs.declared.reach.Reach.{Reach}
 use Rattle.fish_scan.specs.declared.refusal.ScanRefusal.{ScanRefusal}
 use Rattle.fish_scan.specs.declared.refusal.ScanRefusal.TheVariants as refusal
-use Rattle.fish_scan.specs.declared.scanning.Prepared.{Prepared}
+use Rattle.fish_scan.specs.declared.scanning.PlannedScan.{PlannedScan}
 use Rattle.fish_value.specs.declared.row.Row.{Row}
 
 -- a plan fills its range
@@ -30,9 +30,9 @@ plan_fills v u rows text how.Full from settled to plan some h =
 plan_fills v u rows text how.Auto from settled to plan some h = h.cover.fill
 plan_fills v u rows text how.Index from settled to plan some h = h.0.cover.fill
 
-pub prepared_fills : (v u : View) (known : Known) (ask : Ask) (p : Prepared) → IsPrepared v u known ask p
+pub planned_fills : (v u : View) (known : Known) (ask : Ask) (p : PlannedScan) → IsPlannedScan v u known ask p
     → Fill p.plan p.query.reach.from p.query.reach.to
-prepared_fills v u known ask p h =
+planned_fills v u known ask p h =
     let first = h.reach.range.first_is in
     plan_fills v u _ _ ask.how p.query.reach.from p.query.reach.settled p.query.reach.to p.plan (omega arith) h.plan
 
@@ -44,17 +44,17 @@ all_in k asked reach first base = omega arith
 -- ---- answers
 
 -- how the range would be read is so later
-unfoldable pub explained_later : (v u t : View) (known : Known) (ask : Ask) (p : Prepared) → OnlyScans u t
-    → IsPrepared v u known ask p
+unfoldable pub explained_later : (v u t : View) (known : Known) (ask : Ask) (p : PlannedScan) → OnlyScans u t
+    → IsPlannedScan v u known ask p
     → IsExplained v t known ask p.query.reach.from p.query.reach.to p.query.reach.opens p.plan
 explained_later v u t known ask p after h = record {
   planned = planned_later v u t known ask p after h;
-  fill = prepared_fills v u known ask p h;
+  fill = planned_fills v u known ask p h;
 }
 
 -- where it doesn't begin below the log's first number, the rows that were found in it are those of an answer
-pub answer_found : (v u t : View) (known : Known) (ask : Ask) (p : Prepared) (rows : List Row) → OnlyScans u t
-    → IsPrepared v u known ask p → u.about.number ≤ p.query.reach.from
+pub answer_found : (v u t : View) (known : Known) (ask : Ask) (p : PlannedScan) (rows : List Row) → OnlyScans u t
+    → IsPlannedScan v u known ask p → u.about.number ≤ p.query.reach.from
     → Finds t (definition_of p.query.def) ask.value p.query.reach.from p.query.reach.to p.query.reach.opens rows
     → IsAnswer v t known ask (record {
       from = p.query.reach.from;
@@ -75,19 +75,19 @@ answer_found v u t known ask p rows after h base found = record {
 -- ---- refusals
 
 -- why there is no plan is why there is no answer
-pub unprepared_refused : (v u : View) (known : Known) (ask : Ask) (r : ScanRefusal) → IsUnprepared v u known ask r
+pub unplanned_refused : (v u : View) (known : Known) (ask : Ask) (r : ScanRefusal) → IsUnplanned v u known ask r
     → IsRefused v u known ask r
-unprepared_refused v u known ask (refusal.UnknownName version) h = h
-unprepared_refused v u known ask (refusal.EmptyRange a b) h = h
-unprepared_refused v u known ask (refusal.NotCovered a b) h = h
-unprepared_refused v u known ask (refusal.ColdRange base) h = absurd h
-unprepared_refused v u known ask refusal.DiskFault h = absurd h
-unprepared_refused v u known ask (refusal.Damaged number) h = absurd h
-unprepared_refused v u known ask refusal.OutOfMemory h = tt
+unplanned_refused v u known ask (refusal.UnknownName version) h = h
+unplanned_refused v u known ask (refusal.EmptyRange a b) h = h
+unplanned_refused v u known ask (refusal.NotCovered a b) h = h
+unplanned_refused v u known ask (refusal.ColdRange base) h = absurd h
+unplanned_refused v u known ask refusal.DiskFault h = absurd h
+unplanned_refused v u known ask (refusal.Damaged number) h = absurd h
+unplanned_refused v u known ask refusal.OutOfMemory h = tt
 
 -- where the range begins below the table, a scan of the table alone is refused
-pub cold_refused : (v t : View) (known : Known) (ask : Ask) (base : ℕ) (p : Prepared) (r : ScanRefusal) → base ≡ t.about.number
-    → IsPrepared v t known ask p → IsCold base p.query.reach.from r → IsRefused v t known ask r
+pub cold_refused : (v t : View) (known : Known) (ask : Ask) (base : ℕ) (p : PlannedScan) (r : ScanRefusal) → base ≡ t.about.number
+    → IsPlannedScan v t known ask p → IsCold base p.query.reach.from r → IsRefused v t known ask r
 cold_refused v t known ask base p (refusal.ColdRange found) is h cold = (
   cold.0 ∙ is,
   (

@@ -9,12 +9,12 @@ use Rattle.fish_epoch.specs.Definitions.{rows_of}
 use Rattle.fish_rule.proofs.laws.Learning.{learns_self}
 use Rattle.fish_rule.specs.Passes.{view}
 use Rattle.fish_scan.proofs.Answering.{asked_later, err_gives, memory_refused, plan_by_rows, plan_refused, plans_both}
-use Rattle.fish_scan.proofs.Answering.{plans_extends, plans_settles, prepared_all, prepared_at, reach_within, read_later}
+use Rattle.fish_scan.proofs.Answering.{plans_extends, plans_settles, planned_scan_all, planned_scan_at, reach_within, read_later}
 use Rattle.fish_scan.proofs.Answering.{row_found, scans_both, scans_extends, scans_settles}
 use Rattle.fish_scan.proofs.Lists.{all_at}
-use Rattle.fish_scan.specs.Scans.{IsPlanRefused, IsQuery, IsUnprepared}
+use Rattle.fish_scan.specs.Scans.{IsPlanRefused, IsQuery, IsUnplanned}
 use Rattle.fish_scan.specs.declared.refusal.ScanRefusal.TheVariants as refusal
-use Rattle.fish_scan.proofs.scanning.prepare.Goals as goal
+use Rattle.fish_scan.proofs.scanning.plan_scan.Goals as goal
 
 pub returns-in_err-reach-clause-only : goal.returns-in_err-reach-clause-only
 returns-in_err-reach-clause-only c = plans_both _ _ _ c.find_row.ensures.only (plans_settles _ _ c.find_reach.ensures.settles)
@@ -62,8 +62,8 @@ returns-in-Ok-clause-known c =
     defs_later _ _ c.find_row.new.known rest.learns c.find_row.ensures.known
 
 -- the plan is by the rows and the text that were read
-pub returns-in-Ok-clause-prepared : goal.returns-in-Ok-clause-prepared
-returns-in-Ok-clause-prepared c =
+pub returns-in-Ok-clause-planned : goal.returns-in-Ok-clause-planned
+returns-in-Ok-clause-planned c =
     let v = view c.args.pass.now in
     let m = view c.find_row.new.pass in
     let n = view c.find_reach.new.pass in
@@ -77,9 +77,9 @@ returns-in-Ok-clause-prepared c =
     c.index-rows-place.result c.rows.ensures asked.named.newest.there in
     let text = c.as_bytes-text.ensures ∙ ap (λ (z : Listed). z.def) row in
     let reach = c.in_ok-reach.reach in
-    prepared_all v t known c.args.ask.now reach c.in-Ok.plan c.with_query.result
+    planned_scan_all v t known c.args.ask.now reach c.in-Ok.plan c.with_query.result
     c.with_query.ensures.query c.with_query.ensures.plan (λ p query plan.
-    prepared_at v m t known c.args.ask.now c.in_ok-place.place reach c.in-Ok.plan p asked (scans_both m n t settles rest)
+    planned_scan_at v m t known c.args.ask.now c.in_ok-place.place reach c.in-Ok.plan p asked (scans_both m n t settles rest)
     (reach_within v m n t c.args.ask.now _ reach before c.find_row.ensures.tail rest c.unwrap_or.ensures c.in_ok-reach.ensures.reach)
     (plan_by_rows v n t t (rows_of known) _ asked.named.newest.listed.def _ c.args.ask.now.how _ _ _ _ c.rows-2.ensures text
     (scans_both v m n before settles).learns (learns_self t) c.in-Ok.ensures.plan)
@@ -89,7 +89,7 @@ returns-in-Ok-clause-prepared c =
 pub returns-in-Ok-clause-refused : goal.returns-in-Ok-clause-refused
 returns-in-Ok-clause-refused c =
     err_gives (λ e. e ≡ refusal.OutOfMemory)
-    (IsUnprepared (view c.args.pass.now) (view c.find_plan.new.pass) c.find_row.new.known c.args.ask.now) c.with_query.result
+    (IsUnplanned (view c.args.pass.now) (view c.find_plan.new.pass) c.find_row.new.known c.args.ask.now) c.with_query.result
     c.with_query.ensures.refused
     (memory_refused (view c.args.pass.now) (view c.find_plan.new.pass) c.find_row.new.known c.args.ask.now)
 
