@@ -13,31 +13,31 @@ use Rattle.fish_script.specs.Places.{AllStand, Fits, FitsLane, Stands, place_aft
 use Rattle.fish_script.specs.Refusals.{AllSay, HasFault, IsFault, IsFeedTooMany, IsLaneTooMany, IsLate, IsLineFault}
 use Rattle.fish_script.specs.Refusals.{IsRefusal, IsScript, Says, StopsAt, StopsAtEnd}
 use Rattle.fish_script.specs.Script.{Reads, is_control, is_feed}
-use Rattle.fish_script.specs.Wording.{saying_of}
+use Rattle.fish_script.specs.ScriptLine.{script_line_of}
 use Rattle.fish_script.specs.Words.{is_skipped}
-use Rattle.fish_script.specs.declared.draft.Place.{Place}
-use Rattle.fish_script.specs.declared.draft.Place.TheVariants.{Outside, Inside}
+use Rattle.fish_script.specs.declared.builder.Place.{Place}
+use Rattle.fish_script.specs.declared.builder.Place.TheVariants.{Outside, Inside}
 use Rattle.fish_script.specs.declared.refusal.ScriptRefusal.{ScriptRefusal}
 use Rattle.fish_script.specs.declared.refusal.ScriptRefusal.TheVariants as refusal
 use Rattle.fish_script.specs.declared.script.Block.{Block}
 use Rattle.fish_script.specs.declared.script.Statement.{Statement}
-use Rattle.fish_script.specs.declared.wording.Wording.{Wording}
-use Rattle.fish_script.specs.declared.wording.Wording.TheVariants as word
-use Rattle.fish_script.specs.declared.wording.Saying.{Saying}
-use Rattle.fish_script.specs.declared.wording.Saying.TheVariants as said
+use Rattle.fish_script.specs.declared.script_line.StatementLine.{StatementLine}
+use Rattle.fish_script.specs.declared.script_line.StatementLine.TheVariants as word
+use Rattle.fish_script.specs.declared.script_line.ScriptLine.{ScriptLine}
+use Rattle.fish_script.specs.declared.script_line.ScriptLine.TheVariants as said
 
 -- ---- what lines say is one thing
 
 -- of one line
-says_once : (b : List ℕ) (ws us : List Saying) → Says b ws → Says b us → ws ≡ us
+says_once : (b : List ℕ) (ws us : List ScriptLine) → Says b ws → Says b us → ws ≡ us
 says_once b ws us (inl h) (inl k) = h.1 ∙ sym k.1
 says_once b ws us (inl h) (inr k) = absurd (let a = h.0 in let c = k.1 in cc)
 says_once b ws us (inr h) (inl k) = absurd (let a = h.1 in let c = k.0 in cc)
 says_once b ws us (inr h) (inr k) =
-    h.4 ∙ ap (λ (l : Saying). l ∷ []) (same_Some h.0 k.0 (sym h.3 ∙ k.3)) ∙ sym k.4
+    h.4 ∙ ap (λ (l : ScriptLine). l ∷ []) (same_Some h.0 k.0 (sym h.3 ∙ k.3)) ∙ sym k.4
 
 -- of many
-pub all_say_once : (bs : List (List ℕ)) (ws us : List Saying) → AllSay bs ws → AllSay bs us → ws ≡ us
+pub all_say_once : (bs : List (List ℕ)) (ws us : List ScriptLine) → AllSay bs ws → AllSay bs us → ws ≡ us
 all_say_once [] ws us h k = h ∙ sym k
 all_say_once (b ∷ bs) ws us h k =
     let own = says_once b h.0 k.0 h.2 k.2 in
@@ -45,16 +45,16 @@ all_say_once (b ∷ bs) ws us h k =
     h.4 ∙ (λ i. own i ++ others i) ∙ sym k.4
 
 -- what is said by the lines in front of one, by it and by those behind it
-record IsSplit (before : List (List ℕ)) (line : List ℕ) (behind : List (List ℕ)) (ws : List Saying) : Type 0 where
-  ahead : List Saying
-  own : List Saying
-  rest : List Saying
+record IsSplit (before : List (List ℕ)) (line : List ℕ) (behind : List (List ℕ)) (ws : List ScriptLine) : Type 0 where
+  ahead : List ScriptLine
+  own : List ScriptLine
+  rest : List ScriptLine
   say : AllSay before ahead
   here : Says line own
   then : AllSay behind rest
   whole : ws ≡ ahead ++ (own ++ rest)
 
-say_split : (before : List (List ℕ)) (line : List ℕ) (behind : List (List ℕ)) (ws : List Saying)
+say_split : (before : List (List ℕ)) (line : List ℕ) (behind : List (List ℕ)) (ws : List ScriptLine)
     → AllSay (before ++ line ∷ behind) ws → IsSplit before line behind ws
 say_split [] line behind ws h =
     record { ahead = []; own = h.0; rest = h.1; say = refl; here = h.2; then = h.3; whole = h.4 }
@@ -67,16 +67,16 @@ say_split (b ∷ before) line behind ws h =
       say = (h.0, s.ahead, h.2, s.say, refl);
       here = s.here;
       then = s.then;
-      whole = h.4 ∙ ap (λ (z : List Saying). h.0 ++ z) s.whole ∙ sym (append_assoc h.0 s.ahead (s.own ++ s.rest));
+      whole = h.4 ∙ ap (λ (z : List ScriptLine). h.0 ++ z) s.whole ∙ sym (append_assoc h.0 s.ahead (s.own ++ s.rest));
     }
 
 -- of lines that are in order those behind others are too
-stand_behind : (p : Place) (xs ys : List Saying) → AllStand p (xs ++ ys) → AllStand (place_from p xs) ys
+stand_behind : (p : Place) (xs ys : List ScriptLine) → AllStand p (xs ++ ys) → AllStand (place_from p xs) ys
 stand_behind p [] ys h = h
 stand_behind p (x ∷ xs) ys h = stand_behind (place_after p x) xs ys h.1
 
 -- and those in front of others
-stand_ahead : (p : Place) (xs ys : List Saying) → AllStand p (xs ++ ys) → AllStand p xs
+stand_ahead : (p : Place) (xs ys : List ScriptLine) → AllStand p (xs ++ ys) → AllStand p xs
 stand_ahead p [] ys h = tt
 stand_ahead p (x ∷ xs) ys h = (h.0, stand_ahead (place_after p x) xs ys h.1)
 
@@ -87,7 +87,7 @@ pub one_outcome : (b : List ℕ) (r s : Result Definition LangRefusal) → IsOut
 one_outcome b r s x y = sym (outcome-only b r x) ∙ outcome-only b s y
 
 -- a definition that is read isn't refused
-pub no_fault : (w : Wording) (s : Statement) (why : LangRefusal) → Reads w s → HasFault w why → ⊥
+pub no_fault : (w : StatementLine) (s : Statement) (why : LangRefusal) → Reads w s → HasFault w why → ⊥
 no_fault (word.Register name source) s why reads fault =
     (let e = one_outcome source (Ok (definition_of reads.0)) (Err why) reads.2 fault in cc)
 no_fault (word.Deregister name) s why reads fault = fault
@@ -96,8 +96,8 @@ no_fault (word.Scan look) s why reads fault = fault
 no_fault (word.Explain look) s why reads fault = fault
 no_fault word.Checkpoint s why reads fault = fault
 
--- two statements of one wording are of one kind
-pub same_kind : (w : Wording) (s t : Statement) → Reads w s → Reads w t → (is_control s ≡ is_control t) × (is_feed s ≡ is_feed t)
+-- two statements of one statement_line are of one kind
+pub same_kind : (w : StatementLine) (s t : Statement) → Reads w s → Reads w t → (is_control s ≡ is_control t) × (is_feed s ≡ is_feed t)
 same_kind (word.Register name source) s t x y = (ap is_control x.1 ∙ sym (ap is_control y.1), ap is_feed x.1 ∙ sym (ap is_feed y.1))
 same_kind (word.Deregister name) s t x y = (ap is_control (x ∙ sym y), ap is_feed (x ∙ sym y))
 same_kind (word.Ingest form header file) s t x y = (ap is_control (x ∙ sym y), ap is_feed (x ∙ sym y))
@@ -121,17 +121,17 @@ no_lane_past Outside fits past = past
 no_lane_past (Inside lanes feeds) fits past = omega (arith, fits, past)
 
 -- no other line is one
-lane_alone : (p : Place) (l : Saying) → l ≢ said.Lane → IsLaneTooMany p l → ⊥
+lane_alone : (p : Place) (l : ScriptLine) → l ≢ said.Lane → IsLaneTooMany p l → ⊥
 lane_alone Outside l other past = past
 lane_alone (Inside lanes feeds) said.Lanes other past = past
 lane_alone (Inside lanes feeds) said.Lane other past = other refl
 lane_alone (Inside lanes feeds) said.End other past = past
-lane_alone (Inside lanes feeds) (said.States w) other past = past
+lane_alone (Inside lanes feeds) (said.Statement w) other past = past
 
 -- a line in order isn't refused
-mark_unrefused : (p : Place) (l : Saying) (n : ℕ) (e : ScriptRefusal) → l ≢ said.Lane → ((w : Wording) → l ≢ said.States w)
+mark_unrefused : (p : Place) (l : ScriptLine) (n : ℕ) (e : ScriptRefusal) → l ≢ said.Lane → ((w : StatementLine) → l ≢ said.Statement w)
     → Stands p l → IsFault p l n e → ⊥
-mark_unrefused p (said.States w) n e other none h f = none w refl
+mark_unrefused p (said.Statement w) n e other none h f = none w refl
 mark_unrefused p said.Lane n e other none h f = other refl
 mark_unrefused p said.Lanes n (refusal.Unexpected line) other none h f = h.0 f.1
 mark_unrefused p said.Lanes n (refusal.TooManyLanes line) other none h f = lane_alone p said.Lanes other f.1
@@ -162,10 +162,11 @@ lane_unrefused p n (refusal.TooLong line) h f = f
 lane_unrefused p n refusal.OutOfMemory h f = f
 
 -- nor a statement
-statement_unrefused : (p : Place) (w : Wording) (n : ℕ) (e : ScriptRefusal) → Stands p (said.States w) → IsFault p (said.States w) n e
+statement_unrefused : (p : Place) (w : StatementLine) (n : ℕ) (e : ScriptRefusal) → Stands p (said.Statement w)
+    → IsFault p (said.Statement w) n e
     → ⊥
 statement_unrefused p w n (refusal.Unexpected line) h f = h.0 f.1
-statement_unrefused p w n (refusal.TooManyLanes line) h f = lane_alone p (said.States w) (λ e. cc) f.1
+statement_unrefused p w n (refusal.TooManyLanes line) h f = lane_alone p (said.Statement w) (λ e. cc) f.1
 statement_unrefused p w n (refusal.Definition line why) h f = no_fault w h.1.0 why h.1.1 f.2
 statement_unrefused p w n (refusal.ControlInLane line) h f =
     not_late p h.1.0 f.2 (same_kind w f.2 h.1.0 f.3 h.1.1).0 h.1.2 f.4
@@ -176,29 +177,29 @@ statement_unrefused p w n (refusal.TooLong line) h f = f
 statement_unrefused p w n refusal.OutOfMemory h f = f
 
 -- no line in order is refused
-stands_unrefused : (p : Place) (l : Saying) (n : ℕ) (e : ScriptRefusal) → Stands p l → IsFault p l n e → ⊥
+stands_unrefused : (p : Place) (l : ScriptLine) (n : ℕ) (e : ScriptRefusal) → Stands p l → IsFault p l n e → ⊥
 stands_unrefused p said.Lanes n e h f = mark_unrefused p said.Lanes n e (λ x. cc) (λ w x. cc) h f
 stands_unrefused p said.Lane n e h f = lane_unrefused p n e h f
 stands_unrefused p said.End n e h f = mark_unrefused p said.End n e (λ x. cc) (λ w x. cc) h f
-stands_unrefused p (said.States w) n e h f = statement_unrefused p w n e h f
+stands_unrefused p (said.Statement w) n e h f = statement_unrefused p w n e h f
 
 -- what is known of a refused line whose bytes are a text
-wording_fault : (p : Place) (b : List ℕ) (n : ℕ) (e : ScriptRefusal) (l : Saying) → saying_of b ≡ Some l → Stands p l
-    → ((saying_of b ≡ None) × (e ≡ refusal.Unexpected n)) ⊎ ((m : Saying) × (saying_of b ≡ Some m) × IsFault p m n e) → ⊥
-wording_fault p b n e l is h (inl f) = (let a = f.0 in cc)
-wording_fault p b n e l is h (inr f) =
-    stands_unrefused p l n e h (subst (λ (m : Saying). IsFault p m n e) (same_Some f.0 l (sym f.1 ∙ is)) f.2)
+statement_line_fault : (p : Place) (b : List ℕ) (n : ℕ) (e : ScriptRefusal) (l : ScriptLine) → script_line_of b ≡ Some l → Stands p l
+    → ((script_line_of b ≡ None) × (e ≡ refusal.Unexpected n)) ⊎ ((m : ScriptLine) × (script_line_of b ≡ Some m) × IsFault p m n e) → ⊥
+statement_line_fault p b n e l is h (inl f) = (let a = f.0 in cc)
+statement_line_fault p b n e l is h (inr f) =
+    stands_unrefused p l n e h (subst (λ (m : ScriptLine). IsFault p m n e) (same_Some f.0 l (sym f.1 ∙ is)) f.2)
 
 -- a line that is skipped or in order isn't refused, where its bytes are a text
-at_text : (p : Place) (b : List ℕ) (n : ℕ) (e : ScriptRefusal) (own : List Saying) → Says b own → AllStand p own
+at_text : (p : Place) (b : List ℕ) (n : ℕ) (e : ScriptRefusal) (own : List ScriptLine) → Says b own → AllStand p own
     → (is_skipped b ≡ false) × IsUtf8 b
-    × (((saying_of b ≡ None) × (e ≡ refusal.Unexpected n)) ⊎ ((m : Saying) × (saying_of b ≡ Some m) × IsFault p m n e)) → ⊥
+    × (((script_line_of b ≡ None) × (e ≡ refusal.Unexpected n)) ⊎ ((m : ScriptLine) × (script_line_of b ≡ Some m) × IsFault p m n e)) → ⊥
 at_text p b n e own (inl s) h f = (let a = f.0 in let c = s.0 in cc)
 at_text p b n e own (inr s) h f =
-    wording_fault p b n e s.0 s.3 (subst (λ (z : List Saying). AllStand p z) s.4 h).0 f.2
+    statement_line_fault p b n e s.0 s.3 (subst (λ (z : List ScriptLine). AllStand p z) s.4 h).0 f.2
 
 -- a line that is skipped or in order isn't refused
-line_unrefused : (p : Place) (b : List ℕ) (n : ℕ) (e : ScriptRefusal) (own : List Saying) → Says b own → AllStand p own
+line_unrefused : (p : Place) (b : List ℕ) (n : ℕ) (e : ScriptRefusal) (own : List ScriptLine) → Says b own → AllStand p own
     → IsLineFault p b n e → ⊥
 line_unrefused p b n (refusal.NotText line) own (inl s) h f = (let a = f.1 in let c = s.0 in cc)
 line_unrefused p b n (refusal.NotText line) own (inr s) h f = f.2 s.2
@@ -213,18 +214,18 @@ line_unrefused p b n refusal.OutOfMemory own s h f = at_text p b n refusal.OutOf
 -- ---- the whole text
 
 -- of lines that are all in order none is refused
-pub no_stop_within : (before behind : List (List ℕ)) (line : List ℕ) (ws ahead : List Saying) (n : ℕ) (e : ScriptRefusal)
+pub no_stop_within : (before behind : List (List ℕ)) (line : List ℕ) (ws ahead : List ScriptLine) (n : ℕ) (e : ScriptRefusal)
     → AllSay (before ++ line ∷ behind) ws → AllStand Outside ws → AllSay before ahead → IsLineFault (place_of ahead) line n e → ⊥
 no_stop_within before behind line ws ahead n e say stand front fault =
     let s : IsSplit before line behind ws = say_split before line behind ws say in
     let same : s.ahead ≡ ahead = all_say_once before s.ahead ahead s.say front in
     let rest : AllStand (place_of s.ahead) (s.own ++ s.rest) =
-    stand_behind Outside s.ahead (s.own ++ s.rest) (subst (λ (z : List Saying). AllStand Outside z) s.whole stand) in
+    stand_behind Outside s.ahead (s.own ++ s.rest) (subst (λ (z : List ScriptLine). AllStand Outside z) s.whole stand) in
     line_unrefused (place_of ahead) line n e s.own s.here
-    (stand_ahead (place_of ahead) s.own s.rest (subst (λ (z : List Saying). AllStand (place_of z) (s.own ++ s.rest)) same rest)) fault
+    (stand_ahead (place_of ahead) s.own s.rest (subst (λ (z : List ScriptLine). AllStand (place_of z) (s.own ++ s.rest)) same rest)) fault
 
 -- a text whose lines are all in order stops at none
-pub no_stop : (text : List ℕ) (e : ScriptRefusal) (ws : List Saying) → AllSay (lines text) ws → AllStand Outside ws → StopsAt text e → ⊥
+pub no_stop : (text : List ℕ) (e : ScriptRefusal) (ws : List ScriptLine) → AllSay (lines text) ws → AllStand Outside ws → StopsAt text e → ⊥
 no_stop text e ws say stand stop =
     no_stop_within stop.before stop.behind stop.line ws stop.ahead (suc (length stop.before)) e
     (subst (λ (z : List (List ℕ)). AllSay z ws) stop.splits say) stand stop.say stop.fault
@@ -236,7 +237,7 @@ no_script_stops text script e h (inl stop) = no_stop text e h.ws h.say (stand_bl
 no_script_stops text script e h (inr end) =
     let same : h.ws ≡ end.ws = all_say_once (lines text) h.ws end.ws h.say end.say in
     let out : place_of end.ws ≡ Outside =
-    subst (λ (z : List Saying). place_of z ≡ Outside) same (stand_blocks h.ws script h.blocks).place in
+    subst (λ (z : List ScriptLine). place_of z ≡ Outside) same (stand_blocks h.ws script h.blocks).place in
     let no : Outside ≡ Inside end.lanes end.feeds = sym out ∙ end.within in absurd cc
 
 -- no script is refused

@@ -5,24 +5,25 @@ use Rattle.std.proofs.lemmas.List.{append-nil}
 use Rattle.fish_script.specs.Places.{AllStand, Stands, place_after, place_from}
 use Rattle.fish_script.specs.Script.{AllFree, AreBlocks, AreFree, AreLanes, AreRead, IsBlock, IsRead, OthersFree}
 use Rattle.fish_script.specs.Script.{feeds_of, is_control, is_feed}
-use Rattle.fish_script.specs.declared.draft.Place.{Place}
+use Rattle.fish_script.specs.declared.builder.Place.{Place}
 use Rattle.fish_script.specs.declared.script.Block.{Block}
 use Rattle.fish_script.specs.declared.script.Statement.{Statement}
-use Rattle.fish_script.specs.declared.wording.Saying.{Saying}
-use Rattle.fish_script.specs.declared.wording.Saying.TheVariants as said
+use Rattle.fish_script.specs.declared.script_line.ScriptLine.{ScriptLine}
+use Rattle.fish_script.specs.declared.script_line.ScriptLine.TheVariants as said
 
 -- the place behind one line more
-pub place_push : (p : Place) (ws : List Saying) (w : Saying) → place_from p (ws ++ w ∷ []) ≡ place_after (place_from p ws) w
+pub place_push : (p : Place) (ws : List ScriptLine) (w : ScriptLine) → place_from p (ws ++ w ∷ []) ≡ place_after (place_from p ws) w
 place_push p [] w = refl
 place_push p (x ∷ ws) w = place_push (place_after p x) ws w
 
 -- all are in order with one line more that is
-pub stand_push : (p : Place) (ws : List Saying) (w : Saying) → AllStand p ws → Stands (place_from p ws) w → AllStand p (ws ++ w ∷ [])
+pub stand_push : (p : Place) (ws : List ScriptLine) (w : ScriptLine) → AllStand p ws → Stands (place_from p ws) w
+    → AllStand p (ws ++ w ∷ [])
 stand_push p [] w h here = (here, tt)
 stand_push p (x ∷ ws) w h here = (h.0, stand_push (place_after p x) ws w h.1 here)
 
 -- one statement more
-pub read_push : (ws : List Saying) (ss : List Statement) (w : Saying) (s : Statement) → AreRead ws ss → IsRead w s
+pub read_push : (ws : List ScriptLine) (ss : List Statement) (w : ScriptLine) (s : Statement) → AreRead ws ss → IsRead w s
     → AreRead (ws ++ w ∷ []) (ss ++ s ∷ [])
 read_push [] [] w s h here = (here, tt)
 read_push [] (t ∷ ss) w s h here = absurd h
@@ -30,27 +31,34 @@ read_push (x ∷ ws) [] w s h here = absurd h
 read_push (x ∷ ws) (t ∷ ss) w s h here = (h.0, read_push ws ss w s h.1 here)
 
 -- one lane more
-pub lanes_push : (ws own : List Saying) (lanes : List (List Statement)) (lane : List Statement) → AreLanes ws lanes → AreRead own lane
+pub lanes_push : (ws own : List ScriptLine) (lanes : List (List Statement)) (lane : List Statement) → AreLanes ws lanes → AreRead own lane
     → AreLanes (ws ++ said.Lane ∷ own) (lanes ++ lane ∷ [])
-lanes_push ws own [] lane h here =
-    (own, [], ap (λ (z : List Saying). z ++ said.Lane ∷ own) h ∙ ap (λ (z : List Saying). said.Lane ∷ z) (sym (append-nil own)), here, refl)
+lanes_push ws own [] lane h here = (
+  own,
+  [],
+  ap (λ (z : List ScriptLine). z ++ said.Lane ∷ own) h
+      ∙ ap (λ (z : List ScriptLine). said.Lane ∷ z) (sym (append-nil own)),
+  here,
+  refl,
+)
 lanes_push ws own (l ∷ lanes) lane h here = (
   h.0,
   h.1 ++ said.Lane ∷ own,
-  ap (λ (z : List Saying). z ++ said.Lane ∷ own) h.2 ∙ ap (λ (z : List Saying). said.Lane ∷ z) (append_assoc h.0 h.1 (said.Lane ∷ own)),
+  ap (λ (z : List ScriptLine). z ++ said.Lane ∷ own) h.2
+      ∙ ap (λ (z : List ScriptLine). said.Lane ∷ z) (append_assoc h.0 h.1 (said.Lane ∷ own)),
   h.3,
   lanes_push h.1 own lanes lane h.4 here,
 )
 
 -- one block more
-pub blocks_push : (ws own : List Saying) (bs : List Block) (b : Block) → AreBlocks ws bs → IsBlock own b.several b.lanes
+pub blocks_push : (ws own : List ScriptLine) (bs : List Block) (b : Block) → AreBlocks ws bs → IsBlock own b.several b.lanes
     → AreBlocks (ws ++ own) (bs ++ b ∷ [])
 blocks_push ws own [] b h here =
-    (own, [], ap (λ (z : List Saying). z ++ own) h ∙ sym (append-nil own), here, refl)
+    (own, [], ap (λ (z : List ScriptLine). z ++ own) h ∙ sym (append-nil own), here, refl)
 blocks_push ws own (c ∷ bs) b h here = (
   h.0,
   h.1 ++ own,
-  ap (λ (z : List Saying). z ++ own) h.2 ∙ append_assoc h.0 h.1 own,
+  ap (λ (z : List ScriptLine). z ++ own) h.2 ∙ append_assoc h.0 h.1 own,
   h.3,
   blocks_push h.1 own bs b h.4 here,
 )

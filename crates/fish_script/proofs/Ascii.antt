@@ -6,8 +6,8 @@ use Rattle.std.specs.List.{list_all}
 use Rattle.std.specs.Str.{IsAscii}
 use Rattle.std.proofs.lemmas.Bool.Decides.{nat_tests}
 use Rattle.std.proofs.lemmas.Str.{IsUtf8-from_ascii}
-use Rattle.fish_script.specs.Limits.{longest_name}
-use Rattle.fish_script.specs.Wording.{is_bare_byte, is_bare_word, is_name, is_name_byte}
+use Rattle.fish_value.specs.Limits.{longest_name}
+use Rattle.fish_script.specs.ScriptLine.{is_bare_byte, is_bare_word, is_name, is_name_byte}
 
 -- what two tests say where both hold
 both : (a b : Bool) → (a && b) ≡ true → (a ≡ true) × (b ≡ true)

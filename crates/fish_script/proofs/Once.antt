@@ -11,53 +11,53 @@ use Rattle.fish_script.specs.Places.{IsMisplaced, place_of}
 use Rattle.fish_script.specs.Refusals.{AllSay, HasFault, IsFault, IsLaneTooMany, IsLate, IsLineFault, IsRefusal}
 use Rattle.fish_script.specs.Refusals.{StopsAt, StopsAtEnd}
 use Rattle.fish_script.specs.Script.{Reads}
-use Rattle.fish_script.specs.Wording.{saying_of}
-use Rattle.fish_script.specs.declared.draft.Place.{Place}
-use Rattle.fish_script.specs.declared.draft.Place.TheVariants.{Outside, Inside}
+use Rattle.fish_script.specs.ScriptLine.{script_line_of}
+use Rattle.fish_script.specs.declared.builder.Place.{Place}
+use Rattle.fish_script.specs.declared.builder.Place.TheVariants.{Outside, Inside}
 use Rattle.fish_script.specs.declared.refusal.ScriptRefusal.{ScriptRefusal}
 use Rattle.fish_script.specs.declared.refusal.ScriptRefusal.TheVariants as refusal
 use Rattle.fish_script.specs.declared.script.Statement.{Statement}
-use Rattle.fish_script.specs.declared.wording.Wording.{Wording}
-use Rattle.fish_script.specs.declared.wording.Wording.TheVariants as word
-use Rattle.fish_script.specs.declared.wording.Saying.{Saying}
-use Rattle.fish_script.specs.declared.wording.Saying.TheVariants as said
+use Rattle.fish_script.specs.declared.script_line.StatementLine.{StatementLine}
+use Rattle.fish_script.specs.declared.script_line.StatementLine.TheVariants as word
+use Rattle.fish_script.specs.declared.script_line.ScriptLine.{ScriptLine}
+use Rattle.fish_script.specs.declared.script_line.ScriptLine.TheVariants as said
 
 -- ---- one line
 
 -- what a line that says something is refused for
-data Cause (p : Place) (l : Saying) (n : ℕ) (e : ScriptRefusal) : Type 0 where
+data Cause (p : Place) (l : ScriptLine) (n : ℕ) (e : ScriptRefusal) : Type 0 where
   misplaced : e ≡ refusal.Unexpected n → IsMisplaced p l → Cause p l n e
-  no_definition : (w : Wording) (why : LangRefusal) → l ≡ said.States w → e ≡ refusal.Definition n why → ¬ IsMisplaced p l
+  no_definition : (w : StatementLine) (why : LangRefusal) → l ≡ said.Statement w → e ≡ refusal.Definition n why → ¬ IsMisplaced p l
       → HasFault w why → Cause p l n e
-  too_late : (w : Wording) (s : Statement) → l ≡ said.States w → e ≡ refusal.ControlInLane n → ¬ IsMisplaced p l → Reads w s
+  too_late : (w : StatementLine) (s : Statement) → l ≡ said.Statement w → e ≡ refusal.ControlInLane n → ¬ IsMisplaced p l → Reads w s
       → IsLate p s → Cause p l n e
-  feed_past : (w : Wording) (s : Statement) → l ≡ said.States w → e ≡ refusal.TooManyFeeds n → ¬ IsMisplaced p l → Reads w s
+  feed_past : (w : StatementLine) (s : Statement) → l ≡ said.Statement w → e ≡ refusal.TooManyFeeds n → ¬ IsMisplaced p l → Reads w s
       → ¬ IsLate p s → Cause p l n e
   lane_past : e ≡ refusal.TooManyLanes n → l ≡ said.Lane → ¬ IsMisplaced p l → Cause p l n e
 
 -- a `lane` too many stands in a block
-past_within : (p : Place) (l : Saying) → IsLaneTooMany p l → (l ≡ said.Lane) × ¬ IsMisplaced p l
+past_within : (p : Place) (l : ScriptLine) → IsLaneTooMany p l → (l ≡ said.Lane) × ¬ IsMisplaced p l
 past_within Outside l past = absurd past
 past_within (Inside lanes feeds) said.Lane past = (refl, λ no. no)
 past_within (Inside lanes feeds) said.Lanes past = absurd past
 past_within (Inside lanes feeds) said.End past = absurd past
-past_within (Inside lanes feeds) (said.States w) past = absurd past
+past_within (Inside lanes feeds) (said.Statement w) past = absurd past
 
 -- each fault has its cause
-cause_of : (p : Place) (l : Saying) (n : ℕ) (e : ScriptRefusal) → IsFault p l n e → Cause p l n e
+cause_of : (p : Place) (l : ScriptLine) (n : ℕ) (e : ScriptRefusal) → IsFault p l n e → Cause p l n e
 cause_of p l n (refusal.Unexpected line) f = misplaced (ap (λ (m : ℕ). refusal.Unexpected m) f.0) f.1
 cause_of p l n (refusal.TooManyLanes line) f =
     let w = past_within p l f.1 in lane_past (ap (λ (m : ℕ). refusal.TooManyLanes m) f.0) w.0 w.1
-cause_of p (said.States w) n (refusal.Definition line why) f =
+cause_of p (said.Statement w) n (refusal.Definition line why) f =
     no_definition w why refl (ap (λ (m : ℕ). refusal.Definition m why) f.0) f.1 f.2
-cause_of p (said.States w) n (refusal.ControlInLane line) f =
+cause_of p (said.Statement w) n (refusal.ControlInLane line) f =
     too_late w f.2 refl (ap (λ (m : ℕ). refusal.ControlInLane m) f.0) f.1 f.3 f.4
-cause_of p (said.States w) n (refusal.TooManyFeeds line) f =
+cause_of p (said.Statement w) n (refusal.TooManyFeeds line) f =
     feed_past w f.2 refl (ap (λ (m : ℕ). refusal.TooManyFeeds m) f.0) f.1 f.3 f.4
 cause_of p l n e f = absurd f
 
 -- a text is refused as a definition for one cause
-fault_once : (w : Wording) (why how : LangRefusal) → HasFault w why → HasFault w how → why ≡ how
+fault_once : (w : StatementLine) (why how : LangRefusal) → HasFault w why → HasFault w how → why ≡ how
 fault_once (word.Register name source) why how x y = (let e = one_outcome source (Err why) (Err how) x y in cc)
 fault_once (word.Deregister name) why how x y = absurd x
 fault_once (word.Ingest form header file) why how x y = absurd x
@@ -66,20 +66,20 @@ fault_once (word.Explain look) why how x y = absurd x
 fault_once word.Checkpoint why how x y = absurd x
 
 -- what lines of statements say is one thing
-same_wording : (l : Saying) (w u : Wording) → l ≡ said.States w → l ≡ said.States u → w ≡ u
-same_wording l w u a b = let e : said.States w ≡ said.States u = sym a ∙ b in cc
+same_statement_line : (l : ScriptLine) (w u : StatementLine) → l ≡ said.Statement w → l ≡ said.Statement u → w ≡ u
+same_statement_line l w u a b = let e : said.Statement w ≡ said.Statement u = sym a ∙ b in cc
 
 -- it is late for any statement that reads the same
-late_too : (p : Place) (w : Wording) (s t : Statement) → Reads w s → Reads w t → IsLate p s → IsLate p t
+late_too : (p : Place) (w : StatementLine) (s t : Statement) → Reads w s → Reads w t → IsLate p s → IsLate p t
 late_too Outside w s t x y late = late
 late_too (Inside lanes feeds) w s t x y late = (late.0, sym (same_kind w s t x y).0 ∙ late.1)
 
--- the same wording, in other words
-reads_by : (l : Saying) (w u : Wording) (s : Statement) → l ≡ said.States w → l ≡ said.States u → Reads u s → Reads w s
-reads_by l w u s a b h = subst (λ (x : Wording). Reads x s) (sym (same_wording l w u a b)) h
+-- the same statement_line, in other words
+reads_by : (l : ScriptLine) (w u : StatementLine) (s : Statement) → l ≡ said.Statement w → l ≡ said.Statement u → Reads u s → Reads w s
+reads_by l w u s a b h = subst (λ (x : StatementLine). Reads x s) (sym (same_statement_line l w u a b)) h
 
 -- one line is refused for one cause
-cause_once : (p : Place) (l : Saying) (n : ℕ) (d e : ScriptRefusal) → Cause p l n d → Cause p l n e → d ≡ e
+cause_once : (p : Place) (l : ScriptLine) (n : ℕ) (d e : ScriptRefusal) → Cause p l n d → Cause p l n e → d ≡ e
 cause_once p l n d e (misplaced a mis) (misplaced b too) = a ∙ sym b
 cause_once p l n d e (misplaced a mis) (no_definition w why is b placed fault) = absurd (placed mis)
 cause_once p l n d e (misplaced a mis) (too_late w s is b placed reads late) = absurd (placed mis)
@@ -88,7 +88,7 @@ cause_once p l n d e (misplaced a mis) (lane_past b is placed) = absurd (placed 
 cause_once p l n d e (no_definition w why is a placed fault) (misplaced b mis) = absurd (placed mis)
 cause_once p l n d e (no_definition w why is a placed fault) (no_definition u how is_too b placed_too fault_too) =
     a ∙ ap (λ (x : LangRefusal). refusal.Definition n x) (fault_once w why how fault
-    (subst (λ (x : Wording). HasFault x how) (sym (same_wording l w u is is_too)) fault_too)) ∙ sym b
+    (subst (λ (x : StatementLine). HasFault x how) (sym (same_statement_line l w u is is_too)) fault_too)) ∙ sym b
 cause_once p l n d e (no_definition w why is a placed fault) (too_late u s is_too b placed_too reads late) =
     absurd (no_fault w s why (reads_by l w u s is is_too reads) fault)
 cause_once p l n d e (no_definition w why is a placed fault) (feed_past u s is_too b placed_too reads in_time) =
@@ -116,19 +116,19 @@ cause_once p l n d e (lane_past a is placed) (lane_past b is_too placed_too) = a
 
 -- the same of a line by its bytes, which are a text
 bytes_once : (p : Place) (b : List ℕ) (n : ℕ) (d e : ScriptRefusal)
-    → ((saying_of b ≡ None) × (d ≡ refusal.Unexpected n)) ⊎ ((l : Saying) × (saying_of b ≡ Some l) × IsFault p l n d)
-    → ((saying_of b ≡ None) × (e ≡ refusal.Unexpected n)) ⊎ ((l : Saying) × (saying_of b ≡ Some l) × IsFault p l n e) → d ≡ e
+    → ((script_line_of b ≡ None) × (d ≡ refusal.Unexpected n)) ⊎ ((l : ScriptLine) × (script_line_of b ≡ Some l) × IsFault p l n d)
+    → ((script_line_of b ≡ None) × (e ≡ refusal.Unexpected n)) ⊎ ((l : ScriptLine) × (script_line_of b ≡ Some l) × IsFault p l n e) → d ≡ e
 bytes_once p b n d e (inl f) (inl g) = f.1 ∙ sym g.1
 bytes_once p b n d e (inl f) (inr g) = absurd (let x = f.0 in let y = g.1 in cc)
 bytes_once p b n d e (inr f) (inl g) = absurd (let x = g.0 in let y = f.1 in cc)
 bytes_once p b n d e (inr f) (inr g) =
     cause_once p f.0 n d e (cause_of p f.0 n d f.2)
-    (cause_of p f.0 n e (subst (λ (l : Saying). IsFault p l n e) (same_Some g.0 f.0 (sym g.1 ∙ f.1)) g.2))
+    (cause_of p f.0 n e (subst (λ (l : ScriptLine). IsFault p l n e) (same_Some g.0 f.0 (sym g.1 ∙ f.1)) g.2))
 
 -- what is known of a line that is refused
 abbrev IsKnown : Place → List ℕ → ℕ → ScriptRefusal → Type 0
-IsKnown p b n e = (IsUtf8 b × (((saying_of b ≡ None) × (e ≡ refusal.Unexpected n))
-    ⊎ ((l : Saying) × (saying_of b ≡ Some l) × IsFault p l n e))) ⊎ ((e ≡ refusal.NotText n) × ¬ IsUtf8 b)
+IsKnown p b n e = (IsUtf8 b × (((script_line_of b ≡ None) × (e ≡ refusal.Unexpected n))
+    ⊎ ((l : ScriptLine) × (script_line_of b ≡ Some l) × IsFault p l n e))) ⊎ ((e ≡ refusal.NotText n) × ¬ IsUtf8 b)
 
 known : (p : Place) (b : List ℕ) (n : ℕ) (e : ScriptRefusal) → IsLineFault p b n e → IsKnown p b n e
 known p b n (refusal.NotText line) f = inr (ap (λ (m : ℕ). refusal.NotText m) f.0, f.2)
@@ -195,7 +195,7 @@ stop_once text d e f g = elim (dec_lt (length f.before) (length g.before)) [
         let ahead : f.ahead ≡ g.ahead = all_say_once g.before f.ahead g.ahead
         (subst (λ (z : List (List ℕ)). AllSay z f.ahead) s.0 f.say) g.say in
         let fault : IsLineFault (place_of g.ahead) g.line (suc (length g.before)) d =
-        subst (λ (z : List Saying). IsLineFault (place_of z) g.line (suc (length g.before)) d) ahead
+        subst (λ (z : List ScriptLine). IsLineFault (place_of z) g.line (suc (length g.before)) d) ahead
         (subst (λ (z : List ℕ). IsLineFault (place_of f.ahead) z (suc (length g.before)) d) s.1
         (subst (λ (k : ℕ). IsLineFault (place_of f.ahead) f.line (suc k) d) same f.fault)) in
         known_once (place_of g.ahead) g.line (suc (length g.before)) d e

@@ -9,15 +9,15 @@ use Rattle.fish_script.specs.Refusals.{IsScript}
 use Rattle.fish_script.specs.Script.{AreBlocks, AreLanes, AreRead, IsBlock, IsRead, Reads}
 use Rattle.fish_script.specs.declared.script.Block.{Block}
 use Rattle.fish_script.specs.declared.script.Statement.{Statement}
-use Rattle.fish_script.specs.declared.wording.Wording.{Wording}
-use Rattle.fish_script.specs.declared.wording.Wording.TheVariants as word
-use Rattle.fish_script.specs.declared.wording.Saying.{Saying}
-use Rattle.fish_script.specs.declared.wording.Saying.TheVariants as said
+use Rattle.fish_script.specs.declared.script_line.StatementLine.{StatementLine}
+use Rattle.fish_script.specs.declared.script_line.StatementLine.TheVariants as word
+use Rattle.fish_script.specs.declared.script_line.ScriptLine.{ScriptLine}
+use Rattle.fish_script.specs.declared.script_line.ScriptLine.TheVariants as said
 
 -- ---- statements
 
--- two statements of one wording are alike
-reads_alike : (w : Wording) (s t : Statement) → Reads w s → Reads w t → IsAlike s t
+-- two statements of one statement_line are alike
+reads_alike : (w : StatementLine) (s t : Statement) → Reads w s → Reads w t → IsAlike s t
 reads_alike (word.Register name source) s t x y =
     subst (λ (z : Statement). IsAlike z t) (sym x.1) (
       y.0,
@@ -31,14 +31,14 @@ reads_alike (word.Explain look) s t x y = subst (λ (z : Statement). IsAlike z t
 reads_alike word.Checkpoint s t x y = subst (λ (z : Statement). IsAlike z t) (sym x) y
 
 -- and of one line
-line_alike : (l : Saying) (s t : Statement) → IsRead l s → IsRead l t → IsAlike s t
+line_alike : (l : ScriptLine) (s t : Statement) → IsRead l s → IsRead l t → IsAlike s t
 line_alike said.Lanes s t x y = absurd x
 line_alike said.Lane s t x y = absurd x
 line_alike said.End s t x y = absurd x
-line_alike (said.States w) s t x y = reads_alike w s t x y
+line_alike (said.Statement w) s t x y = reads_alike w s t x y
 
 -- the statements of lines are alike
-read_alike : (ws : List Saying) (ss ts : List Statement) → AreRead ws ss → AreRead ws ts → Pairs IsAlike ss ts
+read_alike : (ws : List ScriptLine) (ss ts : List Statement) → AreRead ws ss → AreRead ws ts → Pairs IsAlike ss ts
 read_alike [] [] [] x y = tt
 read_alike [] [] (t ∷ ts) x y = absurd y
 read_alike [] (s ∷ ss) ts x y = absurd x
@@ -49,14 +49,14 @@ read_alike (w ∷ ws) (s ∷ ss) (t ∷ ts) x y = (line_alike w s t x.0 y.0, rea
 -- ---- lanes
 
 -- a line of a statement begins no lanes
-no_statement : (ws rest : List Saying) (l : Saying) (s : Statement) (lanes : List (List Statement)) → AreLanes ws lanes
+no_statement : (ws rest : List ScriptLine) (l : ScriptLine) (s : Statement) (lanes : List (List Statement)) → AreLanes ws lanes
     → ws ≡ l ∷ rest → IsRead l s → ⊥
 no_statement ws rest l s [] h e reads = (let no = sym h ∙ e in cc)
 no_statement ws rest l s (ss ∷ lanes) h e reads =
-    let first : said.Lane ≡ l = (let both = sym h.2 ∙ e in cc) in subst (λ (z : Saying). IsRead z s) (sym first) reads
+    let first : said.Lane ≡ l = (let both = sym h.2 ∙ e in cc) in subst (λ (z : ScriptLine). IsRead z s) (sym first) reads
 
 -- statements end where the next lane begins
-cut_once : (own too others rest : List Saying) (ss ts : List Statement) (lanes more : List (List Statement)) → AreRead own ss
+cut_once : (own too others rest : List ScriptLine) (ss ts : List Statement) (lanes more : List (List Statement)) → AreRead own ss
     → AreRead too ts → AreLanes others lanes → AreLanes rest more → own ++ others ≡ too ++ rest → (own ≡ too) × (others ≡ rest)
 cut_once [] [] others rest ss ts lanes more x y u v e = (refl, e)
 cut_once [] (l ∷ too) others rest ss [] lanes more x y u v e = absurd y
@@ -74,7 +74,7 @@ cut_once (l ∷ own) (k ∷ too) others rest (s ∷ ss) (t ∷ ts) lanes more x 
     (λ i. first i ∷ r.0 i, r.1)
 
 -- the lanes of lines are alike
-lanes_alike : (ws : List Saying) (lanes more : List (List Statement)) → AreLanes ws lanes → AreLanes ws more
+lanes_alike : (ws : List ScriptLine) (lanes more : List (List Statement)) → AreLanes ws lanes → AreLanes ws more
     → Pairs (Pairs IsAlike) lanes more
 lanes_alike ws [] [] x y = tt
 lanes_alike ws [] (ts ∷ more) x y = absurd (let no = sym x ∙ y.2 in cc)
@@ -83,37 +83,37 @@ lanes_alike ws (ss ∷ lanes) (ts ∷ more) x y =
     let whole : said.Lane ∷ (x.0 ++ x.1) ≡ said.Lane ∷ (y.0 ++ y.1) = sym x.2 ∙ y.2 in
     let behind : x.0 ++ x.1 ≡ y.0 ++ y.1 = cc in
     let r = cut_once x.0 y.0 x.1 y.1 ss ts lanes more x.3 y.3 x.4 y.4 behind in (
-      read_alike x.0 ss ts x.3 (subst (λ (z : List Saying). AreRead z ts) (sym r.0) y.3),
-      lanes_alike x.1 lanes more x.4 (subst (λ (z : List Saying). AreLanes z more) (sym r.1) y.4),
+      read_alike x.0 ss ts x.3 (subst (λ (z : List ScriptLine). AreRead z ts) (sym r.0) y.3),
+      lanes_alike x.1 lanes more x.4 (subst (λ (z : List ScriptLine). AreLanes z more) (sym r.1) y.4),
     )
 
 -- ---- blocks
 
 -- none of the lines is `end`
-abbrev HasNoEnd : List Saying → Type 0
+abbrev HasNoEnd : List ScriptLine → Type 0
 HasNoEnd [] = Unit {0}
 HasNoEnd (l ∷ ws) = (l ≢ said.End) × HasNoEnd ws
 
-no_end_append : (xs ys : List Saying) → HasNoEnd xs → HasNoEnd ys → HasNoEnd (xs ++ ys)
+no_end_append : (xs ys : List ScriptLine) → HasNoEnd xs → HasNoEnd ys → HasNoEnd (xs ++ ys)
 no_end_append [] ys x y = y
 no_end_append (l ∷ xs) ys x y = (x.0, no_end_append xs ys x.1 y)
 
 -- statements are none
-statements_no_end : (ws : List Saying) (ss : List Statement) → AreRead ws ss → HasNoEnd ws
+statements_no_end : (ws : List ScriptLine) (ss : List Statement) → AreRead ws ss → HasNoEnd ws
 statements_no_end [] ss h = tt
 statements_no_end (l ∷ ws) [] h = absurd h
 statements_no_end (l ∷ ws) (s ∷ ss) h =
-    (λ is. subst (λ (z : Saying). IsRead z s) is h.0, statements_no_end ws ss h.1)
+    (λ is. subst (λ (z : ScriptLine). IsRead z s) is h.0, statements_no_end ws ss h.1)
 
 -- nor are lanes
-lanes_no_end : (ws : List Saying) (lanes : List (List Statement)) → AreLanes ws lanes → HasNoEnd ws
-lanes_no_end ws [] h = subst (λ (z : List Saying). HasNoEnd z) (sym h) tt
+lanes_no_end : (ws : List ScriptLine) (lanes : List (List Statement)) → AreLanes ws lanes → HasNoEnd ws
+lanes_no_end ws [] h = subst (λ (z : List ScriptLine). HasNoEnd z) (sym h) tt
 lanes_no_end ws (ss ∷ lanes) h =
-    subst (λ (z : List Saying). HasNoEnd z) (sym h.2)
+    subst (λ (z : List ScriptLine). HasNoEnd z) (sym h.2)
     (λ is. cc, no_end_append h.0 h.1 (statements_no_end h.0 ss h.3) (lanes_no_end h.1 lanes h.4))
 
 -- a block ends at its first `end`
-end_once : (xs ys us vs : List Saying) → HasNoEnd xs → HasNoEnd ys → xs ++ said.End ∷ us ≡ ys ++ said.End ∷ vs
+end_once : (xs ys us vs : List ScriptLine) → HasNoEnd xs → HasNoEnd ys → xs ++ said.End ∷ us ≡ ys ++ said.End ∷ vs
     → (xs ≡ ys) × (us ≡ vs)
 end_once [] [] us vs x y e = (refl, let h : us ≡ vs = cc in h)
 end_once [] (l ∷ ys) us vs x y e = absurd (y.0 (let h : said.End ≡ l = cc in sym h))
@@ -124,17 +124,17 @@ end_once (l ∷ xs) (k ∷ ys) us vs x y e =
     let r = end_once xs ys us vs x.1 y.1 behind in (λ i. first i ∷ r.0 i, r.1)
 
 -- blocks at the front of the same lines are alike, and leave the same lines
-record AreSame (others rest : List Saying) (several too : Bool) (lanes more : List (List Statement)) : Type 0 where
+record AreSame (others rest : List ScriptLine) (several too : Bool) (lanes more : List (List Statement)) : Type 0 where
   others_same : others ≡ rest
   kind : several ≡ too
   alike : Pairs (Pairs IsAlike) lanes more
 
-block_once : (own too others rest : List Saying) (several other : Bool) (lanes more : List (List Statement))
+block_once : (own too others rest : List ScriptLine) (several other : Bool) (lanes more : List (List Statement))
     → IsBlock own several lanes → IsBlock too other more → own ++ others ≡ too ++ rest
     → AreSame others rest several other lanes more
 block_once own too others rest true true lanes more x y e =
     let whole : said.Lanes ∷ ((x.inside ++ said.End ∷ []) ++ others) ≡ said.Lanes ∷ ((y.inside ++ said.End ∷ []) ++ rest) =
-    sym (ap (λ (z : List Saying). z ++ others) x.lines) ∙ e ∙ ap (λ (z : List Saying). z ++ rest) y.lines in
+    sym (ap (λ (z : List ScriptLine). z ++ others) x.lines) ∙ e ∙ ap (λ (z : List ScriptLine). z ++ rest) y.lines in
     let behind : (x.inside ++ said.End ∷ []) ++ others ≡ (y.inside ++ said.End ∷ []) ++ rest = cc in
     let ends : x.inside ++ said.End ∷ others ≡ y.inside ++ said.End ∷ rest =
     sym (append_assoc x.inside (said.End ∷ []) others) ∙ behind ∙ append_assoc y.inside (said.End ∷ []) rest in
@@ -142,22 +142,22 @@ block_once own too others rest true true lanes more x y e =
     record {
       others_same = r.1;
       kind = refl;
-      alike = lanes_alike x.inside lanes more x.are (subst (λ (z : List Saying). AreLanes z more) (sym r.0) y.are);
+      alike = lanes_alike x.inside lanes more x.are (subst (λ (z : List ScriptLine). AreLanes z more) (sym r.0) y.are);
     }
 block_once own too others rest true false lanes more x y e =
     let whole : said.Lanes ∷ ((x.inside ++ said.End ∷ []) ++ others) ≡ y.line ∷ rest =
-    sym (ap (λ (z : List Saying). z ++ others) x.lines) ∙ e ∙ ap (λ (z : List Saying). z ++ rest) y.lines in
-    let first : said.Lanes ≡ y.line = cc in absurd (subst (λ (z : Saying). IsRead z y.statement) (sym first) y.read)
+    sym (ap (λ (z : List ScriptLine). z ++ others) x.lines) ∙ e ∙ ap (λ (z : List ScriptLine). z ++ rest) y.lines in
+    let first : said.Lanes ≡ y.line = cc in absurd (subst (λ (z : ScriptLine). IsRead z y.statement) (sym first) y.read)
 block_once own too others rest false true lanes more x y e =
     let whole : x.line ∷ others ≡ said.Lanes ∷ ((y.inside ++ said.End ∷ []) ++ rest) =
-    sym (ap (λ (z : List Saying). z ++ others) x.lines) ∙ e ∙ ap (λ (z : List Saying). z ++ rest) y.lines in
-    let first : x.line ≡ said.Lanes = cc in absurd (subst (λ (z : Saying). IsRead z x.statement) first x.read)
+    sym (ap (λ (z : List ScriptLine). z ++ others) x.lines) ∙ e ∙ ap (λ (z : List ScriptLine). z ++ rest) y.lines in
+    let first : x.line ≡ said.Lanes = cc in absurd (subst (λ (z : ScriptLine). IsRead z x.statement) first x.read)
 block_once own too others rest false false lanes more x y e =
     let whole : x.line ∷ others ≡ y.line ∷ rest =
-    sym (ap (λ (z : List Saying). z ++ others) x.lines) ∙ e ∙ ap (λ (z : List Saying). z ++ rest) y.lines in
+    sym (ap (λ (z : List ScriptLine). z ++ others) x.lines) ∙ e ∙ ap (λ (z : List ScriptLine). z ++ rest) y.lines in
     let first : x.line ≡ y.line = cc in
     let behind : others ≡ rest = cc in
-    let reads : IsRead x.line y.statement = subst (λ (z : Saying). IsRead z y.statement) (sym first) y.read in
+    let reads : IsRead x.line y.statement = subst (λ (z : ScriptLine). IsRead z y.statement) (sym first) y.read in
     record {
       others_same = behind;
       kind = refl;
@@ -168,24 +168,24 @@ block_once own too others rest false false lanes more x y e =
     }
 
 -- a block has a line
-some_line : (own others : List Saying) (several : Bool) (lanes : List (List Statement)) → IsBlock own several lanes
+some_line : (own others : List ScriptLine) (several : Bool) (lanes : List (List Statement)) → IsBlock own several lanes
     → own ++ others ≡ [] → ⊥
-some_line own others true lanes h e = (let no = sym (ap (λ (z : List Saying). z ++ others) h.lines) ∙ e in cc)
-some_line own others false lanes h e = (let no = sym (ap (λ (z : List Saying). z ++ others) h.lines) ∙ e in cc)
+some_line own others true lanes h e = (let no = sym (ap (λ (z : List ScriptLine). z ++ others) h.lines) ∙ e in cc)
+some_line own others false lanes h e = (let no = sym (ap (λ (z : List ScriptLine). z ++ others) h.lines) ∙ e in cc)
 
 -- the blocks of lines are alike
-blocks_alike : (ws : List Saying) (bs cs : List Block) → AreBlocks ws bs → AreBlocks ws cs → Pairs IsBlockAlike bs cs
+blocks_alike : (ws : List ScriptLine) (bs cs : List Block) → AreBlocks ws bs → AreBlocks ws cs → Pairs IsBlockAlike bs cs
 blocks_alike ws [] [] x y = tt
 blocks_alike ws [] (c ∷ cs) x y = absurd (some_line y.0 y.1 c.several c.lanes y.3 (sym y.2 ∙ x))
 blocks_alike ws (b ∷ bs) [] x y = absurd (some_line x.0 x.1 b.several b.lanes x.3 (sym x.2 ∙ y))
 blocks_alike ws (b ∷ bs) (c ∷ cs) x y =
     let s = block_once x.0 y.0 x.1 y.1 b.several c.several b.lanes c.lanes x.3 y.3 (sym x.2 ∙ y.2) in (
       (s.kind, s.alike),
-      blocks_alike x.1 bs cs x.4 (subst (λ (z : List Saying). AreBlocks z cs) (sym s.others_same) y.4),
+      blocks_alike x.1 bs cs x.4 (subst (λ (z : List ScriptLine). AreBlocks z cs) (sym s.others_same) y.4),
     )
 
 -- a text is one script
 pub one_script : (text : List ℕ) (one other : List Block) → IsScript text one → IsScript text other → Pairs IsBlockAlike one other
 one_script text one other x y =
     let same : y.ws ≡ x.ws = all_say_once (lines text) y.ws x.ws y.say x.say in
-    blocks_alike x.ws one other x.blocks (subst (λ (z : List Saying). AreBlocks z other) same y.blocks)
+    blocks_alike x.ws one other x.blocks (subst (λ (z : List ScriptLine). AreBlocks z other) same y.blocks)

@@ -4,66 +4,66 @@ use Rattle.std.proofs.Common.{length, append_assoc, length-append}
 use Rattle.std.specs.Prelude.{Result, Ok, Err, IfErr, OnOk}
 use Rattle.std.proofs.lemmas.List.{append-nil}
 use Rattle.fish_script.proofs.Parts.{lines_none}
-use Rattle.fish_script.specs.Drafts.{IsDraft, IsInside, IsSoFar, IsWritten, TakesLine, UnlessMemory}
+use Rattle.fish_script.specs.Building.{HasBuilt, IsInside, IsSoFar, IsWritten, TakesLine, UnlessMemory}
 use Rattle.fish_script.specs.Limits.{longest_script}
 use Rattle.fish_script.specs.Lines.{lines}
 use Rattle.fish_script.specs.Places.{place_of}
 use Rattle.fish_script.specs.Refusals.{AllSay, IsLineFault, IsRefusal, IsScript, Says, StopsAt}
-use Rattle.fish_script.specs.declared.draft.Draft.{Draft}
-use Rattle.fish_script.specs.declared.draft.Place.{Place}
-use Rattle.fish_script.specs.declared.draft.Place.TheVariants.{Outside, Inside}
+use Rattle.fish_script.specs.declared.builder.ScriptBuilder.{ScriptBuilder}
+use Rattle.fish_script.specs.declared.builder.Place.{Place}
+use Rattle.fish_script.specs.declared.builder.Place.TheVariants.{Outside, Inside}
 use Rattle.fish_script.specs.declared.refusal.ScriptRefusal.{ScriptRefusal}
 use Rattle.fish_script.specs.declared.refusal.ScriptRefusal.TheVariants as refusal
-use Rattle.fish_script.specs.declared.wording.Saying.{Saying}
+use Rattle.fish_script.specs.declared.script_line.ScriptLine.{ScriptLine}
 
 -- one line more
-say_push : (bs : List (List ℕ)) (ws own : List Saying) (b : List ℕ) → AllSay bs ws → Says b own → AllSay (bs ++ b ∷ []) (ws ++ own)
-say_push [] ws own b h here = (own, [], here, refl, ap (λ (z : List Saying). z ++ own) h ∙ sym (append-nil own))
+say_push : (bs : List (List ℕ)) (ws own : List ScriptLine) (b : List ℕ) → AllSay bs ws → Says b own → AllSay (bs ++ b ∷ []) (ws ++ own)
+say_push [] ws own b h here = (own, [], here, refl, ap (λ (z : List ScriptLine). z ++ own) h ∙ sym (append-nil own))
 say_push (a ∷ bs) ws own b h here = (
   h.0,
   h.1 ++ own,
   h.2,
   say_push bs h.1 own b h.3 here,
-  ap (λ (z : List Saying). z ++ own) h.4 ∙ append_assoc h.0 h.1 own,
+  ap (λ (z : List ScriptLine). z ++ own) h.4 ∙ append_assoc h.0 h.1 own,
 )
 
 -- nothing is read
-pub none_read : (text : List ℕ) (d : Draft) → IsDraft [] d → IsSoFar text text 0 d
-none_read text d h = record { before = []; splits = refl; count = refl; ws = []; say = refl; draft = h }
+pub none_read : (text : List ℕ) (d : ScriptBuilder) → HasBuilt [] d → IsSoFar text text 0 d
+none_read text d h = record { before = []; splits = refl; count = refl; ws = []; say = refl; builder = h }
 
 -- one line more is read
-pub more_read : (text rest line behind : List ℕ) (number : ℕ) (old new : Draft) → IsSoFar text rest number old
+pub more_read : (text rest line behind : List ℕ) (number : ℕ) (old new : ScriptBuilder) → IsSoFar text rest number old
     → lines rest ≡ line ∷ lines behind → TakesLine line old new → IsSoFar text behind (number + 1) new
 more_read text rest line behind number old new h split takes =
-    let t = takes h.ws h.draft in
+    let t = takes h.ws h.builder in
     record {
       before = h.before ++ line ∷ [];
       splits = h.splits ∙ ap (λ (z : List (List ℕ)). h.before ++ z) split ∙ sym (append_assoc h.before (line ∷ []) (lines behind));
       count = omega (arith, length-append h.before (line ∷ []), h.count);
       ws = h.ws ++ t.0;
       say = say_push h.before h.ws t.0 line h.say t.1;
-      draft = t.2;
+      builder = t.2;
     }
 
 -- all is read
-all_lines : (text rest : List ℕ) (number : ℕ) (d : Draft) (h : IsSoFar text rest number d) → length rest ≡ 0
+all_lines : (text rest : List ℕ) (number : ℕ) (d : ScriptBuilder) (h : IsSoFar text rest number d) → length rest ≡ 0
     → lines text ≡ h.before
 all_lines text [] number d h none =
     h.splits ∙ ap (λ (z : List (List ℕ)). h.before ++ z) lines_none ∙ append-nil h.before
 all_lines text (c ∷ rest) number d h none = absurd (omega arith)
 
 -- the text is a script where it ends outside of a block
-pub script_read : (text rest : List ℕ) (number : ℕ) (d : Draft) → length text ≤ longest_script → IsSoFar text rest number d
+pub script_read : (text rest : List ℕ) (number : ℕ) (d : ScriptBuilder) → length text ≤ longest_script → IsSoFar text rest number d
     → length rest ≡ 0 → d.place ≡ Outside → IsScript text d.blocks
 script_read text rest number d size h none outside = record {
   size = size;
   ws = h.ws;
   say = subst (λ (z : List (List ℕ)). AllSay z h.ws) (sym (all_lines text rest number d h none)) h.say;
-  blocks = (subst (λ (p : Place). IsWritten h.ws p d.blocks d.lanes d.lane) outside h.draft.written).0;
+  blocks = (subst (λ (p : Place). IsWritten h.ws p d.blocks d.lanes d.lane) outside h.builder.written).0;
 }
 
 -- and else refused
-pub end_refused : (text rest : List ℕ) (number : ℕ) (d : Draft) → length text ≤ longest_script → IsSoFar text rest number d
+pub end_refused : (text rest : List ℕ) (number : ℕ) (d : ScriptBuilder) → length text ≤ longest_script → IsSoFar text rest number d
     → length rest ≡ 0 → IsInside d.place → IsRefusal text (refusal.Unexpected (number + 1))
 end_refused text rest number d size h none inside = at d.place refl
   where
@@ -74,10 +74,10 @@ end_refused text rest number d size h none inside = at d.place refl
       inr (record {
         ws = h.ws;
         say = subst (λ (z : List (List ℕ)). AllSay z h.ws) (sym (all_lines text rest number d h none)) h.say;
-        stand = h.draft.stand;
+        stand = h.builder.stand;
         lanes = lanes;
         feeds = feeds;
-        within = h.draft.place ∙ is;
+        within = h.builder.place ∙ is;
         fault =
             let count : number + 1 ≡ suc (length (lines text)) =
             omega (arith, h.count, ap (λ (z : List (List ℕ)). length z) (all_lines text rest number d h none)) in
@@ -86,7 +86,7 @@ end_refused text rest number d size h none inside = at d.place refl
     )
 
 -- the text is refused for a line
-pub line_refused : (text rest line behind : List ℕ) (number : ℕ) (d : Draft) → length text ≤ longest_script
+pub line_refused : (text rest line behind : List ℕ) (number : ℕ) (d : ScriptBuilder) → length text ≤ longest_script
     → IsSoFar text rest number d → lines rest ≡ line ∷ lines behind → (e : ScriptRefusal)
     → UnlessMemory (IsLineFault d.place line (number + 1)) e → IsRefusal text e
 line_refused text rest line behind number d size h split = whole
@@ -99,11 +99,11 @@ line_refused text rest line behind number d size h split = whole
       splits = h.splits ∙ ap (λ (z : List (List ℕ)). h.before ++ z) split;
       ahead = h.ws;
       say = h.say;
-      stand = h.draft.stand;
+      stand = h.builder.stand;
       fault =
           let count : number + 1 ≡ suc (length h.before) = omega (arith, h.count) in
           subst (λ (n : ℕ). IsLineFault (place_of h.ws) line n e) count
-          (subst (λ (p : Place). IsLineFault p line (number + 1) e) (sym h.draft.place) f);
+          (subst (λ (p : Place). IsLineFault p line (number + 1) e) (sym h.builder.place) f);
     }
 
     whole : (e : ScriptRefusal) → UnlessMemory (IsLineFault d.place line (number + 1)) e → IsRefusal text e
@@ -117,14 +117,14 @@ line_refused text rest line behind number d size h split = whole
     whole (refusal.TooManyFeeds n) f = (size, inl (stops (refusal.TooManyFeeds n) f))
 
 -- what the end of the text answers: a script
-pub end_script : {T : Type 0} (r : Result T ScriptRefusal) (text rest : List ℕ) (number : ℕ) (d : Draft)
+pub end_script : {T : Type 0} (r : Result T ScriptRefusal) (text rest : List ℕ) (number : ℕ) (d : ScriptBuilder)
     → length text ≤ longest_script → IsSoFar text rest number d → length rest ≡ 0 → OnOk r (d.place ≡ Outside)
     → OnOk r (IsScript text d.blocks)
 end_script (Ok x) text rest number d size h none outside = script_read text rest number d size h none outside
 end_script (Err e) text rest number d size h none outside = tt
 
 -- or a refusal
-pub end_refusal : {T : Type 0} (r : Result T ScriptRefusal) (text rest : List ℕ) (number : ℕ) (d : Draft)
+pub end_refusal : {T : Type 0} (r : Result T ScriptRefusal) (text rest : List ℕ) (number : ℕ) (d : ScriptBuilder)
     → length text ≤ longest_script → IsSoFar text rest number d → length rest ≡ 0
     → IfErr r (λ e. IsInside d.place × (e ≡ refusal.Unexpected (number + 1))) → IfErr r (IsRefusal text)
 end_refusal (Ok x) text rest number d size h none inside = tt

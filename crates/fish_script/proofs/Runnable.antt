@@ -12,48 +12,48 @@ use Rattle.std.proofs.lemmas.Option.{same_Some}
 use Rattle.fish_lang.specs.Token.{is_blank}
 use Rattle.fish_lang.proofs.TokenLemmas.{both}
 use Rattle.fish_value.specs.declared.field.Form.TheVariants as form
-use Rattle.fish_script.specs.Limits.{longest_name}
+use Rattle.fish_value.specs.Limits.{longest_name}
 use Rattle.fish_script.specs.Lines.{lines}
 use Rattle.fish_script.specs.Refusals.{AllSay, IsScript, Says}
 use Rattle.fish_script.specs.Runnable.{AreRunnable, CanRun, IsRunnable, IsRunnableBlock}
 use Rattle.fish_script.specs.Script.{AllFree, AreBlocks, AreFree, AreLanes, AreRead, IsBlock, IsRead, OthersFree, Reads}
-use Rattle.fish_script.specs.Wording.{csv_of, deregister_of, file_of, ingest_of, is_name, is_name_byte, json_of, look_of, mark}
-use Rattle.fish_script.specs.Wording.{mark_or_statement, question_of, register_of, saying_of, wording_of}
+use Rattle.fish_script.specs.ScriptLine.{csv_of, deregister_of, file_of, ingest_of, is_name, is_name_byte, json_of, look_of, mark}
+use Rattle.fish_script.specs.ScriptLine.{mark_or_statement, question_of, register_of, script_line_of, statement_line_of}
 use Rattle.fish_script.specs.Words.{unblank, word_of, words_behind}
 use Rattle.fish_script.specs.declared.script.Block.{Block}
 use Rattle.fish_script.specs.declared.script.Statement.{Statement}
-use Rattle.fish_script.specs.declared.wording.Look.{Look}
-use Rattle.fish_script.specs.declared.wording.Wording.{Wording}
-use Rattle.fish_script.specs.declared.wording.Wording.TheVariants as word
-use Rattle.fish_script.specs.declared.wording.Saying.{Saying}
-use Rattle.fish_script.specs.declared.wording.Saying.TheVariants as said
+use Rattle.fish_script.specs.declared.script_line.Look.{Look}
+use Rattle.fish_script.specs.declared.script_line.StatementLine.{StatementLine}
+use Rattle.fish_script.specs.declared.script_line.StatementLine.TheVariants as word
+use Rattle.fish_script.specs.declared.script_line.ScriptLine.{ScriptLine}
+use Rattle.fish_script.specs.declared.script_line.ScriptLine.TheVariants as said
 
 -- ---- names
 
 -- a definition has a name
-abbrev IsNamed : Wording → Type 0
+abbrev IsNamed : StatementLine → Type 0
 IsNamed (word.Register name source) = is_name name ≡ true
 IsNamed w = Unit {0}
 
--- that holds of the wording, if there is one
-abbrev MayBeNamed : Option Wording → Type 0
+-- that holds of the statement_line, if there is one
+abbrev MayBeNamed : Option StatementLine → Type 0
 MayBeNamed None = Unit {0}
 MayBeNamed (Some w) = IsNamed w
 
 -- and of what a line says
-abbrev SaysNamed : Saying → Type 0
-SaysNamed (said.States w) = IsNamed w
+abbrev SaysNamed : ScriptLine → Type 0
+SaysNamed (said.Statement w) = IsNamed w
 SaysNamed l = Unit {0}
 
 -- of a line, if it says something
-abbrev MaySayNamed : Option Saying → Type 0
+abbrev MaySayNamed : Option ScriptLine → Type 0
 MaySayNamed None = Unit {0}
 MaySayNamed (Some l) = SaysNamed l
 
 -- a mark is no statement
-abbrev IsMark : Option Saying → Type 0
+abbrev IsMark : Option ScriptLine → Type 0
 IsMark None = Unit {0}
-IsMark (Some (said.States w)) = ⊥
+IsMark (Some (said.Statement w)) = ⊥
 IsMark (Some l) = Unit {0}
 
 -- a name has 1 to 32 bytes
@@ -69,7 +69,7 @@ name_size w h =
     (grind (arith, nat_tests), grind (arith, nat_tests))
 
 -- what is made of a value is named where each is
-made_named : {A : Type 0} (f : A → Wording) → ((x : A) → IsNamed (f x)) → (o : Option A) → MayBeNamed (option_map f o)
+made_named : {A : Type 0} (f : A → StatementLine) → ((x : A) → IsNamed (f x)) → (o : Option A) → MayBeNamed (option_map f o)
 made_named f h None = tt
 made_named f h (Some x) = h x
 
@@ -123,9 +123,9 @@ question_named w behind =
     (λ h. made_named (λ (l : Look). word.Explain l) (λ x. tt) (look_of behind)) (λ h. tt)))
 
 -- a statement names what it defines
-wording_named : (w behind : List ℕ) → MayBeNamed (wording_of w behind)
-unfolding wording_of
-wording_named w behind =
+statement_line_named : (w behind : List ℕ) → MayBeNamed (statement_line_of w behind)
+unfolding statement_line_of
+statement_line_named w behind =
     cond_both (bytes_eq w (codes "register")) (register_of behind) _ MayBeNamed (λ h. register_named behind)
     (λ h. cond_both (bytes_eq w (codes "deregister")) (deregister_of behind) _ MayBeNamed (λ h. deregister_named behind)
     (λ h. cond_both (bytes_eq w (codes "ingest")) (ingest_of behind) (question_of w behind) MayBeNamed
@@ -140,51 +140,51 @@ mark_is w =
     (λ h. cond_both (bytes_eq w (codes "end")) (Some said.End) None IsMark (λ h. tt) (λ h. tt)))
 
 -- what is a mark, or else a statement, names what it defines
-either_named : (m : Option Saying) (o : Option Wording) → IsMark m → MayBeNamed o → MaySayNamed (mark_or_statement m o)
+either_named : (m : Option ScriptLine) (o : Option StatementLine) → IsMark m → MayBeNamed o → MaySayNamed (mark_or_statement m o)
 either_named (Some said.Lanes) o h k = tt
 either_named (Some said.Lane) o h k = tt
 either_named (Some said.End) o h k = tt
-either_named (Some (said.States w)) o h k = absurd h
+either_named (Some (said.Statement w)) o h k = absurd h
 either_named None None h k = tt
 either_named None (Some w) h k = k
 
 -- a line names what it defines
-saying_named : (b : List ℕ) → MaySayNamed (saying_of b)
-unfolding saying_of
-saying_named b =
-    either_named _ (wording_of (word_of b) (words_behind b))
+script_line_named : (b : List ℕ) → MaySayNamed (script_line_of b)
+unfolding script_line_of
+script_line_named b =
+    either_named _ (statement_line_of (word_of b) (words_behind b))
     (cond_both (list_all is_blank (words_behind b)) (mark (word_of b)) None IsMark (λ h. mark_is (word_of b)) (λ h. tt))
-    (wording_named (word_of b) (words_behind b))
+    (statement_line_named (word_of b) (words_behind b))
 
 -- ---- lines
 
 -- each of the lines does
-abbrev AllNamed : List Saying → Type 0
+abbrev AllNamed : List ScriptLine → Type 0
 AllNamed [] = Unit {0}
 AllNamed (l ∷ ws) = SaysNamed l × AllNamed ws
 
 -- of lines one behind the other
-named_append : (xs ys : List Saying) → AllNamed xs → AllNamed ys → AllNamed (xs ++ ys)
+named_append : (xs ys : List ScriptLine) → AllNamed xs → AllNamed ys → AllNamed (xs ++ ys)
 named_append [] ys x y = y
 named_append (l ∷ xs) ys x y = (x.0, named_append xs ys x.1 y)
 
 -- of those in front
-named_front : (xs ys : List Saying) → AllNamed (xs ++ ys) → AllNamed xs
+named_front : (xs ys : List ScriptLine) → AllNamed (xs ++ ys) → AllNamed xs
 named_front [] ys h = tt
 named_front (l ∷ xs) ys h = (h.0, named_front xs ys h.1)
 
 -- and of those behind
-named_behind : (xs ys : List Saying) → AllNamed (xs ++ ys) → AllNamed ys
+named_behind : (xs ys : List ScriptLine) → AllNamed (xs ++ ys) → AllNamed ys
 named_behind [] ys h = h
 named_behind (l ∷ xs) ys h = named_behind xs ys h.1
 
 -- what one line says
-line_named : (b : List ℕ) (ws : List Saying) → Says b ws → AllNamed ws
+line_named : (b : List ℕ) (ws : List ScriptLine) → Says b ws → AllNamed ws
 line_named b ws (inl h) = subst AllNamed (sym h.1) tt
-line_named b ws (inr h) = subst AllNamed (sym h.4) (subst MaySayNamed h.3 (saying_named b), tt)
+line_named b ws (inr h) = subst AllNamed (sym h.4) (subst MaySayNamed h.3 (script_line_named b), tt)
 
 -- what all lines say
-lines_named : (bs : List (List ℕ)) (ws : List Saying) → AllSay bs ws → AllNamed ws
+lines_named : (bs : List (List ℕ)) (ws : List ScriptLine) → AllSay bs ws → AllNamed ws
 lines_named [] ws h = subst AllNamed (sym h) tt
 lines_named (b ∷ bs) ws h =
     subst AllNamed (sym h.4) (named_append h.0 h.1 (line_named b h.0 h.2) (lines_named bs h.1 h.3))
@@ -192,7 +192,7 @@ lines_named (b ∷ bs) ws h =
 -- ---- statements
 
 -- what is worded with a name can be run
-reads_run : (w : Wording) (s : Statement) → IsNamed w → Reads w s → IsRunnable s
+reads_run : (w : StatementLine) (s : Statement) → IsNamed w → Reads w s → IsRunnable s
 reads_run (word.Register name source) s named h =
     let size = name_size name named in subst IsRunnable (sym h.1) (size.0, size.1, (source, h.2))
 reads_run (word.Deregister name) s named h = subst IsRunnable (sym h) tt
@@ -202,14 +202,14 @@ reads_run (word.Explain look) s named h = subst IsRunnable (sym h) tt
 reads_run word.Checkpoint s named h = subst IsRunnable (sym h) tt
 
 -- and so a line
-line_runs : (l : Saying) (s : Statement) → SaysNamed l → IsRead l s → IsRunnable s
+line_runs : (l : ScriptLine) (s : Statement) → SaysNamed l → IsRead l s → IsRunnable s
 line_runs said.Lanes s named h = absurd h
 line_runs said.Lane s named h = absurd h
 line_runs said.End s named h = absurd h
-line_runs (said.States w) s named h = reads_run w s named h
+line_runs (said.Statement w) s named h = reads_run w s named h
 
 -- and those of a lane
-lane_runs : (ws : List Saying) (ss : List Statement) → AllNamed ws → AreRead ws ss → AreRunnable ss
+lane_runs : (ws : List ScriptLine) (ss : List Statement) → AllNamed ws → AreRead ws ss → AreRunnable ss
 lane_runs ws [] named h i s there = absurd cc
 lane_runs [] (t ∷ ss) named h i s there = absurd h
 lane_runs (l ∷ ws) (t ∷ ss) named h zero s there = subst IsRunnable (same_Some t s there) (line_runs l t named.0 h.0)
@@ -218,7 +218,7 @@ lane_runs (l ∷ ws) (t ∷ ss) named h (suc i) s there = lane_runs ws ss named.
 -- ---- lanes
 
 -- those of each lane
-lanes_run : (ws : List Saying) (lanes : List (List Statement)) → AllNamed ws → AreLanes ws lanes
+lanes_run : (ws : List ScriptLine) (lanes : List (List Statement)) → AllNamed ws → AreLanes ws lanes
     → (i : ℕ) (ss : List Statement) → slice_get lanes i ≡ Some ss → AreRunnable ss
 lanes_run ws [] named h i ss there = absurd cc
 lanes_run ws (ts ∷ lanes) named h zero ss there =
@@ -253,7 +253,7 @@ alone_runs t run (suc i) ss there = absurd cc
 -- ---- blocks
 
 -- one block
-block_runs : (own : List Saying) (b : Block) (several : Bool) → b.several ≡ several → AllNamed own → IsBlock own several b.lanes
+block_runs : (own : List ScriptLine) (b : Block) (several : Bool) → b.several ≡ several → AllNamed own → IsBlock own several b.lanes
     → IsRunnableBlock b
 block_runs own b true is named h =
     let inside : AllNamed (h.inside ++ said.End ∷ []) = (subst AllNamed h.lines named).1 in
@@ -279,7 +279,7 @@ block_runs own b false is named h =
     }
 
 -- each block
-blocks_run : (ws : List Saying) (bs : List Block) → AllNamed ws → AreBlocks ws bs → CanRun bs
+blocks_run : (ws : List ScriptLine) (bs : List Block) → AllNamed ws → AreBlocks ws bs → CanRun bs
 blocks_run ws [] named h i b there = absurd cc
 blocks_run ws (c ∷ bs) named h zero b there =
     let both_named : AllNamed (h.0 ++ h.1) = subst AllNamed h.2 named in

@@ -8,15 +8,15 @@ use Rattle.fish_script.specs.Limits.{most_feeds, most_lanes}
 use Rattle.fish_script.specs.Places.{AllStand, Stands, place_after, place_from}
 use Rattle.fish_script.specs.Script.{AllFree, AreBlocks, AreFree, AreLanes, AreRead, IsBlock, IsRead, OthersFree}
 use Rattle.fish_script.specs.Script.{feeds_of, is_control, is_feed}
-use Rattle.fish_script.specs.declared.draft.Place.{Place}
-use Rattle.fish_script.specs.declared.draft.Place.TheVariants.{Outside, Inside}
+use Rattle.fish_script.specs.declared.builder.Place.{Place}
+use Rattle.fish_script.specs.declared.builder.Place.TheVariants.{Outside, Inside}
 use Rattle.fish_script.specs.declared.script.Block.{Block}
 use Rattle.fish_script.specs.declared.script.Statement.{Statement}
-use Rattle.fish_script.specs.declared.wording.Saying.{Saying}
-use Rattle.fish_script.specs.declared.wording.Saying.TheVariants as said
+use Rattle.fish_script.specs.declared.script_line.ScriptLine.{ScriptLine}
+use Rattle.fish_script.specs.declared.script_line.ScriptLine.TheVariants as said
 
 -- from a place on these lines are in order, and lead to another place
-pub record Leads (p : Place) (ws : List Saying) (q : Place) : Type 0 where
+pub record Leads (p : Place) (ws : List ScriptLine) (q : Place) : Type 0 where
   pub stand : AllStand p ws
   pub place : place_from p ws ≡ q
 
@@ -25,7 +25,7 @@ pub leads_none : (p : Place) → Leads p [] p
 leads_none p = record { stand = tt; place = refl }
 
 -- one line more in front
-pub leads_line : (p q r : Place) (l : Saying) (ws : List Saying) → Stands p l → place_after p l ≡ q → Leads q ws r
+pub leads_line : (p q r : Place) (l : ScriptLine) (ws : List ScriptLine) → Stands p l → place_after p l ≡ q → Leads q ws r
     → Leads p (l ∷ ws) r
 leads_line p q r l ws here e h = record {
   stand = (here, subst (λ (z : Place). AllStand z ws) (sym e) h.stand);
@@ -33,14 +33,14 @@ leads_line p q r l ws here e h = record {
 }
 
 -- lines behind others
-pub leads_append : (p q r : Place) (xs ys : List Saying) → Leads p xs q → Leads q ys r → Leads p (xs ++ ys) r
+pub leads_append : (p q r : Place) (xs ys : List ScriptLine) → Leads p xs q → Leads q ys r → Leads p (xs ++ ys) r
 leads_append p q r [] ys h k = subst (λ (z : Place). Leads z ys r) (sym h.place) k
 leads_append p q r (x ∷ xs) ys h k =
     leads_line p (place_after p x) r x (xs ++ ys) h.stand.0 refl
     (leads_append (place_after p x) q r xs ys (record { stand = h.stand.1; place = h.place }) k)
 
 -- the statements of a lane: those of control in the first lane alone
-stand_statements : (ws : List Saying) (ss : List Statement) (k f : ℕ) → AreRead ws ss → 1 ≤ k → (k ≤ 1) ⊎ AreFree ss
+stand_statements : (ws : List ScriptLine) (ss : List Statement) (k f : ℕ) → AreRead ws ss → 1 ≤ k → (k ≤ 1) ⊎ AreFree ss
     → f + count_by is_feed ss ≤ most_feeds → Leads (Inside k f) ws (Inside k (f + count_by is_feed ss))
 stand_statements [] [] k f h some free few =
     let e : f ≡ f + 0 = omega arith in subst (λ (n : ℕ). Leads (Inside k f) [] (Inside k n)) e (leads_none (Inside k f))
@@ -49,10 +49,10 @@ stand_statements (w ∷ ws) [] k f h some free few = absurd h
 stand_statements (said.Lanes ∷ ws) (s ∷ ss) k f h some free few = absurd h.0
 stand_statements (said.Lane ∷ ws) (s ∷ ss) k f h some free few = absurd h.0
 stand_statements (said.End ∷ ws) (s ∷ ss) k f h some free few = absurd h.0
-stand_statements (said.States w ∷ ws) (s ∷ ss) k f h some free few =
+stand_statements (said.Statement w ∷ ws) (s ∷ ss) k f h some free few =
     let next : ℕ = if is_feed s then f + 1 else f in
     let sum : next + count_by is_feed ss ≡ f + count_by is_feed (s ∷ ss) = one_more (is_feed s) refl in
-    leads_line (Inside k f) (Inside k next) (Inside k (f + count_by is_feed (s ∷ ss))) (said.States w) ws
+    leads_line (Inside k f) (Inside k next) (Inside k (f + count_by is_feed (s ∷ ss))) (said.Statement w) ws
     (λ no. absurd (omega arith), (s, h.0, (control free, feed)))
     (ap (λ (n : ℕ). Inside k n) (sym (feed_read f w s h.0)))
     (subst (λ (n : ℕ). Leads (Inside k next) ws (Inside k n)) sum
@@ -85,20 +85,20 @@ stand_statements (said.States w ∷ ws) (s ∷ ss) k f h some free few =
         omega (arith, few)
 
 -- the lanes of a block, behind so many
-stand_lanes : (ws : List Saying) (lanes : List (List Statement)) (k f : ℕ) → AreLanes ws lanes → k + length lanes ≤ most_lanes
+stand_lanes : (ws : List ScriptLine) (lanes : List (List Statement)) (k f : ℕ) → AreLanes ws lanes → k + length lanes ≤ most_lanes
     → f + feeds_of lanes ≤ most_feeds → ((k ≡ 0) × OthersFree lanes) ⊎ AllFree lanes
     → Leads (Inside k f) ws (Inside (k + length lanes) (f + feeds_of lanes))
 stand_lanes ws [] k f h few few_feeds free =
     let e : k ≡ k + 0 = omega arith in let g : f ≡ f + 0 = omega arith in
-    subst (λ (z : List Saying). Leads (Inside k f) z (Inside (k + 0) (f + 0))) (sym h)
+    subst (λ (z : List ScriptLine). Leads (Inside k f) z (Inside (k + 0) (f + 0))) (sym h)
     (subst (λ (n : ℕ). Leads (Inside k f) [] (Inside n (f + 0))) e
     (subst (λ (n : ℕ). Leads (Inside k f) [] (Inside k n)) g (leads_none (Inside k f))))
 stand_lanes ws (ss ∷ lanes) k f h few few_feeds free =
-    let own : List Saying = h.0 in
+    let own : List ScriptLine = h.0 in
     let count : ℕ = count_by is_feed ss in
     let len : k + 1 + length lanes ≡ k + suc (length lanes) = omega arith in
     let sum : f + count + feeds_of lanes ≡ f + (count + feeds_of lanes) = omega arith in
-    subst (λ (z : List Saying). Leads (Inside k f) z (Inside (k + suc (length lanes)) (f + (count + feeds_of lanes)))) (sym h.2)
+    subst (λ (z : List ScriptLine). Leads (Inside k f) z (Inside (k + suc (length lanes)) (f + (count + feeds_of lanes)))) (sym h.2)
     (subst (λ (n : ℕ). Leads (Inside k f) (said.Lane ∷ (own ++ h.1)) (Inside n (f + (count + feeds_of lanes)))) len
     (subst (λ (n : ℕ). Leads (Inside k f) (said.Lane ∷ (own ++ h.1)) (Inside (k + 1 + length lanes) n)) sum
     (leads_line (Inside k f) (Inside (k + 1) f) (Inside (k + 1 + length lanes) (f + count + feeds_of lanes)) said.Lane (own ++ h.1)
@@ -116,28 +116,28 @@ stand_lanes ws (ss ∷ lanes) k f h few few_feeds free =
     others (inr clear) = inr clear.1
 
 -- a block
-stand_block : (own : List Saying) (several : Bool) (lanes : List (List Statement)) → IsBlock own several lanes
+stand_block : (own : List ScriptLine) (several : Bool) (lanes : List (List Statement)) → IsBlock own several lanes
     → Leads Outside own Outside
 stand_block own true lanes h =
-    subst (λ (z : List Saying). Leads Outside z Outside) (sym h.lines)
+    subst (λ (z : List ScriptLine). Leads Outside z Outside) (sym h.lines)
     (leads_line Outside (Inside 0 0) Outside said.Lanes (h.inside ++ said.End ∷ []) (λ no. no, tt) refl
     (leads_append (Inside 0 0) (Inside (0 + length lanes) (0 + feeds_of lanes)) Outside h.inside (said.End ∷ [])
     (stand_lanes h.inside lanes 0 0 h.are (omega (arith, h.few)) (omega (arith, h.few_feeds)) (inl (refl, h.free)))
     (leads_line (Inside (0 + length lanes) (0 + feeds_of lanes)) Outside Outside said.End []
     (λ no. omega (arith, h.some, no), tt) refl (leads_none Outside))))
 stand_block own false lanes h =
-    subst (λ (z : List Saying). Leads Outside z Outside) (sym h.lines) (alone h.line h.read)
+    subst (λ (z : List ScriptLine). Leads Outside z Outside) (sym h.lines) (alone h.line h.read)
   where
-    alone : (l : Saying) → IsRead l h.statement → Leads Outside (l ∷ []) Outside
+    alone : (l : ScriptLine) → IsRead l h.statement → Leads Outside (l ∷ []) Outside
     alone said.Lanes reads = absurd reads
     alone said.Lane reads = absurd reads
     alone said.End reads = absurd reads
-    alone (said.States w) reads =
-        leads_line Outside Outside Outside (said.States w) [] (λ no. no, (h.statement, reads, tt)) refl (leads_none Outside)
+    alone (said.Statement w) reads =
+        leads_line Outside Outside Outside (said.Statement w) [] (λ no. no, (h.statement, reads, tt)) refl (leads_none Outside)
 
 -- all blocks
-pub stand_blocks : (ws : List Saying) (bs : List Block) → AreBlocks ws bs → Leads Outside ws Outside
-stand_blocks ws [] h = subst (λ (z : List Saying). Leads Outside z Outside) (sym h) (leads_none Outside)
+pub stand_blocks : (ws : List ScriptLine) (bs : List Block) → AreBlocks ws bs → Leads Outside ws Outside
+stand_blocks ws [] h = subst (λ (z : List ScriptLine). Leads Outside z Outside) (sym h) (leads_none Outside)
 stand_blocks ws (b ∷ bs) h =
-    subst (λ (z : List Saying). Leads Outside z Outside) (sym h.2)
+    subst (λ (z : List ScriptLine). Leads Outside z Outside) (sym h.2)
     (leads_append Outside Outside Outside h.0 h.1 (stand_block h.0 b.several b.lanes h.3) (stand_blocks h.1 bs h.4))

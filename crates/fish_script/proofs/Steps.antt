@@ -1,61 +1,61 @@
--- The steps of a draft: one line more.
+-- The steps of a builder: one line more.
 use Rattle.std.proofs.Common.{◌≡◌, ℕ, zero, suc, ◌+◌, ◌<◌, ◌≤◌, List, [], ◌∷◌, ◌++◌, refl, sym, ap, subst, ◌∙◌, arith}
 use Rattle.std.specs.Prelude.{true, false, if◌then◌else◌}
 use Rattle.fish_script.proofs.Appending.{place_push}
 use Rattle.fish_script.proofs.Appending.{stand_push}
-use Rattle.fish_script.specs.Drafts.{IsDraft, IsInFront, IsWritten, Pushes}
+use Rattle.fish_script.specs.Building.{HasBuilt, IsInFront, IsWritten, Pushes}
 use Rattle.fish_script.specs.Limits.{most_lanes}
 use Rattle.fish_script.specs.Places.{Fits, Stands, place_after}
 use Rattle.fish_script.specs.Script.{AreBlocks, Reads, is_feed}
-use Rattle.fish_script.specs.declared.draft.Draft.{Draft}
-use Rattle.fish_script.specs.declared.draft.Place.{Place}
-use Rattle.fish_script.specs.declared.draft.Place.TheVariants.{Outside, Inside}
+use Rattle.fish_script.specs.declared.builder.ScriptBuilder.{ScriptBuilder}
+use Rattle.fish_script.specs.declared.builder.Place.{Place}
+use Rattle.fish_script.specs.declared.builder.Place.TheVariants.{Outside, Inside}
 use Rattle.fish_script.specs.declared.script.Block.{Block}
 use Rattle.fish_script.specs.declared.script.Statement.{Statement}
-use Rattle.fish_script.specs.declared.wording.Wording.{Wording}
-use Rattle.fish_script.specs.declared.wording.Saying.{Saying}
-use Rattle.fish_script.specs.declared.wording.Saying.TheVariants as said
+use Rattle.fish_script.specs.declared.script_line.StatementLine.{StatementLine}
+use Rattle.fish_script.specs.declared.script_line.ScriptLine.{ScriptLine}
+use Rattle.fish_script.specs.declared.script_line.ScriptLine.TheVariants as said
 use Rattle.fish_script.proofs.Writing.{place_statement, written_alone, written_end, written_first, written_lanes}
 use Rattle.fish_script.proofs.Writing.{written_next, written_statement}
 
 -- what is to be shown of one line more
-pub draft_next : (ws : List Saying) (w : Saying) (old new : Draft) → IsDraft ws old → Stands old.place w
+pub built_next : (ws : List ScriptLine) (w : ScriptLine) (old new : ScriptBuilder) → HasBuilt ws old → Stands old.place w
     → new.place ≡ place_after old.place w → IsWritten (ws ++ w ∷ []) new.place new.blocks new.lanes new.lane
-    → IsDraft (ws ++ w ∷ []) new
-draft_next ws w old new h stands place written = record {
+    → HasBuilt (ws ++ w ∷ []) new
+built_next ws w old new h stands place written = record {
   place = place_push Outside ws w ∙ ap (λ (p : Place). place_after p w) h.place ∙ sym place;
   stand = stand_push Outside ws w h.stand (subst (λ (p : Place). Stands p w) (sym h.place) stands);
   written = written;
 }
 
--- ---- the steps of a draft
+-- ---- the steps of a builder
 
 -- `lanes`
-pub takes_lanes : (ws : List Saying) (old : Draft) → IsDraft ws old → old.place ≡ Outside
-    → IsDraft (ws ++ said.Lanes ∷ []) (record old { place = Inside 0 0 })
+pub takes_lanes : (ws : List ScriptLine) (old : ScriptBuilder) → HasBuilt ws old → old.place ≡ Outside
+    → HasBuilt (ws ++ said.Lanes ∷ []) (record old { place = Inside 0 0 })
 takes_lanes ws old h is =
-    draft_next ws said.Lanes old (record old { place = Inside 0 0 }) h
+    built_next ws said.Lanes old (record old { place = Inside 0 0 }) h
     (subst (λ (p : Place). Stands p said.Lanes) (sym is) (λ no. no, tt)) refl
     (written_lanes ws old.blocks old.lanes old.lane
     (subst (λ (p : Place). IsWritten ws p old.blocks old.lanes old.lane) is h.written))
 
 -- the first `lane`
-pub takes_first : (ws : List Saying) (old : Draft) (feeds : ℕ) → IsDraft ws old → old.place ≡ Inside 0 feeds
-    → IsDraft (ws ++ said.Lane ∷ []) (record old { place = Inside 1 feeds })
+pub takes_first : (ws : List ScriptLine) (old : ScriptBuilder) (feeds : ℕ) → HasBuilt ws old → old.place ≡ Inside 0 feeds
+    → HasBuilt (ws ++ said.Lane ∷ []) (record old { place = Inside 1 feeds })
 takes_first ws old feeds h is =
-    draft_next ws said.Lane old (record old { place = Inside 1 feeds }) h
+    built_next ws said.Lane old (record old { place = Inside 1 feeds }) h
     (subst (λ (p : Place). Stands p said.Lane) (sym is) (λ no. no, omega arith))
     (ap (λ (p : Place). place_after p said.Lane) (sym is))
     (written_first ws feeds old.blocks old.lanes old.lane
     (subst (λ (p : Place). IsWritten ws p old.blocks old.lanes old.lane) is h.written))
 
 -- a later `lane`
-pub takes_next : (ws : List Saying) (old new : Draft) (begun feeds : ℕ) → IsDraft ws old → old.place ≡ Inside begun feeds
+pub takes_next : (ws : List ScriptLine) (old new : ScriptBuilder) (begun feeds : ℕ) → HasBuilt ws old → old.place ≡ Inside begun feeds
     → 1 ≤ begun → begun < most_lanes → new.place ≡ Inside (begun + 1) feeds → new.blocks ≡ old.blocks
-    → new.lanes ≡ old.lanes ++ old.lane ∷ [] → new.lane ≡ [] → IsDraft (ws ++ said.Lane ∷ []) new
+    → new.lanes ≡ old.lanes ++ old.lane ∷ [] → new.lane ≡ [] → HasBuilt (ws ++ said.Lane ∷ []) new
 takes_next ws old new zero feeds h is some room place blocks lanes lane = absurd (omega arith)
 takes_next ws old new (suc more) feeds h is some room place blocks lanes lane =
-    draft_next ws said.Lane old new h
+    built_next ws said.Lane old new h
     (subst (λ (p : Place). Stands p said.Lane) (sym is) (λ no. no, room))
     (place ∙ ap (λ (p : Place). place_after p said.Lane) (sym is))
     (subst (λ (p : Place). IsWritten (ws ++ said.Lane ∷ []) p new.blocks new.lanes new.lane) (sym place)
@@ -70,13 +70,13 @@ takes_next ws old new (suc more) feeds h is some room place blocks lanes lane =
     (subst (λ (p : Place). IsWritten ws p old.blocks old.lanes old.lane) is h.written) room))))))
 
 -- `end`
-pub takes_end : (ws : List Saying) (old new : Draft) (begun feeds : ℕ) → IsDraft ws old → old.place ≡ Inside begun feeds
+pub takes_end : (ws : List ScriptLine) (old new : ScriptBuilder) (begun feeds : ℕ) → HasBuilt ws old → old.place ≡ Inside begun feeds
     → 1 ≤ begun → new.place ≡ Outside
     → new.blocks ≡ old.blocks ++ record { several = true; lanes = old.lanes ++ old.lane ∷ [] } ∷ []
-    → new.lanes ≡ [] → new.lane ≡ [] → IsDraft (ws ++ said.End ∷ []) new
+    → new.lanes ≡ [] → new.lane ≡ [] → HasBuilt (ws ++ said.End ∷ []) new
 takes_end ws old new zero feeds h is some place blocks lanes lane = absurd (omega arith)
 takes_end ws old new (suc more) feeds h is some place blocks lanes lane =
-    draft_next ws said.End old new h
+    built_next ws said.End old new h
     (subst (λ (p : Place). Stands p said.End) (sym is) (λ no. omega arith, tt))
     (place ∙ ap (λ (p : Place). place_after p said.End) (sym is))
     (subst (λ (p : Place). IsWritten (ws ++ said.End ∷ []) p new.blocks new.lanes new.lane) (sym place) (
@@ -88,23 +88,23 @@ takes_end ws old new (suc more) feeds h is some place blocks lanes lane =
     ))
 
 -- a statement
-pub takes_statement : (ws : List Saying) (old new : Draft) (w : Wording) (s : Statement) → IsDraft ws old
+pub takes_statement : (ws : List ScriptLine) (old new : ScriptBuilder) (w : StatementLine) (s : Statement) → HasBuilt ws old
     → ¬ IsInFront old.place → Reads w s → Fits old.place s → Pushes old.place s old new
-    → IsDraft (ws ++ said.States w ∷ []) new
+    → HasBuilt (ws ++ said.Statement w ∷ []) new
 takes_statement ws old new w s h ahead reads fits pushes = at old.place refl
   where
-    at : (p : Place) → old.place ≡ p → IsDraft (ws ++ said.States w ∷ []) new
+    at : (p : Place) → old.place ≡ p → HasBuilt (ws ++ said.Statement w ∷ []) new
     at Outside is =
         let e : new ≡ record old { blocks = old.blocks ++ record { several = false; lanes = (s ∷ []) ∷ [] } ∷ [] } =
         subst (λ (p : Place). Pushes p s old new) is pushes in
         let was : IsWritten ws Outside old.blocks old.lanes old.lane =
         subst (λ (p : Place). IsWritten ws p old.blocks old.lanes old.lane) is h.written in
-        subst (λ (d : Draft). IsDraft (ws ++ said.States w ∷ []) d) (sym e)
-        (draft_next ws (said.States w) old
+        subst (λ (d : ScriptBuilder). HasBuilt (ws ++ said.Statement w ∷ []) d) (sym e)
+        (built_next ws (said.Statement w) old
         (record old { blocks = old.blocks ++ record { several = false; lanes = (s ∷ []) ∷ [] } ∷ [] }) h
-        (subst (λ (p : Place). Stands p (said.States w)) (sym is) (λ no. no, (s, reads, tt)))
-        (is ∙ ap (λ (p : Place). place_after p (said.States w)) (sym is))
-        (subst (λ (p : Place). IsWritten (ws ++ said.States w ∷ []) p
+        (subst (λ (p : Place). Stands p (said.Statement w)) (sym is) (λ no. no, (s, reads, tt)))
+        (is ∙ ap (λ (p : Place). place_after p (said.Statement w)) (sym is))
+        (subst (λ (p : Place). IsWritten (ws ++ said.Statement w ∷ []) p
         (old.blocks ++ record { several = false; lanes = (s ∷ []) ∷ [] } ∷ []) old.lanes old.lane) (sym is)
         (written_alone ws old.blocks w s was.0 reads, was.1, was.2)))
     at (Inside begun feeds) is =
@@ -114,9 +114,9 @@ takes_statement ws old new w s h ahead reads fits pushes = at old.place refl
         subst (λ (p : Place). IsWritten ws p old.blocks old.lanes old.lane) is h.written in
         let kept : Fits (Inside begun feeds) s = subst (λ (p : Place). Fits p s) is fits in
         let some : ¬ (begun ≡ 0) = subst (λ (p : Place). ¬ IsInFront p) is ahead in
-        subst (λ (d : Draft). IsDraft (ws ++ said.States w ∷ []) d) (sym e)
-        (draft_next ws (said.States w) old
+        subst (λ (d : ScriptBuilder). HasBuilt (ws ++ said.Statement w ∷ []) d) (sym e)
+        (built_next ws (said.Statement w) old
         (record old { lane = old.lane ++ s ∷ []; place = Inside begun (if is_feed s then feeds + 1 else feeds) }) h
-        (subst (λ (p : Place). Stands p (said.States w)) (sym is) (some, (s, reads, kept)))
-        (place_statement begun feeds w s reads ∙ ap (λ (p : Place). place_after p (said.States w)) (sym is))
+        (subst (λ (p : Place). Stands p (said.Statement w)) (sym is) (some, (s, reads, kept)))
+        (place_statement begun feeds w s reads ∙ ap (λ (p : Place). place_after p (said.Statement w)) (sym is))
         (written_statement ws begun feeds old.blocks old.lanes old.lane w s was (omega arith) reads kept))

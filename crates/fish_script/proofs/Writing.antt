@@ -1,31 +1,31 @@
--- A draft with one line more.
+-- A builder with one line more.
 use Rattle.std.proofs.Common.{◌≡◌, ℕ, zero, suc, ◌+◌, ◌<◌, ◌≤◌, List, [], ◌∷◌, ◌++◌, refl, sym, ap, subst, ◌∙◌, arith}
 use Rattle.std.proofs.Common.{append_assoc, length-append, cond}
 use Rattle.std.specs.Prelude.{Bool, true, false, count_by, if◌then◌else◌}
 use Rattle.std.proofs.lemmas.List.Sums.{sum_by_push}
 use Rattle.fish_script.proofs.Appending.{blocks_push, feeds_push, lanes_push, others_begin, others_push}
 use Rattle.fish_script.proofs.Appending.{read_push}
-use Rattle.fish_script.specs.Drafts.{IsBegun, IsWritten}
+use Rattle.fish_script.specs.Building.{IsBegun, IsWritten}
 use Rattle.fish_script.specs.Limits.{most_feeds, most_lanes}
 use Rattle.fish_script.specs.Places.{Fits, place_after, with_feed}
 use Rattle.fish_script.specs.Script.{AreBlocks, AreLanes, Reads, feeds_of, is_feed}
-use Rattle.fish_script.specs.declared.draft.Place.TheVariants.{Outside, Inside}
+use Rattle.fish_script.specs.declared.builder.Place.TheVariants.{Outside, Inside}
 use Rattle.fish_script.specs.declared.script.Block.{Block}
 use Rattle.fish_script.specs.declared.script.Statement.{Statement}
-use Rattle.fish_script.specs.declared.wording.Wording.{Wording}
-use Rattle.fish_script.specs.declared.wording.Wording.TheVariants as word
-use Rattle.fish_script.specs.declared.wording.Saying.{Saying}
-use Rattle.fish_script.specs.declared.wording.Saying.TheVariants as said
+use Rattle.fish_script.specs.declared.script_line.StatementLine.{StatementLine}
+use Rattle.fish_script.specs.declared.script_line.StatementLine.TheVariants as word
+use Rattle.fish_script.specs.declared.script_line.ScriptLine.{ScriptLine}
+use Rattle.fish_script.specs.declared.script_line.ScriptLine.TheVariants as said
 
 -- `lanes`
-pub written_lanes : (ws : List Saying) (blocks : List Block) (lanes : List (List Statement)) (lane : List Statement)
+pub written_lanes : (ws : List ScriptLine) (blocks : List Block) (lanes : List (List Statement)) (lane : List Statement)
     → IsWritten ws Outside blocks lanes lane → IsWritten (ws ++ said.Lanes ∷ []) (Inside 0 0) blocks lanes lane
 written_lanes ws blocks lanes lane h = (ws, [], refl, h.0, (refl, refl, h.1, h.2))
 
 -- one line more inside of a block
-inside_push : (ws front inside : List Saying) (w : Saying) → ws ≡ front ++ said.Lanes ∷ inside
+inside_push : (ws front inside : List ScriptLine) (w : ScriptLine) → ws ≡ front ++ said.Lanes ∷ inside
     → ws ++ w ∷ [] ≡ front ++ said.Lanes ∷ (inside ++ w ∷ [])
-inside_push ws front inside w e = ap (λ (z : List Saying). z ++ w ∷ []) e ∙ append_assoc front (said.Lanes ∷ inside) (w ∷ [])
+inside_push ws front inside w e = ap (λ (z : List ScriptLine). z ++ w ∷ []) e ∙ append_assoc front (said.Lanes ∷ inside) (w ∷ [])
 
 -- a first lane without a statement
 first_lane : IsBegun (said.Lane ∷ []) 0 0 [] []
@@ -43,21 +43,21 @@ first_lane = record {
 }
 
 -- the first `lane`
-pub written_first : (ws : List Saying) (feeds : ℕ) (blocks : List Block) (lanes : List (List Statement)) (lane : List Statement)
+pub written_first : (ws : List ScriptLine) (feeds : ℕ) (blocks : List Block) (lanes : List (List Statement)) (lane : List Statement)
     → IsWritten ws (Inside 0 feeds) blocks lanes lane → IsWritten (ws ++ said.Lane ∷ []) (Inside 1 feeds) blocks lanes lane
 written_first ws feeds blocks lanes lane h = (
   h.0,
   h.1 ++ said.Lane ∷ [],
   inside_push ws h.0 h.1 said.Lane h.2,
   h.3,
-  subst (λ (z : List Saying). IsBegun (z ++ said.Lane ∷ []) 0 feeds lanes lane) (sym h.4.0)
+  subst (λ (z : List ScriptLine). IsBegun (z ++ said.Lane ∷ []) 0 feeds lanes lane) (sym h.4.0)
       (subst (λ (z : ℕ). IsBegun (said.Lane ∷ []) 0 z lanes lane) (sym h.4.1)
       (subst (λ (z : List (List Statement)). IsBegun (said.Lane ∷ []) 0 0 z lane) (sym h.4.2)
       (subst (λ (z : List Statement). IsBegun (said.Lane ∷ []) 0 0 [] z) (sym h.4.3) first_lane))),
 )
 
 -- a later `lane`
-pub written_next : (ws : List Saying) (more feeds : ℕ) (blocks : List Block) (lanes : List (List Statement)) (lane : List Statement)
+pub written_next : (ws : List ScriptLine) (more feeds : ℕ) (blocks : List Block) (lanes : List (List Statement)) (lane : List Statement)
     → IsWritten ws (Inside (suc more) feeds) blocks lanes lane → suc more < most_lanes
     → IsWritten (ws ++ said.Lane ∷ []) (Inside (suc (suc more)) feeds) blocks (lanes ++ lane ∷ []) []
 written_next ws more feeds blocks lanes lane h room =
@@ -70,7 +70,7 @@ written_next ws more feeds blocks lanes lane h room =
         ended = h.1;
         own = [];
         lines = refl;
-        are = subst (λ (z : List Saying). AreLanes z (lanes ++ lane ∷ [])) (sym b.lines)
+        are = subst (λ (z : List ScriptLine). AreLanes z (lanes ++ lane ∷ [])) (sym b.lines)
             (lanes_push b.ended b.own lanes lane b.are b.read);
         read = tt;
         count = omega (arith, length-append lanes (lane ∷ []), b.count);
@@ -82,17 +82,17 @@ written_next ws more feeds blocks lanes lane h room =
     )
 
 -- `end`
-pub written_end : (ws : List Saying) (more feeds : ℕ) (blocks : List Block) (lanes : List (List Statement)) (lane : List Statement)
+pub written_end : (ws : List ScriptLine) (more feeds : ℕ) (blocks : List Block) (lanes : List (List Statement)) (lane : List Statement)
     → IsWritten ws (Inside (suc more) feeds) blocks lanes lane
     → AreBlocks (ws ++ said.End ∷ []) (blocks ++ record { several = true; lanes = lanes ++ lane ∷ [] } ∷ [])
 written_end ws more feeds blocks lanes lane h =
     let b : IsBegun h.1 more feeds lanes lane = h.4 in
-    subst (λ (z : List Saying). AreBlocks z (blocks ++ record { several = true; lanes = lanes ++ lane ∷ [] } ∷ []))
+    subst (λ (z : List ScriptLine). AreBlocks z (blocks ++ record { several = true; lanes = lanes ++ lane ∷ [] } ∷ []))
     (sym (inside_push ws h.0 h.1 said.End h.2))
     (blocks_push h.0 (said.Lanes ∷ (h.1 ++ said.End ∷ [])) blocks (record { several = true; lanes = lanes ++ lane ∷ [] }) h.3 (record {
       inside = h.1;
       lines = refl;
-      are = subst (λ (z : List Saying). AreLanes z (lanes ++ lane ∷ [])) (sym b.lines)
+      are = subst (λ (z : List ScriptLine). AreLanes z (lanes ++ lane ∷ [])) (sym b.lines)
           (lanes_push b.ended b.own lanes lane b.are b.read);
       some = omega (arith, length-append lanes (lane ∷ []));
       few = omega (arith, length-append lanes (lane ∷ []), b.count, b.few);
@@ -101,11 +101,11 @@ written_end ws more feeds blocks lanes lane h =
     }))
 
 -- a statement by itself
-pub written_alone : (ws : List Saying) (blocks : List Block) (w : Wording) (s : Statement) → AreBlocks ws blocks → Reads w s
-    → AreBlocks (ws ++ said.States w ∷ []) (blocks ++ record { several = false; lanes = (s ∷ []) ∷ [] } ∷ [])
+pub written_alone : (ws : List ScriptLine) (blocks : List Block) (w : StatementLine) (s : Statement) → AreBlocks ws blocks → Reads w s
+    → AreBlocks (ws ++ said.Statement w ∷ []) (blocks ++ record { several = false; lanes = (s ∷ []) ∷ [] } ∷ [])
 written_alone ws blocks w s h reads =
-    blocks_push ws (said.States w ∷ []) blocks (record { several = false; lanes = (s ∷ []) ∷ [] }) h (record {
-      line = said.States w;
+    blocks_push ws (said.Statement w ∷ []) blocks (record { several = false; lanes = (s ∷ []) ∷ [] }) h (record {
+      line = said.Statement w;
       statement = s;
       lines = refl;
       read = reads;
@@ -117,23 +117,24 @@ files_push : (lane : List Statement) (s : Statement) → count_by is_feed (lane 
 files_push lane s = sum_by_push (λ (t : Statement). cond (is_feed t) 1 0) lane s
 
 -- a statement in a lane
-pub written_statement : (ws : List Saying) (begun feeds : ℕ) (blocks : List Block) (lanes : List (List Statement))
-    (lane : List Statement) (w : Wording) (s : Statement) → IsWritten ws (Inside begun feeds) blocks lanes lane → 1 ≤ begun
+pub written_statement : (ws : List ScriptLine) (begun feeds : ℕ) (blocks : List Block) (lanes : List (List Statement))
+    (lane : List Statement) (w : StatementLine) (s : Statement) → IsWritten ws (Inside begun feeds) blocks lanes lane → 1 ≤ begun
     → Reads w s → Fits (Inside begun feeds) s
-    → IsWritten (ws ++ said.States w ∷ []) (Inside begun (if is_feed s then feeds + 1 else feeds)) blocks lanes (lane ++ s ∷ [])
+    → IsWritten (ws ++ said.Statement w ∷ []) (Inside begun (if is_feed s then feeds + 1 else feeds)) blocks lanes (lane ++ s ∷ [])
 written_statement ws zero feeds blocks lanes lane w s h some reads fits = absurd (omega arith)
 written_statement ws (suc more) feeds blocks lanes lane w s h some reads fits =
     let b : IsBegun h.1 more feeds lanes lane = h.4 in (
       h.0,
-      h.1 ++ said.States w ∷ [],
-      inside_push ws h.0 h.1 (said.States w) h.2,
+      h.1 ++ said.Statement w ∷ [],
+      inside_push ws h.0 h.1 (said.Statement w) h.2,
       h.3,
       record {
         ended = b.ended;
-        own = b.own ++ said.States w ∷ [];
-        lines = ap (λ (z : List Saying). z ++ said.States w ∷ []) b.lines ∙ append_assoc b.ended (said.Lane ∷ b.own) (said.States w ∷ []);
+        own = b.own ++ said.Statement w ∷ [];
+        lines = ap (λ (z : List ScriptLine). z ++ said.Statement w ∷ []) b.lines
+            ∙ append_assoc b.ended (said.Lane ∷ b.own) (said.Statement w ∷ []);
         are = b.are;
-        read = read_push b.own lane (said.States w) s b.read reads;
+        read = read_push b.own lane (said.Statement w) s b.read reads;
         count = b.count;
         few = b.few;
         files = files (is_feed s) refl;
@@ -158,8 +159,8 @@ written_statement ws (suc more) feeds blocks lanes lane w s h some reads fits =
     few_feeds true is = let few : feeds + 1 ≤ most_feeds = omega (arith, fits.1 is) in rw is few
     few_feeds false is = rw is h.4.few_feeds
 
--- a statement stores a file where its wording does
-pub feed_read : (feeds : ℕ) (w : Wording) (s : Statement) → Reads w s → (if is_feed s then feeds + 1 else feeds) ≡ with_feed w feeds
+-- a statement stores a file where its statement_line does
+pub feed_read : (feeds : ℕ) (w : StatementLine) (s : Statement) → Reads w s → (if is_feed s then feeds + 1 else feeds) ≡ with_feed w feeds
 feed_read feeds (word.Register name source) s reads = let e : is_feed s ≡ false = ap is_feed reads.1 in rw e
 feed_read feeds (word.Deregister name) s reads = let e : is_feed s ≡ false = ap is_feed reads in rw e
 feed_read feeds (word.Ingest form header file) s reads = let e : is_feed s ≡ true = ap is_feed reads in rw e
@@ -168,6 +169,6 @@ feed_read feeds (word.Explain look) s reads = let e : is_feed s ≡ false = ap i
 feed_read feeds word.Checkpoint s reads = let e : is_feed s ≡ false = ap is_feed reads in rw e
 
 -- where the line behind a statement stands
-pub place_statement : (begun feeds : ℕ) (w : Wording) (s : Statement) → Reads w s
-    → Inside begun (if is_feed s then feeds + 1 else feeds) ≡ place_after (Inside begun feeds) (said.States w)
+pub place_statement : (begun feeds : ℕ) (w : StatementLine) (s : Statement) → Reads w s
+    → Inside begun (if is_feed s then feeds + 1 else feeds) ≡ place_after (Inside begun feeds) (said.Statement w)
 place_statement begun feeds w s reads = ap (λ (n : ℕ). Inside begun n) (feed_read feeds w s reads)

@@ -1,4 +1,4 @@
-pub mod Drafts
+pub mod Building
 pub mod Laws
 pub mod Limits
 pub mod Lines
@@ -6,5 +6,5 @@ pub mod Places
 pub mod Refusals
 pub mod Runnable
 pub mod Script
-pub mod Wording
+pub mod ScriptLine
 pub mod Words

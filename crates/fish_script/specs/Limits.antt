@@ -5,10 +5,6 @@ use Rattle.std.specs.Prelude.{ℕ}
 abbrev pub longest_script : ℕ
 longest_script = 1048576
 
--- the most bytes of a name
-abbrev pub longest_name : ℕ
-longest_name = 32
-
 -- record numbers are below this
 abbrev pub numbers_below : ℕ
 numbers_below = 268435456

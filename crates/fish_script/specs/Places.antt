@@ -2,48 +2,48 @@
 use Rattle.std.specs.Prelude.{◌≡◌, ℕ, ◌+◌, ◌<◌, ◌≤◌, List, [], ◌∷◌, true}
 use Rattle.fish_script.specs.Limits.{most_feeds, most_lanes}
 use Rattle.fish_script.specs.Script.{Reads, is_control, is_feed}
-use Rattle.fish_script.specs.declared.draft.Place.{Place}
-use Rattle.fish_script.specs.declared.draft.Place.TheVariants.{Outside, Inside}
+use Rattle.fish_script.specs.declared.builder.Place.{Place}
+use Rattle.fish_script.specs.declared.builder.Place.TheVariants.{Outside, Inside}
 use Rattle.fish_script.specs.declared.script.Statement.{Statement}
-use Rattle.fish_script.specs.declared.wording.Wording.{Wording}
-use Rattle.fish_script.specs.declared.wording.Wording.TheVariants as word
-use Rattle.fish_script.specs.declared.wording.Saying.{Saying}
-use Rattle.fish_script.specs.declared.wording.Saying.TheVariants as said
+use Rattle.fish_script.specs.declared.script_line.StatementLine.{StatementLine}
+use Rattle.fish_script.specs.declared.script_line.StatementLine.TheVariants as word
+use Rattle.fish_script.specs.declared.script_line.ScriptLine.{ScriptLine}
+use Rattle.fish_script.specs.declared.script_line.ScriptLine.TheVariants as said
 
 -- one more where the statement stores a file
-abbrev pub with_feed : Wording → ℕ → ℕ
+abbrev pub with_feed : StatementLine → ℕ → ℕ
 with_feed (word.Ingest form header file) feeds = feeds + 1
 with_feed w feeds = feeds
 
 -- where the line behind one stands: in a block, how many lanes have begun and how many files are stored
-abbrev pub place_after : Place → Saying → Place
+abbrev pub place_after : Place → ScriptLine → Place
 place_after p said.Lanes = Inside 0 0
 place_after p said.End = Outside
 place_after Outside said.Lane = Outside
-place_after Outside (said.States w) = Outside
+place_after Outside (said.Statement w) = Outside
 place_after (Inside lanes feeds) said.Lane = Inside (lanes + 1) feeds
-place_after (Inside lanes feeds) (said.States w) = Inside lanes (with_feed w feeds)
+place_after (Inside lanes feeds) (said.Statement w) = Inside lanes (with_feed w feeds)
 
 -- where the line behind many stands
-abbrev pub place_from : Place → List Saying → Place
+abbrev pub place_from : Place → List ScriptLine → Place
 place_from p [] = p
 place_from p (w ∷ ws) = place_from (place_after p w) ws
 
 -- where a line stands that has these in front of it
-abbrev pub place_of : List Saying → Place
+abbrev pub place_of : List ScriptLine → Place
 place_of ws = place_from Outside ws
 
 -- the line can't stand there: `lane` and `end` outside of a block, `lanes` inside, and in front of a block's first
 -- `lane` all but that
-abbrev pub IsMisplaced : Place → Saying → Type 0
+abbrev pub IsMisplaced : Place → ScriptLine → Type 0
 IsMisplaced Outside said.Lanes = ⊥
 IsMisplaced Outside said.Lane = Unit {0}
 IsMisplaced Outside said.End = Unit {0}
-IsMisplaced Outside (said.States w) = ⊥
+IsMisplaced Outside (said.Statement w) = ⊥
 IsMisplaced (Inside lanes feeds) said.Lanes = Unit {0}
 IsMisplaced (Inside lanes feeds) said.Lane = ⊥
 IsMisplaced (Inside lanes feeds) said.End = lanes ≡ 0
-IsMisplaced (Inside lanes feeds) (said.States w) = lanes ≡ 0
+IsMisplaced (Inside lanes feeds) (said.Statement w) = lanes ≡ 0
 
 -- the statement keeps the limits there
 abbrev pub Fits : Place → Statement → Type 0
@@ -56,17 +56,17 @@ FitsLane Outside = Unit {0}
 FitsLane (Inside lanes feeds) = lanes < most_lanes
 
 -- the line, which can stand there, keeps the limits and has a definition where it is to have one
-abbrev pub IsInOrder : Place → Saying → Type 0
+abbrev pub IsInOrder : Place → ScriptLine → Type 0
 IsInOrder p said.Lanes = Unit {0}
 IsInOrder p said.End = Unit {0}
 IsInOrder p said.Lane = FitsLane p
-IsInOrder p (said.States w) = (s : Statement) × Reads w s × Fits p s
+IsInOrder p (said.Statement w) = (s : Statement) × Reads w s × Fits p s
 
 -- the line is in order there
-abbrev pub Stands : Place → Saying → Type 0
+abbrev pub Stands : Place → ScriptLine → Type 0
 Stands p l = (¬ IsMisplaced p l) × IsInOrder p l
 
 -- each of the lines is in order
-abbrev pub AllStand : Place → List Saying → Type 0
+abbrev pub AllStand : Place → List ScriptLine → Type 0
 AllStand p [] = Unit {0}
 AllStand p (w ∷ ws) = Stands p w × AllStand (place_after p w) ws

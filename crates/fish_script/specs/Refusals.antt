@@ -7,35 +7,36 @@ use Rattle.fish_script.specs.Limits.{longest_script, most_feeds, most_lanes}
 use Rattle.fish_script.specs.Lines.{lines}
 use Rattle.fish_script.specs.Places.{AllStand, IsMisplaced, place_of}
 use Rattle.fish_script.specs.Script.{AreBlocks, Reads, is_control, is_feed}
-use Rattle.fish_script.specs.Wording.{saying_of}
+use Rattle.fish_script.specs.ScriptLine.{script_line_of}
 use Rattle.fish_script.specs.Words.{is_skipped}
-use Rattle.fish_script.specs.declared.draft.Place.{Place}
-use Rattle.fish_script.specs.declared.draft.Place.TheVariants.{Outside, Inside}
+use Rattle.fish_script.specs.declared.builder.Place.{Place}
+use Rattle.fish_script.specs.declared.builder.Place.TheVariants.{Outside, Inside}
 use Rattle.fish_script.specs.declared.refusal.ScriptRefusal.{ScriptRefusal}
 use Rattle.fish_script.specs.declared.refusal.ScriptRefusal.TheVariants as refusal
 use Rattle.fish_script.specs.declared.script.Block.{Block}
 use Rattle.fish_script.specs.declared.script.Statement.{Statement}
-use Rattle.fish_script.specs.declared.wording.Wording.{Wording}
-use Rattle.fish_script.specs.declared.wording.Wording.TheVariants as word
-use Rattle.fish_script.specs.declared.wording.Saying.{Saying}
-use Rattle.fish_script.specs.declared.wording.Saying.TheVariants as said
+use Rattle.fish_script.specs.declared.script_line.StatementLine.{StatementLine}
+use Rattle.fish_script.specs.declared.script_line.StatementLine.TheVariants as word
+use Rattle.fish_script.specs.declared.script_line.ScriptLine.{ScriptLine}
+use Rattle.fish_script.specs.declared.script_line.ScriptLine.TheVariants as said
 
 -- ---- what lines say
 
 -- a line says this: nothing where it is skipped
-abbrev pub Says : List ℕ → List Saying → Type 0
+abbrev pub Says : List ℕ → List ScriptLine → Type 0
 Says b ws = ((is_skipped b ≡ true) × (ws ≡ []))
-    ⊎ ((l : Saying) × (is_skipped b ≡ false) × IsUtf8 b × (saying_of b ≡ Some l) × (ws ≡ l ∷ []))
+    ⊎ ((l : ScriptLine) × (is_skipped b ≡ false) × IsUtf8 b × (script_line_of b ≡ Some l) × (ws ≡ l ∷ []))
 
 -- lines say this together
-abbrev pub AllSay : List (List ℕ) → List Saying → Type 0
+abbrev pub AllSay : List (List ℕ) → List ScriptLine → Type 0
 AllSay [] ws = ws ≡ []
-AllSay (b ∷ bs) ws = (own : List Saying) × (others : List Saying) × Says b own × AllSay bs others × (ws ≡ own ++ others)
+AllSay (b ∷ bs) ws = (own : List ScriptLine) × (others : List ScriptLine)
+    × Says b own × AllSay bs others × (ws ≡ own ++ others)
 
 -- ---- faults of one line
 
 -- its text is refused as a definition for this
-abbrev pub HasFault : Wording → LangRefusal → Type 0
+abbrev pub HasFault : StatementLine → LangRefusal → Type 0
 HasFault (word.Register name source) why = IsOutcome source (Err why)
 HasFault w why = ⊥
 
@@ -50,19 +51,19 @@ IsFeedTooMany Outside s = ⊥
 IsFeedTooMany (Inside lanes feeds) s = (most_feeds ≤ feeds) × (is_feed s ≡ true)
 
 -- there is one lane more than a block may have
-abbrev pub IsLaneTooMany : Place → Saying → Type 0
+abbrev pub IsLaneTooMany : Place → ScriptLine → Type 0
 IsLaneTooMany (Inside lanes feeds) said.Lane = most_lanes ≤ lanes
 IsLaneTooMany p l = ⊥
 
 -- the line n, which says this at this place, is refused for this
-abbrev pub IsFault : Place → Saying → ℕ → ScriptRefusal → Type 0
+abbrev pub IsFault : Place → ScriptLine → ℕ → ScriptRefusal → Type 0
 IsFault p l n (refusal.Unexpected line) = (line ≡ n) × IsMisplaced p l
-IsFault p (said.States w) n (refusal.Definition line why) =
-    (line ≡ n) × (¬ IsMisplaced p (said.States w)) × HasFault w why
-IsFault p (said.States w) n (refusal.ControlInLane line) =
-    (line ≡ n) × (¬ IsMisplaced p (said.States w)) × (s : Statement) × Reads w s × IsLate p s
-IsFault p (said.States w) n (refusal.TooManyFeeds line) =
-    (line ≡ n) × (¬ IsMisplaced p (said.States w)) × (s : Statement) × Reads w s × (¬ IsLate p s) × IsFeedTooMany p s
+IsFault p (said.Statement w) n (refusal.Definition line why) =
+    (line ≡ n) × (¬ IsMisplaced p (said.Statement w)) × HasFault w why
+IsFault p (said.Statement w) n (refusal.ControlInLane line) =
+    (line ≡ n) × (¬ IsMisplaced p (said.Statement w)) × (s : Statement) × Reads w s × IsLate p s
+IsFault p (said.Statement w) n (refusal.TooManyFeeds line) =
+    (line ≡ n) × (¬ IsMisplaced p (said.Statement w)) × (s : Statement) × Reads w s × (¬ IsLate p s) × IsFeedTooMany p s
 IsFault p l n (refusal.TooManyLanes line) = (line ≡ n) × IsLaneTooMany p l
 IsFault p l n e = ⊥
 
@@ -70,7 +71,8 @@ IsFault p l n e = ⊥
 abbrev pub IsLineFault : Place → List ℕ → ℕ → ScriptRefusal → Type 0
 IsLineFault p b n (refusal.NotText line) = (line ≡ n) × (is_skipped b ≡ false) × ¬ IsUtf8 b
 IsLineFault p b n e = (is_skipped b ≡ false) × IsUtf8 b
-    × (((saying_of b ≡ None) × (e ≡ refusal.Unexpected n)) ⊎ ((l : Saying) × (saying_of b ≡ Some l) × IsFault p l n e))
+    × (((script_line_of b ≡ None) × (e ≡ refusal.Unexpected n))
+    ⊎ ((l : ScriptLine) × (script_line_of b ≡ Some l) × IsFault p l n e))
 
 -- ---- the whole text
 
@@ -81,14 +83,14 @@ pub record StopsAt (text : List ℕ) (e : ScriptRefusal) : Type 0 where
   pub behind : List (List ℕ)
   pub splits : lines text ≡ before ++ line ∷ behind
   -- what the lines in front of it say
-  pub ahead : List Saying
+  pub ahead : List ScriptLine
   pub say : AllSay before ahead
   pub stand : AllStand Outside ahead
   pub fault : IsLineFault (place_of ahead) line (suc (length before)) e
 
 -- each line is in order, and the text ends within a block
 pub record StopsAtEnd (text : List ℕ) (e : ScriptRefusal) : Type 0 where
-  pub ws : List Saying
+  pub ws : List ScriptLine
   pub say : AllSay (lines text) ws
   pub stand : AllStand Outside ws
   pub lanes : ℕ
@@ -99,7 +101,7 @@ pub record StopsAtEnd (text : List ℕ) (e : ScriptRefusal) : Type 0 where
 -- the text is this script
 pub record IsScript (text : List ℕ) (script : List Block) : Type 0 where
   pub size : length text ≤ longest_script
-  pub ws : List Saying
+  pub ws : List ScriptLine
   pub say : AllSay (lines text) ws
   pub blocks : AreBlocks ws script
 

@@ -7,13 +7,13 @@ use Rattle.fish_script.specs.Limits.{most_feeds, most_lanes}
 use Rattle.fish_script.specs.declared.script.Block.{Block}
 use Rattle.fish_script.specs.declared.script.Statement.{Statement}
 use Rattle.fish_script.specs.declared.script.Statement.TheVariants as does
-use Rattle.fish_script.specs.declared.wording.Wording.{Wording}
-use Rattle.fish_script.specs.declared.wording.Wording.TheVariants as word
-use Rattle.fish_script.specs.declared.wording.Saying.{Saying}
-use Rattle.fish_script.specs.declared.wording.Saying.TheVariants as said
+use Rattle.fish_script.specs.declared.script_line.StatementLine.{StatementLine}
+use Rattle.fish_script.specs.declared.script_line.StatementLine.TheVariants as word
+use Rattle.fish_script.specs.declared.script_line.ScriptLine.{ScriptLine}
+use Rattle.fish_script.specs.declared.script_line.ScriptLine.TheVariants as said
 
 -- the statement is the worded one, with its definition read
-abbrev pub Reads : Wording → Statement → Type 0
+abbrev pub Reads : StatementLine → Statement → Type 0
 Reads (word.Register name source) s =
     (def : Def) × (s ≡ does.Register name def) × IsAccepted source (definition_of def)
 Reads (word.Deregister name) s = s ≡ does.Deregister name
@@ -23,12 +23,12 @@ Reads (word.Explain l) s = s ≡ does.Explain l.name l.value l.range.from l.rang
 Reads word.Checkpoint s = s ≡ does.Checkpoint
 
 -- the statement is that of the line
-abbrev pub IsRead : Saying → Statement → Type 0
-IsRead (said.States w) s = Reads w s
+abbrev pub IsRead : ScriptLine → Statement → Type 0
+IsRead (said.Statement w) s = Reads w s
 IsRead l s = ⊥
 
 -- the statements are what the lines say, one a line
-abbrev pub AreRead : List Saying → List Statement → Type 0
+abbrev pub AreRead : List ScriptLine → List Statement → Type 0
 AreRead [] [] = Unit {0}
 AreRead [] (s ∷ ss) = ⊥
 AreRead (w ∷ ws) [] = ⊥
@@ -73,15 +73,15 @@ feeds_of [] = 0
 feeds_of (ss ∷ lanes) = count_by is_feed ss + feeds_of lanes
 
 -- the lines are those of the lanes: for each one `lane`, and its statements behind it
-abbrev pub AreLanes : List Saying → List (List Statement) → Type 0
+abbrev pub AreLanes : List ScriptLine → List (List Statement) → Type 0
 AreLanes ws [] = ws ≡ []
 AreLanes ws (ss ∷ lanes) =
-    (own : List Saying) × (others : List Saying) × (ws ≡ said.Lane ∷ (own ++ others))
+    (own : List ScriptLine) × (others : List ScriptLine) × (ws ≡ said.Lane ∷ (own ++ others))
     × AreRead own ss × AreLanes others lanes
 
 -- the lines are `lanes`, those of the lanes, and `end`
-pub record IsSeveral (ws : List Saying) (lanes : List (List Statement)) : Type 0 where
-  pub inside : List Saying
+pub record IsSeveral (ws : List ScriptLine) (lanes : List (List Statement)) : Type 0 where
+  pub inside : List ScriptLine
   pub lines : ws ≡ said.Lanes ∷ (inside ++ said.End ∷ [])
   pub are : AreLanes inside lanes
   -- there is one at least, and at most 16
@@ -92,21 +92,21 @@ pub record IsSeveral (ws : List Saying) (lanes : List (List Statement)) : Type 0
   pub free : OthersFree lanes
 
 -- the line is one statement by itself
-pub record IsAlone (ws : List Saying) (lanes : List (List Statement)) : Type 0 where
-  pub line : Saying
+pub record IsAlone (ws : List ScriptLine) (lanes : List (List Statement)) : Type 0 where
+  pub line : ScriptLine
   pub statement : Statement
   pub lines : ws ≡ line ∷ []
   pub read : IsRead line statement
   pub one : lanes ≡ (statement ∷ []) ∷ []
 
 -- the lines are those of a block
-abbrev pub IsBlock : List Saying → Bool → List (List Statement) → Type 0
+abbrev pub IsBlock : List ScriptLine → Bool → List (List Statement) → Type 0
 IsBlock ws true lanes = IsSeveral ws lanes
 IsBlock ws false lanes = IsAlone ws lanes
 
 -- the lines are those of the blocks, one behind the other
-abbrev pub AreBlocks : List Saying → List Block → Type 0
+abbrev pub AreBlocks : List ScriptLine → List Block → Type 0
 AreBlocks ws [] = ws ≡ []
 AreBlocks ws (b ∷ bs) =
-    (own : List Saying) × (others : List Saying) × (ws ≡ own ++ others)
+    (own : List ScriptLine) × (others : List ScriptLine) × (ws ≡ own ++ others)
     × IsBlock own b.several b.lanes × AreBlocks others bs

@@ -3,18 +3,16 @@
 //! A script is a list of blocks, a block a list of lanes, and a lane a list of statements.
 #![tactic(auto)]
 
-mod draft;
-mod few;
+mod builder;
 mod law;
 mod line;
 mod name;
 mod parse;
 mod refusal;
 mod script;
+mod script_line;
 mod word;
-mod wording;
 
-pub use few::Few;
 pub use law::{law_one_outcome, law_scripts_can_run};
 pub use parse::parse_script;
 pub use refusal::ScriptRefusal;

@@ -3,16 +3,13 @@
 ghost use Rattle.std.specs.Prelude.{◌≡◌, true, IfOk};
 ghost use Rattle.std.specs.List.{list_all};
 ghost use Rattle.fish_value.specs.ValueText.{is_quoted};
-ghost use Rattle.fish_script.specs.Wording.{file_of, is_bare_byte, is_bare_word, is_name, is_name_byte};
+ghost use Rattle.fish_script.specs.ScriptLine.{file_of, is_bare_byte, is_bare_word, is_name, is_name_byte};
 
-use fish_value::{Text, read_json};
+use fish_value::{MAX_NAME, Text, read_json};
 use std::alloc::{AllocError, Global};
 
-/// The most bytes of a name.
-const MAX_NAME: usize = 32;
-
 /// The file that a word names: a bare word, or a JSON string that isn't empty.
-#[tactic(auto, unfolding(crate::specs::Wording::file_of))]
+#[tactic(auto, unfolding(crate::specs::ScriptLine::file_of))]
 pub(crate) fn read_file(alloc: Global, word: &[u8]) -> Result<Option<Text>, AllocError>
     ensures { IfOk result (λ file. file ≡ file_of word.now) }
 {
@@ -42,7 +39,7 @@ fn is_quoted(w: &[u8]) -> bool
 }
 
 /// Whether a word can be a name.
-#[tactic(auto, unfolding(crate::specs::Wording::is_name))]
+#[tactic(auto, unfolding(crate::specs::ScriptLine::is_name))]
 pub(crate) fn is_name(w: &[u8]) -> bool
     ensures { result ≡ is_name w.now }
 {

@@ -2,10 +2,10 @@
 
 ghost use Rattle.std.specs.Prelude.{◌≤◌, length, IfErr, IfOk, OnOk, []};
 ghost use Rattle.fish_script.specs.Limits.{longest_script};
-ghost use Rattle.fish_script.specs.Drafts.{IsDraft, IsSoFar, UnlessMemory};
+ghost use Rattle.fish_script.specs.Building.{HasBuilt, IsSoFar, UnlessMemory};
 ghost use Rattle.fish_script.specs.Refusals.{IsRefusal, IsScript};
 
-use crate::draft::Draft;
+use crate::builder::ScriptBuilder;
 use crate::line::first_line;
 use crate::refusal::ScriptRefusal;
 use crate::script::{MAX_SCRIPT, Script};
@@ -21,21 +21,21 @@ pub fn parse_script(alloc: Global, b: &[u8]) -> Result<Script, ScriptRefusal>
             length: b.len() as u64,
         });
     }
-    let mut draft = Draft::new(alloc);
-    match read_lines(&mut draft, b) {
-        Ok(()) => Ok(draft.into_script()),
+    let mut builder = ScriptBuilder::new(alloc);
+    match read_lines(&mut builder, b) {
+        Ok(()) => Ok(builder.into_script()),
         Err(refusal) => {
-            drop(draft);
+            drop(builder);
             Err(refusal)
         }
     }
 }
 
 /// Takes each line of a text, and its end.
-fn read_lines(draft: &mut Draft, b: &[u8]) -> Result<(), ScriptRefusal>
+fn read_lines(builder: &mut ScriptBuilder, b: &[u8]) -> Result<(), ScriptRefusal>
     requires size { length b.now ≤ longest_script }
-    requires new { IsDraft [] draft.old }
-    ensures script { OnOk result (IsScript b.now draft.new.blocks) }
+    requires new { HasBuilt [] builder.old }
+    ensures script { OnOk result (IsScript b.now builder.new.blocks) }
     ensures refused { IfErr result (IsRefusal b.now) }
 {
     let mut rest = b;
@@ -43,8 +43,8 @@ fn read_lines(draft: &mut Draft, b: &[u8]) -> Result<(), ScriptRefusal>
     while !rest.is_empty() {
         let (line, behind) = first_line(rest);
         number += 1;
-        draft.take_line(number, line)?;
+        builder.take_line(number, line)?;
         rest = behind;
     }
-    draft.finish(number + 1)
+    builder.finish(number + 1)
 }

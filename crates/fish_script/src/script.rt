@@ -1,14 +1,13 @@
 //! What a script says.
 
-use crate::few::Few;
 use fish_lang::Def;
-use fish_value::{Form, Sequence, Text, Value};
+use fish_value::{Form, MAX_LANE, Sequence, Text, Value};
 
 /// The most bytes of a script.
 pub const MAX_SCRIPT: usize = 1_048_576;
 
 /// The most lanes of a block.
-pub const MAX_LANES: usize = 16;
+pub const MAX_LANES: usize = MAX_LANE as usize;
 
 /// The most ingests of a block.
 pub const MAX_FEEDS: usize = 256;
@@ -67,10 +66,10 @@ pub enum Statement {
 }
 
 /// The statements of a lane, in order.
-pub type Statements = Few<Statement>;
+pub type Statements = Sequence<Statement>;
 
 /// The lanes of a block, in order.
-pub type LaneTexts = Few<Statements>;
+pub type LaneTexts = Sequence<Statements>;
 
 /// Statements that are run together.
 #[derive(Drop)]

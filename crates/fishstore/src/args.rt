@@ -5,9 +5,9 @@ ghost use Rattle.std.specs.Prelude.{◌≡◌, IfErr, IfOk, MatchResult, drop, m
 ghost use Rattle.std.specs.Vec.Iter.{into_iter_items};
 ghost use Rattle.fishstore.specs.Args.{IsArgsFault, store_name};
 
+use fish_command::UsageCause;
 use fish_program::Fault;
 use fish_value::{Text, Texts};
-use fish_words::UsageCause;
 use std::alloc::{AllocError, Global};
 use std::env::Args;
 use std::io;

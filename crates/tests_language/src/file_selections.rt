@@ -6,8 +6,9 @@ ghost use Rattle.fish_value.specs.Limits.{longest_file};
 use crate::expecting::expect_all;
 use crate::sources::definition;
 use fish_lang::Def;
-use fish_report::push_item;
-use fish_select::select;
+use fish_lines::Begin;
+use fish_report::{Item, push_item};
+use fish_select::{Query, begin_select, end_select, select_part};
 use fish_value::{Form, Value, read_value};
 use std::alloc::{AllocError, Global};
 use std::test::Fail;
@@ -103,18 +104,23 @@ const BROKEN_ANSWERS: &[((&str, &str, Form, bool, &[u8]), &str)] = &[
     ),
 ];
 
-/// The text of the answer for a file that isn't too long.
-fn answer(
-    alloc: Global,
-    def: &Def,
-    value: &Value,
-    form: Form,
-    header: bool,
-    file: &[u8],
-) -> Result<String, AllocError>
+/// The text of the answer for a file that isn't too long, in one part.
+fn answer(alloc: Global, query: &Query<'_>, header: bool, file: &[u8]) -> Result<String, AllocError>
     requires { length file.now ≤ longest_file }
 {
-    let item = select(alloc, def, value, form, header, file)?;
+    let mut found = begin_select(alloc);
+    match select_part(alloc, query, Begin::Start { header }, file, &mut found) {
+        Ok(()) => {}
+        Err(_) => {
+            drop(found);
+            return Err(AllocError);
+        }
+    }
+    item_text(alloc, end_select(found))
+}
+
+/// The text of an item.
+fn item_text(alloc: Global, item: Item) -> Result<String, AllocError> {
     let mut text = String::new(alloc);
     let pushed = push_item(alloc, &mut text, &item);
     drop(item);
@@ -134,7 +140,9 @@ fn with_value(
     file: &[u8],
 ) -> Result<String, AllocError> {
     match value {
-        Some(value) if file.len() <= MOST => answer(alloc, def, value, form, header, file),
+        Some(value) if file.len() <= MOST => {
+            answer(alloc, &Query { def, value, form }, header, file)
+        }
         Some(_) => String::from_str(alloc, "too long"),
         None => String::from_str(alloc, "no value"),
     }

@@ -1,0 +1,12 @@
+-- Each law is a lemma.
+use Rattle.fish_command.proofs.Outcomes.{one_outcome, one_reading, some_outcome}
+use Rattle.fish_command.proofs.law.law_one_outcome.Goals as goal
+
+pub returns-clause-some : goal.returns-clause-some
+returns-clause-some c = some_outcome
+
+pub returns-clause-one : goal.returns-clause-one
+returns-clause-one c = one_outcome
+
+pub returns-clause-reading : goal.returns-clause-reading
+returns-clause-reading c = one_reading

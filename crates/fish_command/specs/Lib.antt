@@ -1,0 +1,7 @@
+pub mod Command
+pub mod Laws
+pub mod Line
+pub mod Options
+pub mod Request
+pub mod Sizes
+pub mod within

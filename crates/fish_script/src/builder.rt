@@ -1,0 +1,373 @@
+//! A script while its lines are read, one after the other. A line is taken whole, or the text is refused
+//! for it.
+
+ghost use Rattle.std.specs.Prelude.{◌≡◌, ◌↔◌, ◌<◌, ◌++◌, ◌∷◌, [], IfErr, IfOk, IsTrue, MatchOption, OnOk, true, false};
+ghost use Rattle.fish_script.specs.Building.{IsInFront, IsInside, IsNoDefinition, IsPast, UnlessMemory};
+ghost use Rattle.fish_script.specs.Limits.{most_lanes};
+ghost use Rattle.fish_script.specs.Places.{Fits};
+ghost use Rattle.fish_script.specs.Script.{Reads, is_control, is_feed};
+ghost use Rattle.fish_script.specs.declared.script_line.StatementLine.TheVariants as word;
+
+use crate::refusal::ScriptRefusal;
+use crate::script::{Block, LaneTexts, MAX_FEEDS, MAX_LANES, Script, Statement, Statements};
+use crate::script_line::{Look, Range, ScriptLine, StatementLine, read_script_line};
+use crate::word::is_skipped;
+use fish_lang::{Def, LangRefusal, parse_def};
+use fish_value::{Bytes, Text};
+use std::alloc::{AllocError, Global};
+use std::mem;
+
+/// Where the next line stands.
+#[derive(Clone, Copy)]
+pub enum Place {
+    /// In no block of several lanes.
+    Outside,
+    /// In one.
+    Inside {
+        /// How many lanes have begun.
+        lanes: usize,
+        /// How many files its statements store.
+        feeds: usize,
+    },
+}
+
+/// What the lines so far say.
+#[derive(Drop)]
+pub struct ScriptBuilder {
+    alloc: Global,
+    place: Place,
+    blocks: Script,
+    /// The lanes of the open block that have ended.
+    lanes: LaneTexts,
+    /// The lane that has begun.
+    lane: Statements,
+}
+
+impl ScriptBuilder {
+    ghost use Rattle.fish_script.specs.Building.{HasBuilt, Pushes, Takes, TakesLine};
+    ghost use Rattle.fish_script.specs.Refusals.{IsFault, IsLineFault};
+    ghost use Rattle.fish_script.specs.declared.builder.Place.TheVariants.{Inside, Outside};
+    ghost use Rattle.fish_script.specs.declared.script_line.ScriptLine.TheVariants as said;
+
+    /// No line. Takes no memory.
+    pub fn new(alloc: Global) -> ScriptBuilder
+        ensures { HasBuilt [] result }
+    {
+        ScriptBuilder {
+            alloc,
+            place: Place::Outside,
+            blocks: Script::new(alloc),
+            lanes: LaneTexts::new(alloc),
+            lane: Statements::new(alloc),
+        }
+    }
+
+    /// Takes the line with a number.
+    pub fn take_line(&mut self, number: u64, line: &[u8]) -> Result<(), ScriptRefusal>
+        ensures taken { OnOk result (TakesLine line.now self.old self.new) }
+        ensures refused { IfErr result (UnlessMemory (IsLineFault self.old.place line.now number)) }
+    {
+        if is_skipped(line) {
+            return Ok(());
+        }
+        if simdutf8::basic::from_utf8(line).is_err() {
+            return Err(ScriptRefusal::NotText { line: number });
+        }
+        match read_script_line(self.alloc, line)? {
+            Some(said) => self.take(number, said),
+            None => Err(ScriptRefusal::Unexpected { line: number }),
+        }
+    }
+
+    /// Takes what the line says.
+    fn take(&mut self, number: u64, said: ScriptLine) -> Result<(), ScriptRefusal>
+        ensures taken { OnOk result (Takes said self.old self.new) }
+        ensures refused { IfErr result (UnlessMemory (IsFault self.old.place said number)) }
+    {
+        match said {
+            ScriptLine::Lanes => self.open_block(number),
+            ScriptLine::Lane => self.begin_lane(number),
+            ScriptLine::End => self.end_block(number),
+            ScriptLine::Statement { statement_line } => self.take_statement(number, statement_line),
+        }
+    }
+
+    /// `lanes`
+    fn open_block(&mut self, number: u64) -> Result<(), ScriptRefusal>
+        ensures taken { OnOk result (Takes said.Lanes self.old self.new) }
+        ensures refused { IfErr result (UnlessMemory (IsFault self.old.place said.Lanes number)) }
+    {
+        match self.place {
+            Place::Outside => {
+                self.place = Place::Inside { lanes: 0, feeds: 0 };
+                Ok(())
+            }
+            Place::Inside { .. } => Err(ScriptRefusal::Unexpected { line: number }),
+        }
+    }
+
+    /// `lane`
+    fn begin_lane(&mut self, number: u64) -> Result<(), ScriptRefusal>
+        ensures taken { OnOk result (Takes said.Lane self.old self.new) }
+        ensures refused { IfErr result (UnlessMemory (IsFault self.old.place said.Lane number)) }
+    {
+        let Place::Inside { lanes, feeds } = self.place else {
+            return Err(ScriptRefusal::Unexpected { line: number });
+        };
+        if lanes >= MAX_LANES {
+            return Err(ScriptRefusal::TooManyLanes { line: number });
+        }
+        Ok(self.next_lane(lanes, feeds)?)
+    }
+
+    /// One lane more, of a block with so many.
+    fn next_lane(&mut self, lanes: usize, feeds: usize) -> Result<(), AllocError>
+        requires place { self.old.place ≡ Inside lanes feeds }
+        requires room { lanes < most_lanes }
+        ensures { OnOk result (Takes said.Lane self.old self.new) }
+    {
+        if lanes == 0 {
+            self.place = Place::Inside { lanes: 1, feeds };
+            return Ok(());
+        }
+        self.end_lane()?;
+        self.place = Place::Inside {
+            lanes: lanes + 1,
+            feeds,
+        };
+        Ok(())
+    }
+
+    /// `end`
+    fn end_block(&mut self, number: u64) -> Result<(), ScriptRefusal>
+        ensures taken { OnOk result (Takes said.End self.old self.new) }
+        ensures refused { IfErr result (UnlessMemory (IsFault self.old.place said.End number)) }
+    {
+        match self.place {
+            Place::Inside { lanes, .. } if lanes > 0 => Ok(self.close_block()?),
+            _ => Err(ScriptRefusal::Unexpected { line: number }),
+        }
+    }
+
+    /// Puts the lane that has begun behind those that have ended.
+    fn end_lane(&mut self) -> Result<(), AllocError>
+        ensures lanes { OnOk result (self.new.lanes ≡ self.old.lanes ++ self.old.lane ∷ []) }
+        ensures lane { OnOk result (self.new.lane ≡ []) }
+        ensures blocks { self.new.blocks ≡ self.old.blocks }
+        ensures place { self.new.place ≡ self.old.place }
+    {
+        let lane = mem::replace(&mut self.lane, Statements::new(self.alloc));
+        self.lanes.push(lane)
+    }
+
+    /// Puts the open block behind the others.
+    fn close_block(&mut self) -> Result<(), AllocError>
+        ensures blocks { OnOk result (self.new.blocks
+            ≡ self.old.blocks ++ record { several = true; lanes = self.old.lanes ++ self.old.lane ∷ [] } ∷ []) }
+        ensures lanes { OnOk result (self.new.lanes ≡ []) }
+        ensures lane { OnOk result (self.new.lane ≡ []) }
+        ensures place { OnOk result (self.new.place ≡ Outside) }
+    {
+        self.end_lane()?;
+        let lanes = mem::replace(&mut self.lanes, LaneTexts::new(self.alloc));
+        self.place = Place::Outside;
+        self.blocks.push(Block {
+            several: true,
+            lanes,
+        })
+    }
+
+    /// A statement.
+    fn take_statement(
+        &mut self,
+        number: u64,
+        statement_line: StatementLine,
+    ) -> Result<(), ScriptRefusal>
+        ensures taken { OnOk result (Takes (said.Statement statement_line) self.old self.new) }
+        ensures refused { IfErr result (UnlessMemory (IsFault self.old.place (said.Statement statement_line) number)) }
+    {
+        if is_in_front(self.place) {
+            drop(statement_line);
+            return Err(ScriptRefusal::Unexpected { line: number });
+        }
+        let statement = read_statement(self.alloc, number, statement_line)?;
+        if let Some(refusal) = past_limit(self.place, &statement, number) {
+            drop(statement);
+            return Err(refusal);
+        }
+        Ok(self.push(statement)?)
+    }
+
+    /// Puts a statement behind the others: as a block by itself, or in the lane that has begun.
+    fn push(&mut self, statement: Statement) -> Result<(), AllocError>
+        requires { Fits self.old.place statement }
+        ensures { OnOk result (Pushes self.old.place statement self.old self.new) }
+    {
+        let Place::Inside { lanes, feeds } = self.place else {
+            return self.push_alone(statement);
+        };
+        let feeds = if is_feed(&statement) {
+            feeds + 1
+        } else {
+            feeds
+        };
+        self.lane.push(statement)?;
+        self.place = Place::Inside { lanes, feeds };
+        Ok(())
+    }
+
+    /// Puts a statement behind the blocks, as one by itself.
+    fn push_alone(&mut self, statement: Statement) -> Result<(), AllocError>
+        ensures { OnOk result (Pushes Outside statement self.old self.new) }
+    {
+        let lane = Statements::one(self.alloc, statement)?;
+        let lanes = LaneTexts::one(self.alloc, lane)?;
+        self.blocks.push(Block {
+            several: false,
+            lanes,
+        })
+    }
+
+    /// Ends the text, which has one line less.
+    pub fn finish(&self, number: u64) -> Result<(), ScriptRefusal>
+        ensures outside { OnOk result (self.now.place ≡ Outside) }
+        ensures inside { IfErr result (λ e. IsInside self.now.place × (e ≡ ScriptRefusal.Unexpected number)) }
+    {
+        match self.place {
+            Place::Outside => Ok(()),
+            Place::Inside { .. } => Err(ScriptRefusal::Unexpected { line: number }),
+        }
+    }
+
+    /// The blocks.
+    pub fn into_script(self) -> Script
+        ensures { result ≡ self.blocks }
+    {
+        let ScriptBuilder {
+            alloc: _,
+            place: _,
+            blocks,
+            lanes,
+            lane,
+        } = self;
+        drop((lanes, lane));
+        blocks
+    }
+}
+
+/// Whether the next line stands in front of the first lane of a block.
+fn is_in_front(place: Place) -> bool
+    ensures { IsTrue result ↔ IsInFront place }
+{
+    match place {
+        Place::Outside => false,
+        Place::Inside { lanes, .. } => lanes == 0,
+    }
+}
+
+/// The limit that a statement passes in its place.
+fn past_limit(place: Place, statement: &Statement, number: u64) -> Option<ScriptRefusal>
+    ensures { MatchOption result (Fits place statement.now) (IsPast place statement.now number) }
+{
+    let Place::Inside { lanes, feeds } = place else {
+        return None;
+    };
+    if lanes > 1 && is_control(statement) {
+        return Some(ScriptRefusal::ControlInLane { line: number });
+    }
+    if feeds >= MAX_FEEDS && is_feed(statement) {
+        return Some(ScriptRefusal::TooManyFeeds { line: number });
+    }
+    None
+}
+
+/// Whether a statement stores the records of a file.
+fn is_feed(statement: &Statement) -> bool
+    ensures { result ≡ is_feed statement.now }
+{
+    match statement {
+        Statement::Ingest { .. } => true,
+        _ => false,
+    }
+}
+
+/// Whether the first lane of a block alone may hold a statement.
+fn is_control(statement: &Statement) -> bool
+    ensures { result ≡ is_control statement.now }
+{
+    match statement {
+        Statement::Register { .. } | Statement::Deregister { .. } | Statement::Checkpoint => true,
+        _ => false,
+    }
+}
+
+/// The statement that a line words.
+fn read_statement(
+    alloc: Global,
+    number: u64,
+    statement_line: StatementLine,
+) -> Result<Statement, ScriptRefusal>
+    ensures read { IfOk result (Reads statement_line) }
+    ensures refused { IfErr result (UnlessMemory (IsNoDefinition statement_line number)) }
+{
+    match statement_line {
+        StatementLine::Register { name, source } => read_register(alloc, number, name, source),
+        StatementLine::Deregister { name } => Ok(Statement::Deregister { name }),
+        StatementLine::Ingest { form, header, file } => Ok(Statement::Ingest {
+            form,
+            header,
+            file,
+        }),
+        StatementLine::Scan { look } => Ok(scan(look)),
+        StatementLine::Explain { look } => Ok(explain(look)),
+        StatementLine::Checkpoint => Ok(Statement::Checkpoint),
+    }
+}
+
+/// A definition that comes.
+fn read_register(
+    alloc: Global,
+    number: u64,
+    name: Text,
+    source: Bytes,
+) -> Result<Statement, ScriptRefusal>
+    ensures read { IfOk result (Reads (word.Register name source)) }
+    ensures refused { IfErr result (UnlessMemory (IsNoDefinition (word.Register name source) number)) }
+{
+    match parse_def(alloc, source.as_bytes()) {
+        Ok(def) => Ok(Statement::Register { name, def }),
+        Err(LangRefusal::OutOfMemory) => Err(ScriptRefusal::OutOfMemory),
+        Err(refusal) => Err(ScriptRefusal::Definition {
+            line: number,
+            refusal,
+        }),
+    }
+}
+
+fn scan(look: Look) -> Statement
+    ensures { Reads (word.Scan look) result }
+{
+    let Look { name, value, range } = look;
+    let Range { from, to, by } = range;
+    Statement::Scan {
+        name,
+        value,
+        from,
+        to,
+        by,
+    }
+}
+
+fn explain(look: Look) -> Statement
+    ensures { Reads (word.Explain look) result }
+{
+    let Look { name, value, range } = look;
+    let Range { from, to, by } = range;
+    Statement::Explain {
+        name,
+        value,
+        from,
+        to,
+        by,
+    }
+}

@@ -1,7 +1,0 @@
-pub mod Laws
-pub mod Line
-pub mod Options
-pub mod Request
-pub mod Sizes
-pub mod Words
-pub mod within
