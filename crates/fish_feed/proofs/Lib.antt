@@ -1,6 +1,7 @@
 pub mod Fit
 pub mod Giving
 pub mod Lists
+pub mod Long
 pub mod Opening
 pub mod Parts
 pub mod Queues

@@ -1,10 +1,11 @@
 -- Parts of a file, one more, and over longer ones.
-use Rattle.std.proofs.Common.{◌≡◌, ℕ, List, [], ◌∷◌, ◌++◌, append-nil, append_assoc, refl, sym, ap, ◌∙◌, subst, take}
-use Rattle.fish_feed.specs.Parts.{AreParts, EndsLine, IsRead, begin_after, longest_read}
+use Rattle.std.proofs.Common.{◌≡◌, ℕ, List, [], ◌∷◌, ◌++◌, append-nil, append_assoc, refl, sym, ap, ◌∙◌, subst, take, length, ◌<◌}
+use Rattle.fish_feed.specs.Parts.{AreParts, EndsLine, IsRead, IsTooLong, begin_after, longest_read}
 use Rattle.fish_lanes.specs.declared.work.Work.{Work}
 use Rattle.fish_lanes.specs.declared.work.Work.TheVariants as work
 use Rattle.fish_lines.specs.declared.resuming.Begin.{Begin}
 use Rattle.fish_lines.specs.declared.resuming.Begin.TheVariants.{After}
+use Rattle.fish_value.specs.Limits.{longest_file}
 use Rattle.fish_value.specs.declared.field.Form.{Form}
 use Rattle.fish_value.specs.declared.field.Form.TheVariants.{Json}
 
@@ -58,10 +59,12 @@ parts_then form begin name b ws part w h json line is =
 -- and all that is left after them
 pub parts_rest : (form : Form) (begin : Begin) (name b : List ℕ) (ws : List Work) (rest bytes : List ℕ) (w : Work)
     → AreParts form begin name b ws [] → bytes ≡ take longest_read rest → w ≡ work.Ingest form (begin_after begin ws) name bytes
+    → (longest_file < length rest → IsTooLong form (b ++ rest))
     → IsRead form begin name (b ++ rest) (ws ++ w ∷ [])
-parts_rest form begin name b ws rest bytes w h bytes_are is = record {
+parts_rest form begin name b ws rest bytes w h bytes_are is long = record {
   parts = ws;
   rest = rest;
   are = parts_more form begin name b ws [] rest h;
   is = ap (λ (z : Work). ws ++ z ∷ []) (is ∙ ap (work.Ingest form (begin_after begin ws) name) bytes_are);
+  long = long;
 }

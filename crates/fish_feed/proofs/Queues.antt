@@ -1,13 +1,15 @@
 -- What a lane is still to be given, one step after the other, and at the end.
 use Rattle.std.proofs.Common.{◌≡◌, ℕ, List, [], ◌∷◌, ◌++◌, append-nil, append_assoc, take, refl, sym, ap, ◌∙◌, subst}
-use Rattle.std.proofs.Common.{Option, Some, None}
-use Rattle.std.proofs.lemmas.List.{take_all}
+use Rattle.std.proofs.Common.{Option, Some, None, ◌<◌, length, length-append, arith}
+use Rattle.std.proofs.lemmas.List.{length-take, take_all}
 use Rattle.std.proofs.lemmas.Option.{same_Some}
 use Rattle.std.specs.Prelude.{IfSome, IsSome}
+use Rattle.fish_feed.proofs.Long.{read_all, too_long}
 use Rattle.fish_feed.proofs.Parts.{after_push, parts_rest, parts_then}
 use Rattle.fish_feed.proofs.Told.{told_later}
 use Rattle.fish_feed.specs.Parts.{AreParts, longest_read}
-use Rattle.fish_feed.specs.Queues.{GoesOn, HasQueue, IsDue, IsOpen, IsPartOf, IsRestOf}
+use Rattle.fish_feed.specs.OpenFiles.{IsPartOf, IsRestOf, IsStuck}
+use Rattle.fish_feed.specs.Queues.{GoesOn, HasQueue, IsDue, IsOpen}
 use Rattle.fish_feed.specs.Works.{AreDone, AreFirstOf, IsDone, IsWorkOf, Pairs}
 use Rattle.fish_feed.specs.declared.part.OpenFile.{OpenFile}
 use Rattle.fish_feed.specs.declared.queue.Todo.{Todo}
@@ -17,6 +19,7 @@ use Rattle.fish_lanes.specs.declared.work.Work.TheVariants as work
 use Rattle.fish_lines.specs.declared.resuming.Begin.{Begin}
 use Rattle.fish_lines.specs.declared.resuming.Begin.TheVariants.{Start}
 use Rattle.fish_outside.specs.Told.{Files, StillTold, Took}
+use Rattle.fish_value.specs.Limits.{longest_file}
 use Rattle.fish_script.specs.declared.script.Statement.{Statement}
 use Rattle.fish_script.specs.declared.script.Statement.TheVariants as does
 
@@ -72,6 +75,7 @@ module _ {F : Type 0} (left : F → Option (List ℕ)) where
     before = h.before;
     parts = h.parts;
     begin_is = h.begin_is;
+    room_is = h.room_is;
     file = told_later old new (λ files. IfSome (left o.feed) (λ l. files o.name ≡ Some (h.before ++ (o.rest ++ l)))) still h.file;
   }
 
@@ -87,6 +91,7 @@ module _ {F : Type 0} (left : F → Option (List ℕ)) where
         (parts_then o.form (Start h.header) o.name h.before given p.part w h.parts p.json p.line
         (p.is ∙ ap (λ (z : Begin). work.Ingest o.form z o.name p.part) h.begin_is));
     begin_is = p.begin_is ∙ sym (after_push (Start h.header) given w);
+    room_is = omega (length-append h.before p.part, h.room_is, p.room_is, arith);
     file = by told h.file;
   }
     where
@@ -113,13 +118,22 @@ module _ {F : Type 0} (left : F → Option (List ℕ)) where
       (h : IsOpen told left s given o) where
     -- given some last works, where the file is known to have these bytes
     ends_with : (rest bytes : List ℕ) (w : Work) → bytes ≡ take longest_read rest → w ≡ work.Ingest o.form o.begin o.name bytes
+        → (longest_file < length rest → IsStuck o.form o.room bytes)
         → IfSome new (λ files. files o.name ≡ Some (h.before ++ rest)) → IsDone new s (given ++ w ∷ [])
-    ends_with rest bytes w bytes_are is file = subst (λ (z : Statement). IsDone new z (given ++ w ∷ [])) (sym h.is) (
+    ends_with rest bytes w bytes_are is stuck file = subst (λ (z : Statement). IsDone new z (given ++ w ∷ [])) (sym h.is) (
       h.before ++ rest,
       parts_rest o.form (Start h.header) o.name h.before given rest bytes w h.parts bytes_are
-          (is ∙ ap (λ (z : Begin). work.Ingest o.form z o.name bytes) h.begin_is),
+          (is ∙ ap (λ (z : Begin). work.Ingest o.form z o.name bytes) h.begin_is)
+          (λ long. too_long o.form h.before rest o.room h.room_is (subst (IsStuck o.form o.room) bytes_are (stuck long)) long),
       file,
     )
+
+    -- some last works may be given, where the file is known to have these bytes
+    ends_somehow : (rest : List ℕ) → IfSome new (λ files. files o.name ≡ Some (h.before ++ rest))
+        → (more : List Work) × IsDone new s (given ++ more)
+    ends_somehow rest file =
+        let all = read_all o.form (Start h.header) o.name h.before given o.room h.parts h.room_is rest in
+        (all.0, subst (λ (z : Statement). IsDone new z (given ++ all.0)) (sym h.is) (h.before ++ rest, all.1, file))
 
     -- what the file has, where it is still told
     file_has : (files : Files) → new ≡ Some files → (l : List ℕ) → left o.feed ≡ Some l
@@ -138,13 +152,14 @@ module _ {F : Type 0} (left : F → Option (List ℕ)) where
         known : (files : Files) → new ≡ Some files
             → (l : List ℕ) × (left o.feed ≡ Some l) × (r.bytes ≡ take longest_read (o.rest ++ l)) → IsDone new s (given ++ w ∷ [])
         known files new_is k = ends_with (o.rest ++ k.0) r.bytes w k.2 r.is
+            (λ long. r.stuck (omega (ap length k.2, length-take longest_read (o.rest ++ k.0), long, arith)))
             (subst (λ (z : Option Files). IfSome z (λ f. f o.name ≡ Some (h.before ++ (o.rest ++ k.0)))) (sym new_is)
             (file_has files new_is k.0 k.1))
 
         by : (n : Option Files) → new ≡ n → (x : Option (List ℕ)) → left u.feed ≡ x
             → IfSome x (λ _. (l : List ℕ) × (left o.feed ≡ Some l) × (r.bytes ≡ take longest_read (o.rest ++ l)))
             → IsDone new s (given ++ w ∷ [])
-        by None new_is x left_is all = ends_with r.bytes r.bytes w (sym (take_all longest_read r.bytes r.few)) r.is
+        by None new_is x left_is all = ends_with r.bytes r.bytes w (sym (take_all longest_read r.bytes r.few)) r.is r.stuck
             (subst (λ (z : Option Files). IfSome z (λ f. f o.name ≡ Some (h.before ++ r.bytes))) (sym new_is) tt)
         by (Some files) new_is None left_is all = absurd (
             let told_now : IsSome (left u.feed) = feed (subst IsSome (sym new_is) refl) in
@@ -156,25 +171,16 @@ module _ {F : Type 0} (left : F → Option (List ℕ)) where
     pub open_end : (IsSome new → IsSome (left o.feed)) → (more : List Work) × IsDone new s (given ++ more)
     open_end feed = by new refl (left o.feed) refl
       where
-        last : List ℕ → Work
-        last rest = work.Ingest o.form o.begin o.name (take longest_read rest)
-
         by : (n : Option Files) → new ≡ n → (x : Option (List ℕ)) → left o.feed ≡ x → (more : List Work) × IsDone new s (given ++ more)
-        by None new_is x left_is = (
-          last o.rest ∷ [],
-          ends_with o.rest (take longest_read o.rest) (last o.rest) refl refl
-              (subst (λ (z : Option Files). IfSome z (λ f. f o.name ≡ Some (h.before ++ o.rest))) (sym new_is) tt),
-        )
+        by None new_is x left_is = ends_somehow o.rest
+            (subst (λ (z : Option Files). IfSome z (λ f. f o.name ≡ Some (h.before ++ o.rest))) (sym new_is) tt)
         by (Some files) new_is None left_is = absurd (
             let told_now : IsSome (left o.feed) = feed (subst IsSome (sym new_is) refl) in
             let bad : IsSome {T = List ℕ} None = subst IsSome left_is told_now in
             cc)
-        by (Some files) new_is (Some l) left_is = (
-          last (o.rest ++ l) ∷ [],
-          ends_with (o.rest ++ l) (take longest_read (o.rest ++ l)) (last (o.rest ++ l)) refl refl
-              (subst (λ (z : Option Files). IfSome z (λ f. f o.name ≡ Some (h.before ++ (o.rest ++ l)))) (sym new_is)
-              (file_has files new_is l left_is)),
-        )
+        by (Some files) new_is (Some l) left_is = ends_somehow (o.rest ++ l)
+            (subst (λ (z : Option Files). IfSome z (λ f. f o.name ≡ Some (h.before ++ (o.rest ++ l)))) (sym new_is)
+            (file_has files new_is l left_is))
 
   -- ---- statements that are to be given
 

@@ -3,15 +3,18 @@ use Rattle.std.proofs.Common.{◌≡◌, ◌≤◌, ◌<◌, ◌+◌, ℕ, zero,
 use Rattle.std.proofs.Common.{length, take, refl}
 use Rattle.std.proofs.Common.{sym, ap, ◌∙◌, subst, Option, Some, None, arith}
 use Rattle.std.proofs.lemmas.List.{take_all}
+use Rattle.std.proofs.lemmas.Option.{same_Some}
 use Rattle.std.specs.Prelude.{IfSome}
 use Rattle.fish_feed.specs.Parts.{longest_read}
-use Rattle.fish_feed.specs.Queues.{CanRead, HasRead, IsCutOff, IsPartOf, IsRestOf}
+use Rattle.fish_feed.specs.OpenFiles.{CanRead, GivesPart, HasRead, IsCutOff, IsPartOf, IsRestOf, IsStuck}
 use Rattle.fish_feed.specs.declared.part.OpenFile.{OpenFile}
+use Rattle.fish_feed.specs.declared.part.Part.{Part}
 use Rattle.fish_lanes.specs.declared.work.Work.{Work}
 use Rattle.fish_lanes.specs.declared.work.Work.TheVariants as work
 use Rattle.fish_outside.proofs.ToldLemmas.{Took_trans}
 use Rattle.fish_outside.specs.Causes.{Rose}
 use Rattle.fish_outside.specs.Told.{IsAtEnd, Took}
+use Rattle.fish_value.specs.declared.field.Form.{Form}
 
 -- as many as there are of the front
 take_front : {A : Type 0} (n : ℕ) (xs ys : List A) → length xs ≡ n → take n (xs ++ ys) ≡ xs
@@ -63,7 +66,52 @@ module _ {F : Type 0} (left : F → Option (List ℕ)) where
     form_is = c.form_is ∙ h.form_is;
     begin_is = c.begin_is;
     name_is = c.name_is ∙ h.name_is;
-    less = subst (λ (n : ℕ). u.room < n) h.room_is c.less;
+    room_is = c.room_is ∙ h.room_is;
+  }
+
+  -- a part was given once bytes had come
+  part_later : (o m u : OpenFile F) (w : Work) → HasRead left o m → IsPartOf left m w u → IsPartOf left o w u
+  part_later o m u w h p = record {
+    part = p.part;
+    more = h.more ++ p.more;
+    json = sym h.form_is ∙ p.json;
+    line = p.line;
+    took = Took_trans (left o.feed) (left m.feed) (left u.feed) h.more p.more h.took p.took;
+    cut = sym (append_assoc o.rest h.more p.more) ∙ ap (λ (z : List ℕ). z ++ p.more) (sym h.rest_is) ∙ p.cut;
+    is = p.is ∙ (λ i. work.Ingest (h.form_is i) (h.begin_is i) (h.name_is i) p.part);
+    form_is = p.form_is ∙ h.form_is;
+    begin_is = p.begin_is;
+    name_is = p.name_is ∙ h.name_is;
+    room_is = p.room_is ∙ h.room_is;
+  }
+
+  -- or all that was left
+  rest_later : (o m u : OpenFile F) (w : Work) → HasRead left o m → IsRestOf left m w u → IsRestOf left o w u
+  rest_later o m u w h r = record {
+    bytes = r.bytes;
+    few = r.few;
+    is = r.is ∙ (λ i. work.Ingest (h.form_is i) (h.begin_is i) (h.name_is i) r.bytes);
+    stuck = λ long. subst (λ (z : Form × ℕ). IsStuck z.0 z.1 r.bytes) (λ i. (h.form_is i, h.room_is i)) (r.stuck long);
+    all = by (left u.feed) (left m.feed) h.took r.all;
+  }
+    where
+      by : (y x : Option (List ℕ)) → Took (left o.feed) x h.more
+          → IfSome y (λ _. (l : List ℕ) × (x ≡ Some l) × (r.bytes ≡ take longest_read (m.rest ++ l)))
+          → IfSome y (λ _. (l : List ℕ) × (left o.feed ≡ Some l) × (r.bytes ≡ take longest_read (o.rest ++ l)))
+      by None x took all = tt
+      by (Some y) None took all = absurd (let bad : None ≡ Some all.0 = all.1 in cc)
+      by (Some y) (Some z) took all = (
+        h.more ++ z,
+        took,
+        all.2 ∙ ap (λ (k : List ℕ). take longest_read (m.rest ++ k)) (sym (same_Some z all.0 all.1))
+            ∙ ap (λ (k : List ℕ). take longest_read (k ++ z)) h.rest_is
+            ∙ ap (take longest_read) (append_assoc o.rest h.more z),
+      )
+
+  pub gives_later : (o m u : OpenFile F) (p : Part) → HasRead left o m → GivesPart left m p u → GivesPart left o p u
+  gives_later o m u p h g = record {
+    one = λ is. part_later o m u p.work h (g.one is);
+    rest = λ is. rest_later o m u p.work h (g.rest is);
   }
 
   module _ (o m u : OpenFile F) (w : Work) (h : HasRead left o m) (few : length m.rest ≤ longest_read)
@@ -75,11 +123,12 @@ module _ {F : Type 0} (left : F → Option (List ℕ)) where
     All x = IfSome x (λ z. (l : List ℕ) × (left o.feed ≡ Some l) × (m.rest ≡ take longest_read (o.rest ++ l)))
 
     -- all that came is the rest, where no more comes
-    pub rest_at_end : IsAtEnd (left m.feed) → IsRestOf left o w u
-    rest_at_end end = record {
+    pub rest_at_end : IsAtEnd (left m.feed) → length m.rest < longest_read → IsRestOf left o w u
+    rest_at_end end less = record {
       bytes = m.rest;
       few = few;
       is = is_here;
+      stuck = λ many. absurd (omega (less, many, arith));
       all = subst (λ (z : F). All (left z)) (sym feed) (by (left m.feed) h.took end);
     }
       where
@@ -94,11 +143,12 @@ module _ {F : Type 0} (left : F → Option (List ℕ)) where
         )
 
     -- or where no more may be given at once
-    pub rest_full : longest_read ≤ length m.rest → IsRestOf left o w u
-    rest_full many = record {
+    pub rest_full : longest_read ≤ length m.rest → IsStuck m.form m.room m.rest → IsRestOf left o w u
+    rest_full many stuck = record {
       bytes = m.rest;
       few = few;
       is = is_here;
+      stuck = λ _. subst (λ (z : Form × ℕ). IsStuck z.0 z.1 m.rest) (λ i. (h.form_is i, h.room_is i)) stuck;
       all = subst (λ (z : F). All (left z)) (sym feed) (by (left m.feed) h.took);
     }
       where

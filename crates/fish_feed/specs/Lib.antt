@@ -1,3 +1,4 @@
+pub mod OpenFiles
 pub mod Parts
 pub mod Queues
 pub mod Reading

@@ -2,11 +2,11 @@
 -- still gives, and faults how often it failed.
 use Rattle.std.specs.Prelude.{ℕ, ◌≡◌, ◌+◌, ◌<◌, ◌≤◌, ◌⊎◌, List, [], ◌∷◌, ◌++◌, Bool, true, false}
 use Rattle.std.specs.Prelude.{Option, None, Some, IfSome, IsSome}
-use Rattle.std.specs.Prelude.{length, map, slice_get, take, ⊤, ◌≢◌}
-use Rattle.fish_feed.specs.Parts.{AreParts, EndsLine, begin_after, longest_read}
+use Rattle.std.specs.Prelude.{length, map, slice_get, ⊤, ◌≢◌}
+use Rattle.fish_feed.specs.OpenFiles.{CanRead}
+use Rattle.fish_feed.specs.Parts.{AreParts, begin_after, longest_in_parts}
 use Rattle.fish_feed.specs.Works.{AreDone, IsWorkOf, Pairs}
 use Rattle.fish_feed.specs.declared.part.OpenFile.{OpenFile}
-use Rattle.fish_feed.specs.declared.part.Part.{Part}
 use Rattle.fish_feed.specs.declared.queue.Queue.{Queue}
 use Rattle.fish_feed.specs.declared.queue.Todo.{Todo}
 use Rattle.fish_feed.specs.declared.queue.Todo.TheVariants as todo
@@ -14,90 +14,13 @@ use Rattle.fish_lanes.specs.Registering.{IsAcceptable}
 use Rattle.fish_lanes.specs.Running.{IsShared}
 use Rattle.fish_lanes.specs.declared.lane.Lane.{Lane}
 use Rattle.fish_lanes.specs.declared.work.Work.{Work}
-use Rattle.fish_lanes.specs.declared.work.Work.TheVariants as work
-use Rattle.fish_lines.specs.declared.resuming.Begin.{Begin}
-use Rattle.fish_lines.specs.declared.resuming.Begin.TheVariants.{After, Start}
-use Rattle.fish_outside.specs.Causes.{Rose}
-use Rattle.fish_outside.specs.Told.{Files, Took}
+use Rattle.fish_lines.specs.declared.resuming.Begin.TheVariants.{Start}
+use Rattle.fish_outside.specs.Told.{Files}
 use Rattle.fish_script.specs.Runnable.{AreRunnable}
 use Rattle.fish_script.specs.Script.{AreFree}
 use Rattle.fish_script.specs.declared.script.Statement.{Statement}
 use Rattle.fish_script.specs.declared.script.Statement.TheVariants as does
 use Rattle.fish_value.specs.declared.field.Form.{Form}
-use Rattle.fish_value.specs.declared.field.Form.TheVariants.{Json}
-
--- ---- a file that is being read
-
--- nothing was read of it
-pub record IsUnread {F : Type 0} (form : Form) (begin : Begin) (name : List ℕ) (feed : F) (o : OpenFile F)
-    : Type 0 where
-  pub form_is : o.form ≡ form
-  pub begin_is : o.begin ≡ begin
-  pub name_is : o.name ≡ name
-  pub feed_is : o.feed ≡ feed
-  pub rest_is : o.rest ≡ []
-
--- it holds no more than may be given at once, and a read that failed was counted
-pub record CanRead {F : Type 0} (faults : F → ℕ) (o : OpenFile F) : Type 0 where
-  pub short : length o.rest ≤ longest_read
-  pub failed : o.failed ≡ true → Rose 0 (faults o.feed)
-
--- whole lines of the bytes that came were cut off
-pub record IsCutOff {F : Type 0} (o u : OpenFile F) (w : Work) : Type 0 where
-  pub part : List ℕ
-  pub json : o.form ≡ Json
-  pub line : EndsLine part
-  pub cut : o.rest ≡ part ++ u.rest
-  pub is : w ≡ work.Ingest o.form o.begin o.name part
-  pub form_is : u.form ≡ o.form
-  pub begin_is : u.begin ≡ After
-  pub name_is : u.name ≡ o.name
-  pub feed_is : u.feed ≡ o.feed
-  pub failed_is : u.failed ≡ o.failed
-  pub less : u.room < o.room
-
--- these bytes came, and are kept after the others
-pub record HasRead {F : Type 0} (left : F → Option (List ℕ)) (o u : OpenFile F) : Type 0 where
-  pub more : List ℕ
-  pub took : Took (left o.feed) (left u.feed) more
-  pub rest_is : u.rest ≡ o.rest ++ more
-  pub form_is : u.form ≡ o.form
-  pub begin_is : u.begin ≡ o.begin
-  pub name_is : u.name ≡ o.name
-  pub room_is : u.room ≡ o.room
-
--- so many bytes came, unless a read failed
-abbrev pub IsFull : {F : Type 0} → ℕ → OpenFile F → Type 0
-IsFull wanted o = o.failed ≡ false → wanted ≤ length o.rest
-
--- a part of it was given, perhaps once more bytes had come
-pub record IsPartOf {F : Type 0} (left : F → Option (List ℕ)) (o : OpenFile F) (w : Work) (u : OpenFile F)
-    : Type 0 where
-  pub part : List ℕ
-  pub more : List ℕ
-  pub json : o.form ≡ Json
-  pub line : EndsLine part
-  pub took : Took (left o.feed) (left u.feed) more
-  pub cut : o.rest ++ more ≡ part ++ u.rest
-  pub is : w ≡ work.Ingest o.form o.begin o.name part
-  pub form_is : u.form ≡ o.form
-  pub begin_is : u.begin ≡ After
-  pub name_is : u.name ≡ o.name
-  pub less : u.room < o.room
-
--- all that was left of it was given, up to so many bytes
-pub record IsRestOf {F : Type 0} (left : F → Option (List ℕ)) (o : OpenFile F) (w : Work) (u : OpenFile F)
-    : Type 0 where
-  pub bytes : List ℕ
-  pub few : length bytes ≤ longest_read
-  pub is : w ≡ work.Ingest o.form o.begin o.name bytes
-  pub all : IfSome (left u.feed) (λ _. (l : List ℕ) × (left o.feed ≡ Some l)
-      × (bytes ≡ take longest_read (o.rest ++ l)))
-
-pub record GivesPart {F : Type 0} (left : F → Option (List ℕ)) (o : OpenFile F) (p : Part) (u : OpenFile F)
-    : Type 0 where
-  pub one : p.last ≡ false → IsPartOf left o p.work u
-  pub rest : p.last ≡ true → IsRestOf left o p.work u
 
 -- ---- statements that are to be given
 
@@ -109,6 +32,7 @@ pub record IsOpen {F : Type 0} (told : Option Files) (left : F → Option (List 
   pub before : List ℕ
   pub parts : AreParts o.form (Start header) o.name before given []
   pub begin_is : o.begin ≡ begin_after (Start header) given
+  pub room_is : length before + o.room ≡ longest_in_parts
   pub file : IfSome told (λ files. IfSome (left o.feed) (λ l. files o.name ≡ Some (before ++ (o.rest ++ l))))
 
 -- the statement is to be given

@@ -2,17 +2,17 @@
 
 ghost use Rattle.std.specs.Prelude.{◌≡◌, ◌<◌, ◌≤◌, [], None, length, take, true, false};
 ghost use Rattle.std.specs.Prelude.{IfOk, IfSome, IsErrOf, IsSome, OnErr, OnOk};
-ghost use Rattle.fish_feed.specs.Parts.{EndsLine, longest_read};
-ghost use Rattle.fish_feed.specs.Queues.{CanRead, GivesPart, HasRead, IsCutOff, IsFull, IsUnread};
+ghost use Rattle.fish_feed.specs.Parts.{EndsLine, HasNoEnd, longest_read};
+ghost use Rattle.fish_feed.specs.OpenFiles.{CanRead, GivesPart, HasRead, IsCutOff, IsFull, IsStuck, IsUnread};
 ghost use Rattle.fish_lanes.specs.declared.work.Work.TheVariants as work;
-ghost use Rattle.fish_outside.specs.Causes.{Rose};
-ghost use Rattle.fish_outside.specs.Told.{IsAtEnd};
+ghost use Rattle.fish_outside.specs.Causes.{Rose, counted_on};
+ghost use Rattle.fish_outside.specs.Told.{IsAtEnd, StillTold};
 ghost use Rattle.fish_outside.specs.declared.fault.FeedRefusal.TheVariants as refusal;
 
 use crate::file::{CHUNK, read_more, zeros};
 use fish_lanes::Work;
 use fish_lines::Begin;
-use fish_outside::{FeedRefusal, Source};
+use fish_outside::{FeedRefusal, Host, Source};
 use fish_value::{Bytes, Form, Text};
 use memchr::memrchr;
 use std::alloc::{AllocError, Global};
@@ -20,6 +20,10 @@ use std::mem::replace;
 
 /// How many bytes of a file are given at once at most: one more than are stored at once.
 const LONGEST_READ: usize = 67_108_865;
+
+/// How many bytes of files a lane is given at once, or a line more: what memory a long file takes, and how often lanes
+/// wait for each other.
+pub const AT_ONCE: usize = 1_048_576;
 
 /// How many bytes of a file in JSON are given in parts at most.
 const LONGEST_IN_PARTS: u64 = 68_719_476_736;
@@ -110,7 +114,8 @@ fn read_until<F: Source>(
     requires wanted { wanted ≤ longest_read }
     ensures some { IfOk result (λ found. IfSome found (λ p. GivesPart F.left file.old p file.new)) }
     ensures none { IfOk result (λ found. found ≡ None → HasRead F.left file.old file.new) }
-    ensures full { IfOk result (λ found. found ≡ None → IsFull wanted file.new) }
+    ensures full { IfOk result (λ found. found ≡ None → IsFull wanted file.new
+        × IsStuck file.new.form file.new.room file.new.rest) }
     ensures can { OnOk result (CanRead F.faults file.new) }
     ensures told { IsSome (F.left file.new.feed) → IsSome (F.left file.old.feed) }
     ensures cause { IsErrOf result refusal.Failed → Rose 0 (F.faults file.new.feed) }
@@ -135,7 +140,8 @@ fn read_ahead<F: Source>(
     requires can { CanRead F.faults file.old }
     requires wanted { wanted ≤ longest_read }
     ensures read { OnOk result (HasRead F.left file.old file.new) }
-    ensures end { IfOk result (λ end. end ≡ true → IsAtEnd (F.left file.new.feed)) }
+    ensures end { IfOk result (λ end. end ≡ true → IsAtEnd (F.left file.new.feed)
+        × (length file.new.rest < wanted)) }
     ensures full { IfOk result (λ end. end ≡ false → IsFull wanted file.new) }
     ensures can { OnOk result (CanRead F.faults file.new) }
     ensures told { IsSome (F.left file.new.feed) → IsSome (F.left file.old.feed) }
@@ -165,6 +171,8 @@ fn read_ahead<F: Source>(
 fn cut_off<F: Source>(alloc: Global, file: &mut OpenFile<F>) -> Result<Option<Work>, AllocError>
     ensures some { IfOk result (λ found. IfSome found (IsCutOff file.old file.new)) }
     ensures none { IfOk result (λ found. found ≡ None → file.new ≡ file.old) }
+    ensures stuck { IfOk result (λ found. found ≡ None
+        → IsStuck file.old.form file.old.room file.old.rest) }
     ensures err { OnErr result (file.new ≡ file.old) }
 {
     if file.form != Form::Json {
@@ -195,6 +203,7 @@ fn cut_off<F: Source>(alloc: Global, file: &mut OpenFile<F>) -> Result<Option<Wo
 fn line_end(b: &[u8]) -> Option<usize>
     ensures within { IfSome result (λ n. (0 < n) × (n ≤ length b.now)) }
     ensures line { IfSome result (λ n. EndsLine (take n b.now)) }
+    ensures none { result ≡ None → HasNoEnd b.now }
 {
     let last = memrchr(b'\n', b)?;
     Some(last + 1)
@@ -215,4 +224,22 @@ fn rest_of<F: Source>(alloc: Global, file: &mut OpenFile<F>) -> Result<Work, All
         name,
         file: rest,
     })
+}
+
+/// Gives the feed of a file back.
+pub fn close_file<H: Host>(host: &mut H, file: OpenFile<H::Feed>)
+where
+    H::Feed: Drop,
+    ensures told { StillTold (H.files host.old) (H.files host.new) }
+    ensures feed { IsSome (H.files host.new) → IsSome (H.Feed.left file.feed) }
+    ensures faults { H.faults host.new ≡ counted_on (H.faults host.old) (H.Feed.faults file.feed) }
+{
+    let OpenFile {
+        name,
+        feed,
+        rest,
+        ..
+    } = file;
+    drop((name, rest));
+    host.done(feed);
 }

@@ -10,19 +10,14 @@ ghost use Rattle.fish_feed.specs.Queues.{both, left_of, left_of_all, works_of};
 ghost use Rattle.fish_feed.specs.Reading.{HasReadCause};
 ghost use Rattle.fish_feed.specs.Works.{AreDone, AreFirstOf, Pairs, Triples};
 ghost use Rattle.fish_lanes.specs.declared.work.Work.{Work as Does};
-ghost use Rattle.fish_outside.specs.Causes.{counted_on};
 ghost use Rattle.fish_outside.specs.Told.{Files, StillTold};
 ghost use Rattle.fish_script.specs.declared.script.Statement.{Statement};
 
-use crate::part::{OpenFile, Part, read_part};
+use crate::part::{AT_ONCE, OpenFile, Part, close_file, read_part};
 use fish_lanes::{Lane, Work};
 use fish_outside::{FeedRefusal, Host, Source};
 use std::alloc::Global;
 use std::collections::VecDeque;
-
-/// How many bytes of files a lane is given at once, or a line more: what memory a long file takes, and how often lanes
-/// wait for each other.
-const AT_ONCE: usize = 1_048_576;
 
 /// A statement that is to be given.
 #[derive(Drop)]
@@ -223,32 +218,14 @@ where
             Ok(work)
         }
         Ok(Part { work, last: true }) => {
-            give_back(host, file);
+            close_file(host, file);
             Ok(work)
         }
         Err(refusal) => {
-            give_back(host, file);
+            close_file(host, file);
             Err(refusal)
         }
     }
-}
-
-/// Gives a feed back.
-fn give_back<H: Host>(host: &mut H, file: OpenFile<H::Feed>)
-where
-    H::Feed: Drop,
-    ensures told { StillTold (H.files host.old) (H.files host.new) }
-    ensures feed { IsSome (H.files host.new) → IsSome (H.Feed.left file.feed) }
-    ensures faults { H.faults host.new ≡ counted_on (H.faults host.old) (H.Feed.faults file.feed) }
-{
-    let OpenFile {
-        name,
-        feed,
-        rest,
-        ..
-    } = file;
-    drop((name, rest));
-    host.done(feed);
 }
 
 /// Whether lanes have something to be given.
@@ -294,7 +271,7 @@ where
     ensures later { H.faults host.old ≤ H.faults host.new }
 {
     match queue.current.take() {
-        Some(file) => give_back(host, file),
+        Some(file) => close_file(host, file),
         None => {}
     }
 }

@@ -22,7 +22,7 @@ use Rattle.fish_report.specs.declared.item.ScanCause.{ScanCause}
 use Rattle.fish_report.specs.declared.item.ScanCause.TheVariants as cause
 use Rattle.fish_rule.specs.declared.view.Key.{Key}
 use Rattle.fish_rule.specs.declared.view.View.{View}
-use Rattle.fish_scan.proofs.Preparing.{unprepared_refused}
+use Rattle.fish_scan.proofs.PlannedScans.{unplanned_refused}
 use Rattle.fish_scan.specs.Across.{IsAnswerWith, IsRefusedWith}
 use Rattle.fish_scan.specs.Matching.{Finds}
 use Rattle.fish_scan.specs.Older.{selectable}
@@ -74,12 +74,12 @@ refused_fits v u known ask refusal.OutOfMemory version why h is at = absurd cc
 pub refused_older : (v u : View) (known : Known) (ask : Ask) (r : ScanRefusal) (version : ℕ) (why : ScanCause)
     → IsRefusedWith v u known ask r → cause_of r ≡ Some why → version ≡ version_of known → IsRefusedAt v u ask version why
 refused_older v u known ask (refusal.UnknownName n) version why h is at =
-    refused_fits v u known ask (refusal.UnknownName n) version why (unprepared_refused v u known ask (refusal.UnknownName n) h) is at
+    refused_fits v u known ask (refusal.UnknownName n) version why (unplanned_refused v u known ask (refusal.UnknownName n) h) is at
 refused_older v u known ask (refusal.EmptyRange from to) version why h is at =
-    refused_fits v u known ask (refusal.EmptyRange from to) version why (unprepared_refused v u known ask (refusal.EmptyRange from to) h)
+    refused_fits v u known ask (refusal.EmptyRange from to) version why (unplanned_refused v u known ask (refusal.EmptyRange from to) h)
     is at
 refused_older v u known ask (refusal.NotCovered from to) version why h is at =
-    refused_fits v u known ask (refusal.NotCovered from to) version why (unprepared_refused v u known ask (refusal.NotCovered from to) h)
+    refused_fits v u known ask (refusal.NotCovered from to) version why (unplanned_refused v u known ask (refusal.NotCovered from to) h)
     is at
 refused_older v u known ask (refusal.ColdRange base) version why h is at = absurd cc
 refused_older v u known ask refusal.DiskFault version why h is at = absurd cc

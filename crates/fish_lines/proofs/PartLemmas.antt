@@ -19,17 +19,17 @@ onto_first-parts : (c : ℕ) (parts : List (List ℕ)) → Parts parts → Parts
 onto_first-parts c parts p = record { first = c ∷ p.first; more = p.more; are = ap (onto_first c) p.are }
 
 -- the parts at a byte whose test is known
-parts-at : (c : ℕ) (x : List ℕ) (end : Bool) → is_line_end c ≡ end
+pub parts_at : (c : ℕ) (x : List ℕ) (end : Bool) → is_line_end c ≡ end
     → slice_split is_line_end (c ∷ x)
     ≡ (if end then [] ∷ slice_split is_line_end x else onto_first c (slice_split is_line_end x))
-parts-at c x end h = ap (λ b. cond b ([] ∷ slice_split is_line_end x) (onto_first c (slice_split is_line_end x))) h
+parts_at c x end h = ap (λ b. cond b ([] ∷ slice_split is_line_end x) (onto_first c (slice_split is_line_end x))) h
 
 parts-cons : (c : ℕ) (x : List ℕ) (end : Bool) → is_line_end c ≡ end → Parts (slice_split is_line_end x)
     → Parts (slice_split is_line_end (c ∷ x))
-parts-cons c x true h p = record { first = []; more = slice_split is_line_end x; are = parts-at c x true h }
+parts-cons c x true h p = record { first = []; more = slice_split is_line_end x; are = parts_at c x true h }
 parts-cons c x false h p =
     let q = onto_first-parts c (slice_split is_line_end x) p in
-    record { first = q.first; more = q.more; are = parts-at c x false h ∙ q.are }
+    record { first = q.first; more = q.more; are = parts_at c x false h ∙ q.are }
 
 -- bytes have a first part
 pub parts_of_bytes : (x : List ℕ) → Parts (slice_split is_line_end x)
@@ -59,7 +59,7 @@ last-append (part ∷ next ∷ front) first more = last-append (next ∷ front) 
 onto_first-append : (c : ℕ) (p : List ℕ) (first : List ℕ) (more : List (List ℕ)) → is_line_end c ≡ false
     → onto_first c (ended (first ∷ more) ++ slice_split is_line_end (last_part (first ∷ more) ++ p))
     ≡ ended (onto_first c (first ∷ more)) ++ slice_split is_line_end (last_part (onto_first c (first ∷ more)) ++ p)
-onto_first-append c p first [] h = sym (parts-at c (first ++ p) false h)
+onto_first-append c p first [] h = sym (parts_at c (first ++ p) false h)
 onto_first-append c p first (next ∷ more) h = refl
 
 -- more bytes go on with the last part
@@ -70,9 +70,9 @@ append-parts : (c : ℕ) (x p : List ℕ) (end : Bool) → is_line_end c ≡ end
     ≡ ended (slice_split is_line_end (c ∷ x))
     ++ slice_split is_line_end (last_part (slice_split is_line_end (c ∷ x)) ++ p)
 append-parts c x p true h q same =
-    rw (parts-at c (x ++ p) true h, parts-at c x true h, same, q.are) refl
+    rw (parts_at c (x ++ p) true h, parts_at c x true h, same, q.are) refl
 append-parts c x p false h q same =
-    rw (parts-at c (x ++ p) false h, parts-at c x false h, same, q.are) (onto_first-append c p q.first q.more h)
+    rw (parts_at c (x ++ p) false h, parts_at c x false h, same, q.are) (onto_first-append c p q.first q.more h)
 
 pub slice_split-append : (x p : List ℕ)
     → slice_split is_line_end (x ++ p)
@@ -92,10 +92,10 @@ last-cut part rest = let q = parts_of_bytes rest in rw q.are refl
 -- bytes behind which an LF comes no more are the front of one part
 no_end-cons : (c : ℕ) (x : List ℕ) (end : Bool) → is_line_end c ≡ end → slice_split is_line_end (c ∷ x) ≡ (c ∷ x) ∷ []
     → Parts (slice_split is_line_end x) → (end ≡ false) × (slice_split is_line_end x ≡ x ∷ [])
-no_end-cons c x true h one q = let wrong = sym (parts-at c x true h) ∙ one in cc
+no_end-cons c x true h one q = let wrong = sym (parts_at c x true h) ∙ one in cc
 no_end-cons c x false h one q =
     let same : onto_first c (q.first ∷ q.more) ≡ (c ∷ x) ∷ [] = ap (onto_first c) (sym q.are)
-    ∙ sym (parts-at c x false h) ∙ one in
+    ∙ sym (parts_at c x false h) ∙ one in
     (refl, q.are ∙ cc)
 
 -- the first part of a text goes on with bytes in front that have no LF
@@ -105,7 +105,7 @@ pub no_end-front : (t p first : List ℕ) (more : List (List ℕ)) → slice_spl
 no_end-front [] p first more one two = two
 no_end-front (c ∷ t) p first more one two =
     let here = no_end-cons c t (is_line_end c) refl one (parts_of_bytes t) in
-    parts-at c (t ++ p) false here.0 ∙ ap (onto_first c) (no_end-front t p first more here.1 two)
+    parts_at c (t ++ p) false here.0 ∙ ap (onto_first c) (no_end-front t p first more here.1 two)
 
 -- two texts without an LF have none together
 pub no_end-append : (t p : List ℕ) → slice_split is_line_end t ≡ t ∷ [] → slice_split is_line_end p ≡ p ∷ []

@@ -3,3 +3,4 @@ pub mod Fates
 pub mod Laws
 pub mod Stores
 pub mod Samples
+pub mod Selecting

@@ -11,10 +11,10 @@ use Rattle.fish_run.specs.declared.fault.RunFault.{RunFault}
 use Rattle.fish_run.specs.declared.fault.RunFault.TheVariants as ran
 use Rattle.fish_script.specs.declared.refusal.ScriptRefusal.{ScriptRefusal}
 use Rattle.fish_script.specs.declared.refusal.ScriptRefusal.TheVariants as script
-use Rattle.fish_words.specs.declared.refusal.UsageCause.{UsageCause}
-use Rattle.fish_words.specs.declared.refusal.UsageCause.TheVariants as cause
-use Rattle.fish_words.specs.declared.refusal.WordsRefusal.{WordsRefusal}
-use Rattle.fish_words.specs.declared.refusal.WordsRefusal.TheVariants as words
+use Rattle.fish_command.specs.declared.refusal.UsageCause.{UsageCause}
+use Rattle.fish_command.specs.declared.refusal.UsageCause.TheVariants as cause
+use Rattle.fish_command.specs.declared.refusal.CommandRefusal.{CommandRefusal}
+use Rattle.fish_command.specs.declared.refusal.CommandRefusal.TheVariants as command
 use Rattle.fish_program.specs.declared.fault.Fault.{Fault}
 use Rattle.fish_program.specs.declared.fault.Fault.TheVariants as fault
 use Rattle.fish_program.specs.declared.fault.Place.{Place}
@@ -99,9 +99,9 @@ told_fault fault.Memory = Some fault.Memory
 -- ---- the faults of refusals
 
 -- what a refusal of the words ends a run by
-abbrev pub words_fault : WordsRefusal → Fault
-words_fault (words.Usage cause) = fault.Usage cause
-words_fault words.OutOfMemory = fault.Memory
+abbrev pub command_fault : CommandRefusal → Fault
+command_fault (command.Usage cause) = fault.Usage cause
+command_fault command.OutOfMemory = fault.Memory
 
 -- what a refusal of the script's text ends a run by
 abbrev pub script_fault : ScriptRefusal → Fault

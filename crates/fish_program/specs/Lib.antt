@@ -6,3 +6,4 @@ pub mod Outcome
 pub mod Runs
 pub mod Sample
 pub mod Stores
+pub mod within

@@ -9,8 +9,8 @@ use Rattle.fish_recover.specs.declared.refusal.Asked.{Asked}
 use Rattle.fish_recover.specs.declared.refusal.OpenRefusal.TheVariants as opening
 use Rattle.fish_run.specs.declared.fault.RunFault.TheVariants as ran
 use Rattle.fish_script.specs.declared.script.Block.{Block}
-use Rattle.fish_words.specs.Words as words
-use Rattle.fish_program.specs.Answer.{IsAnswer, answer_of}
+use Rattle.fish_command.specs.Command as command
+use Rattle.fish_program.specs.Answer.{Answers, IsAnswer}
 use Rattle.fish_program.specs.Runs.{HasScript, IsDamagedRun, IsStoppedRun, IsUnread, IsWholeRun}
 use Rattle.fish_program.specs.Sample.{EndsSample}
 use Rattle.fish_program.specs.Stores.{IsUnopened, shape_asked}
@@ -31,13 +31,13 @@ status_of fault.Memory refused = 8
 
 -- a run ends by usage exactly where the words are no command, and with that cause; only want of memory may come before
 abbrev pub IsUsage : List (List ℕ) → Fault → Type 0
-IsUsage line (fault.Usage cause) = words.IsCommand line (Err cause)
-IsUsage line (fault.Script refusal) = words.IsSomeCommand line
-IsUsage line (fault.Store refusal) = words.IsSomeCommand line
-IsUsage line fault.Disk = words.IsSomeCommand line
-IsUsage line fault.None = words.IsSomeCommand line
-IsUsage line fault.Input = words.IsSomeCommand line
-IsUsage line fault.Output = words.IsSomeCommand line
+IsUsage line (fault.Usage cause) = command.IsCommand line (Err cause)
+IsUsage line (fault.Script refusal) = command.IsSomeCommand line
+IsUsage line (fault.Store refusal) = command.IsSomeCommand line
+IsUsage line fault.Disk = command.IsSomeCommand line
+IsUsage line fault.None = command.IsSomeCommand line
+IsUsage line fault.Input = command.IsSomeCommand line
+IsUsage line fault.Output = command.IsSomeCommand line
 IsUsage line fault.Memory = ⊤
 
 -- nothing was done: neither is a byte written, nor is there a report or a log
@@ -48,26 +48,27 @@ pub record DidNothing (old new : Option (List ℕ)) (o : Outcome) : Type 0 where
 
 -- ---- `select`
 
--- the report was made: where the files are still told it is the answer, and it has a refusal where its item is one
-pub record HasAnswer (answer : List ℕ → Item) (file : List ℕ) (told : Option Files) (o : Outcome) : Type 0 where
-  pub is : IfSome told (λ files. IsAnswer answer file files o.report.items)
+-- the report was made: where the files are still told it answers, and it has a refusal where its item is one
+pub record HasAnswer (answers : List ℕ → Item → Type 0) (file : List ℕ) (told : Option Files) (o : Outcome)
+    : Type 0 where
+  pub is : IfSome told (λ files. IsAnswer answers file files o.report.items)
   pub refused : o.refused ≡ list_any is_refusal o.report.items
   pub remains : o.remains ≡ None
 
 -- how a selection from a file ends by each fault: the whole text of the report was written, or a first part of it where
 -- the output failed, and else nothing
-abbrev pub EndsSelect : (List ℕ → Item) → List ℕ → Option Files → Option (List ℕ) → Option (List ℕ) → Outcome
+abbrev pub EndsSelect : (List ℕ → Item → Type 0) → List ℕ → Option Files → Option (List ℕ) → Option (List ℕ) → Outcome
     → Fault → Type 0
-EndsSelect answer file told old new o fault.None =
-    HasAnswer answer file told o × Gained old new (report_text o.report.items)
-EndsSelect answer file told old new o fault.Output =
-    HasAnswer answer file told o × GainedPart old new (report_text o.report.items)
-EndsSelect answer file told old new o fault.Input = DidNothing old new o
-EndsSelect answer file told old new o fault.Memory = DidNothing old new o
-EndsSelect answer file told old new o (fault.Usage cause) = ⊥
-EndsSelect answer file told old new o (fault.Script refusal) = ⊥
-EndsSelect answer file told old new o (fault.Store refusal) = ⊥
-EndsSelect answer file told old new o fault.Disk = ⊥
+EndsSelect answers file told old new o fault.None =
+    HasAnswer answers file told o × Gained old new (report_text o.report.items)
+EndsSelect answers file told old new o fault.Output =
+    HasAnswer answers file told o × GainedPart old new (report_text o.report.items)
+EndsSelect answers file told old new o fault.Input = DidNothing old new o
+EndsSelect answers file told old new o fault.Memory = DidNothing old new o
+EndsSelect answers file told old new o (fault.Usage cause) = ⊥
+EndsSelect answers file told old new o (fault.Script refusal) = ⊥
+EndsSelect answers file told old new o (fault.Store refusal) = ⊥
+EndsSelect answers file told old new o fault.Disk = ⊥
 
 -- ---- `run`
 
@@ -106,17 +107,17 @@ EndsRun content images since moment disk disk' asked file told old new o =
 
 -- how a command ends: a `select` and a `sample` don't touch the disk
 abbrev pub Ends : {D : Type 0} → (D → Option (List ℕ)) → (D → List ℕ → Type 0) → (D → ℕ → List ℕ → Type 0)
-    → (D → ℕ) → D → D → words.Asked → Option Files → Option (List ℕ) → Option (List ℕ) → Outcome → Type 0
-Ends content images since moment disk disk' (words.select def value form header file) told old new o =
-    (disk' ≡ disk) × EndsSelect (answer_of def value form header file) file told old new o o.fault
-Ends content images since moment disk disk' (words.run store script pages bits) told old new o =
+    → (D → ℕ) → D → D → command.Asked → Option Files → Option (List ℕ) → Option (List ℕ) → Outcome → Type 0
+Ends content images since moment disk disk' (command.select def value form header file) told old new o =
+    (disk' ≡ disk) × EndsSelect (Answers def value form header file) file told old new o o.fault
+Ends content images since moment disk disk' (command.run store script pages bits) told old new o =
     EndsRun content images since moment disk disk' (shape_asked pages bits) script told old new o
-Ends content images since moment disk disk' (words.sample number) told old new o =
+Ends content images since moment disk disk' (command.sample number) told old new o =
     (disk' ≡ disk) × EndsSample number old new o o.fault
 
 -- the words are none, and this names why; or memory ran out before they were read
 abbrev pub IsNoCommand : List (List ℕ) → Fault → Type 0
-IsNoCommand line (fault.Usage cause) = words.IsCommand line (Err cause)
+IsNoCommand line (fault.Usage cause) = command.IsCommand line (Err cause)
 IsNoCommand line fault.Memory = ⊤
 IsNoCommand line (fault.Script refusal) = ⊥
 IsNoCommand line (fault.Store refusal) = ⊥
@@ -129,6 +130,6 @@ IsNoCommand line fault.Output = ⊥
 abbrev pub IsEnd : {D : Type 0} → (D → Option (List ℕ)) → (D → List ℕ → Type 0) → (D → ℕ → List ℕ → Type 0)
     → (D → ℕ) → D → D → List (List ℕ) → Option Files → Option (List ℕ) → Option (List ℕ) → Outcome → Type 0
 IsEnd content images since moment disk disk' line told old new o =
-    ((asked : words.Asked) × words.IsCommand line (Ok asked)
+    ((asked : command.Asked) × command.IsCommand line (Ok asked)
     × Ends content images since moment disk disk' asked told old new o)
     ⊎ (IsNoCommand line o.fault × (disk' ≡ disk) × DidNothing old new o)

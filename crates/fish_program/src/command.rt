@@ -3,7 +3,7 @@
 ghost use Rattle.std.specs.Prelude.{◌≡◌};
 ghost use Rattle.fish_outside.specs.Causes.{Rose};
 ghost use Rattle.fish_outside.specs.Told.{StillTold};
-ghost use Rattle.fish_words.specs.Words.{asked_of};
+ghost use Rattle.fish_command.specs.Command.{asked_of};
 ghost use Rattle.fish_program.specs.Outcome.{Ends, IsEnd, IsUsage, status_of};
 
 use crate::fault::Fault;
@@ -11,11 +11,11 @@ use crate::outcome::Outcome;
 use crate::sample::answer_sample;
 use crate::script::answer_run;
 use crate::selection::answer_select;
+use fish_command::{Command, parse_command};
 use fish_disk::Disk;
 use fish_lanes::{Gate, OpenGate};
 use fish_outside::{Host, Sink};
 use fish_value::Text;
-use fish_words::{Command, read_words};
 use std::alloc::Global;
 use std::thread::Threads;
 
@@ -68,7 +68,7 @@ where
     ensures output { result.fault ≡ Fault.Output → Rose (W.faults out.old) (W.faults out.new) }
     ensures disk { result.fault ≡ Fault.Disk → Rose (D.faults disk.old) (D.faults disk.new) }
 {
-    match read_words(alloc, words) {
+    match parse_command(alloc, words) {
         Ok(command) => {
             let outcome = answer(rt, alloc, &command, host, disk, out, gate);
             drop(command);

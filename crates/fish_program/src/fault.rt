@@ -3,13 +3,13 @@
 ghost use Rattle.std.specs.Prelude.{◌≡◌, ◌++◌};
 ghost use Rattle.fish_program.specs.Faults.{definition_kind, number_text, place_text, script_kind};
 
+use fish_command::{CommandRefusal, UsageCause};
 use fish_lang::LangRefusal;
 use fish_outside::FeedRefusal;
 use fish_recover::OpenRefusal;
 use fish_rule::Shape;
 use fish_run::RunFault;
 use fish_script::ScriptRefusal;
-use fish_words::{UsageCause, WordsRefusal};
 use std::alloc::AllocError;
 use std::fmt;
 
@@ -182,16 +182,16 @@ fn kind_of(refusal: LangRefusal) -> (&'static str, Option<u64>)
     }
 }
 
-impl From<WordsRefusal> for Fault {
+impl From<CommandRefusal> for Fault {
     ghost use Rattle.std.specs.Prelude.{◌≡◌};
-    ghost use Rattle.fish_program.specs.Faults.{words_fault};
+    ghost use Rattle.fish_program.specs.Faults.{command_fault};
 
-    ghost from_gives = { λ refusal made. made ≡ words_fault refusal };
+    ghost from_gives = { λ refusal made. made ≡ command_fault refusal };
 
-    fn from(refusal: WordsRefusal) -> Fault {
+    fn from(refusal: CommandRefusal) -> Fault {
         match refusal {
-            WordsRefusal::Usage(cause) => Fault::Usage(cause),
-            WordsRefusal::OutOfMemory => Fault::Memory,
+            CommandRefusal::Usage(cause) => Fault::Usage(cause),
+            CommandRefusal::OutOfMemory => Fault::Memory,
         }
     }
 }

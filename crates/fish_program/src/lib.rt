@@ -8,6 +8,7 @@ mod command;
 mod fault;
 mod law;
 mod outcome;
+mod parts;
 mod sample;
 mod script;
 mod selection;

@@ -7,9 +7,9 @@ ghost use Rattle.fish_program.specs.Sample.{EndsSample};
 
 use crate::fault::Fault;
 use crate::outcome::{Outcome, no_report};
+use fish_command::Sample;
 use fish_outside::Sink;
 use fish_sample::{SampleFault, sample};
-use fish_words::Sample;
 use std::alloc::Global;
 use std::thread::Threads;
 

@@ -13,6 +13,7 @@ ghost use Rattle.fish_program.specs.Stores.{shape_asked};
 
 use crate::fault::Fault;
 use crate::outcome::{Outcome, no_report};
+use fish_command::Run;
 use fish_disk::Disk;
 use fish_feed::read_file;
 use fish_lanes::Gate;
@@ -21,7 +22,6 @@ use fish_recover::{Asked, open_store};
 use fish_run::{Ran, run_script};
 use fish_script::{Block, MAX_SCRIPT, Script, law_scripts_can_run, parse_script};
 use fish_value::Text;
-use fish_words::Run;
 use std::alloc::Global;
 use std::thread::Threads;
 

@@ -1,26 +1,22 @@
-//! The command `select`: the records of a file on which a definition has a value.
+//! The command `select`: the records of a file on which a definition has a value, as a report.
 
 ghost use Rattle.std.specs.Prelude.{◌≡◌, ◌∷◌, [], IfErr, IfOk, IfSome, None};
 ghost use Rattle.std.specs.List.{list_any};
 ghost use Rattle.fish_outside.specs.Causes.{Rose};
 ghost use Rattle.fish_outside.specs.Told.{StillTold};
 ghost use Rattle.fish_report.specs.ReportText.{is_refusal, report_text};
-ghost use Rattle.fish_program.specs.Answer.{IsAnswer, answer_to};
+ghost use Rattle.fish_program.specs.Answer.{AnswersTo, IsAnswer};
 ghost use Rattle.fish_program.specs.Faults.{IsStepFault};
 ghost use Rattle.fish_program.specs.Outcome.{EndsSelect, status_of};
 
 use crate::fault::Fault;
 use crate::outcome::Outcome;
-use fish_feed::read_file;
+use crate::parts::select_file;
+use fish_command::Select;
 use fish_outside::{Host, Sink, write_whole};
 use fish_report::{Item, Items, Report, report_text};
-use fish_select::select;
-use fish_value::{Bytes, Text};
-use fish_words::Select;
+use fish_value::Text;
 use std::alloc::{AllocError, Global};
-
-/// The most bytes of a file that is selected from.
-const MAX_FILE: usize = 67_108_864;
 
 /// Runs a `select`: its report is made, and then written.
 pub(crate) fn answer_select<H: Host, W: Sink>(
@@ -29,8 +25,10 @@ pub(crate) fn answer_select<H: Host, W: Sink>(
     host: &mut H,
     out: &mut W,
 ) -> Outcome
+where
+    H::Feed: Drop,
     ensures status { result.status ≡ status_of result.fault result.refused }
-    ensures ended { EndsSelect (answer_to command.now) command.now.file (H.files host.new) (W.written out.old)
+    ensures ended { EndsSelect (AnswersTo command.now) command.now.file (H.files host.new) (W.written out.old)
         (W.written out.new) result result.fault }
     ensures told { StillTold (H.files host.old) (H.files host.new) }
     ensures input { result.fault ≡ Fault.Input → Rose (H.faults host.old) (H.faults host.new) }
@@ -73,15 +71,16 @@ struct Prepared {
 
 /// Reads the file of a command, and makes the report and its text.
 fn prepare<H: Host>(alloc: Global, command: &Select, host: &mut H) -> Result<Prepared, Fault>
+where
+    H::Feed: Drop,
     ensures answer { IfOk result (λ prepared. IfSome (H.files host.new)
-        (λ files. IsAnswer (answer_to command.now) command.now.file files prepared.report.items)) }
+        (λ files. IsAnswer (AnswersTo command.now) command.now.file files prepared.report.items)) }
     ensures text { IfOk result (λ prepared. prepared.text ≡ report_text prepared.report.items) }
     ensures told { StillTold (H.files host.old) (H.files host.new) }
-
     ensures refused { IfErr result (IsStepFault (H.faults host.old) (H.faults host.new)) }
 {
-    let bytes = read_file(alloc, host, &command.file, MAX_FILE + 1)?;
-    let report = report_of(alloc, command, bytes)?;
+    let item = select_file(alloc, command, host)?;
+    let report = report_of(alloc, item)?;
     match report_text(alloc, &report) {
         Ok(text) => Ok(Prepared { report, text }),
         Err(want) => {
@@ -91,11 +90,10 @@ fn prepare<H: Host>(alloc: Global, command: &Select, host: &mut H) -> Result<Pre
     }
 }
 
-/// The report of a command for the first bytes of its file: all of them, or one more than it may have.
-fn report_of(alloc: Global, command: &Select, bytes: Bytes) -> Result<Report, AllocError>
-    ensures { IfOk result (λ report. report.items ≡ answer_to command.now bytes ∷ []) }
+/// The report of one item.
+fn report_of(alloc: Global, item: Item) -> Result<Report, AllocError>
+    ensures { IfOk result (λ report. report.items ≡ item ∷ []) }
 {
-    let item = item_of(alloc, command, bytes.as_bytes())?;
     let mut items = Items::new(alloc);
     match items.push(item) {
         Ok(()) => Ok(Report { items }),
@@ -104,23 +102,4 @@ fn report_of(alloc: Global, command: &Select, bytes: Bytes) -> Result<Report, Al
             Err(want)
         }
     }
-}
-
-/// What is told of them.
-fn item_of(alloc: Global, command: &Select, b: &[u8]) -> Result<Item, AllocError>
-    ensures { IfOk result (λ item. item ≡ answer_to command.now b.now) }
-{
-    if b.len() > MAX_FILE {
-        return Ok(Item::SelectTooLong {
-            file: command.file.again(alloc)?,
-        });
-    }
-    select(
-        alloc,
-        &command.def,
-        &command.value,
-        command.form,
-        command.header,
-        b,
-    )
 }

@@ -27,7 +27,7 @@ with_more s r (item.IngestTooLong file stored refused) = item.IngestTooLong file
 with_more s r x = x
 
 -- the item of the first parts of a file and that of the next one, in one; once the log was full, and no new table was
--- begun, it stays
+-- begun, it stays: nothing is after a mark, so no later part stores anything, and only lines before it are counted
 abbrev pub joined : Bool → Item → Item → Item
 joined fresh (item.Ingested file stored refused) y = with_more stored refused y
 joined true (item.IngestFull file line lines end stored refused) y = with_more stored refused y

@@ -7,7 +7,6 @@ pub mod Rolls
 pub mod Rounds
 pub mod Running
 pub mod Runs
-pub mod Saying
 pub mod Steps
 pub mod Tables
 pub mod Works

@@ -2,4 +2,5 @@
 pub mod Counting
 pub mod Going
 pub mod Parts
+pub mod Saying
 pub mod Turning

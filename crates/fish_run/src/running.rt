@@ -62,11 +62,12 @@ struct Lasts {
 /// The gate is told where each lane of a block is.
 ///
 /// What was written is the text of the blocks' items: all of it where no fault came, all of it before the block in
-/// which a file couldn't be read, and else a first part. Where the disk's content is told in the end, these items are true of a
-/// whole log: it begins with that for which the disk stood as the store was opened, and ends with what is left. A block
-/// runs in one round, and in one more for each table that its lanes found full, as long as something of it can be
-/// committed: then a new table is begun, and the file that was cut goes on there. A crash leaves all of the log after a
-/// run without a fault, and else a part that has all that a checkpoint told.
+/// which a file couldn't be read, and else a first part. Where the disk's content is told in the end, these items are
+/// true of a whole log: it begins with that for which the disk stood as the store was opened, and ends with what is
+/// left. A block runs in rounds: one for each part of its files that lanes are given, and one more for each table that
+/// its lanes found full, as long as something of it can be committed: then a new table is begun, and the file that was
+/// cut goes on there. A crash leaves all of the log after a run without a fault, and else a part that has all that a
+/// checkpoint told.
 pub fn run_script<R: Threads + Sync, H: Host, D: Disk + Send, W: Sink, G: Gate + Sync>(
     rt: &R,
     alloc: Global,

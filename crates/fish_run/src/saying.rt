@@ -4,7 +4,7 @@ ghost use Rattle.std.specs.Prelude.{◌≡◌, ◌++◌, ◌∷◌, [], Bool, fa
 ghost use Rattle.fish_lanes.specs.Controlling.{bound_items};
 ghost use Rattle.fish_report.specs.declared.item.Item.{Item};
 ghost use Rattle.fish_run.specs.Joins.{first_joined, is_part, joined, nothing_said, said_after, sum_of, with_more};
-ghost use Rattle.fish_run.specs.Saying.{TakesPart};
+ghost use Rattle.fish_run.specs.within.Saying.{TakesPart};
 
 use fish_lanes::{Boundary, Lane};
 use fish_report::{Item, Items};
@@ -153,7 +153,8 @@ fn joined(fresh: bool, part: Item, item: Item) -> Item
     }
 }
 
-/// Counts that are added up, up to the greatest of 32 bits. A file has far fewer lines.
+/// Counts that are added up, up to the greatest of 32 bits: a file of the greatest length can have more lines that are
+/// none.
 fn sum_of(a: u32, b: u32) -> u32
     ensures { result ≡ sum_of a b }
 {

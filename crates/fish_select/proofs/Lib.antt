@@ -1,3 +1,4 @@
 pub mod LineLemmas
+pub mod PartLemmas
 mod RowLemmas
 mod SelectionLemmas

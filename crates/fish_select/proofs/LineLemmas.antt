@@ -13,8 +13,8 @@ use Rattle.fish_psf.proofs.RecordLemmas.{json_fields}
 use Rattle.fish_value.specs.declared.field.Form.TheVariants.{Json}
 use Rattle.fish_value.specs.declared.value.Value.{Value}
 use Rattle.fish_select.specs.within.Selection.{is_selected}
-use Rattle.fish_select.specs.within.Tally.{kept_if, with_outcome, with_record}
-use Rattle.fish_select.specs.declared.tally.Tally.{Tally}
+use Rattle.fish_select.specs.within.Found.{kept_if, with_outcome, with_record}
+use Rattle.fish_select.specs.declared.found.Found.{Found}
 
 -- a line is a record: it is a text, and its payload is the line
 pub record IsRecord (line : List ℕ) : Type 0 where
@@ -30,7 +30,7 @@ pub payload_of_none : (line : List ℕ) → record_of line ≡ None → payload_
 payload_of_none line h = rw h
 
 -- a line that was read counts as its payload
-pub line_counts : (def : Definition) (v : Value) (t : Tally) (line : List ℕ) (d : Data) (kept : Option (List ℕ))
+pub line_counts : (def : Definition) (v : Value) (t : Found) (line : List ℕ) (d : Data) (kept : Option (List ℕ))
     → record_of line ≡ Some d → kept ≡ kept_if (has_value (values def (object_fields d)) v) line
     → with_record t kept ≡ with_outcome (is_selected def v Json) t (payload_of line)
 line_counts def v t line d kept h same =

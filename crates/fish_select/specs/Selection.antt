@@ -1,7 +1,7 @@
 -- What `select` answers for a file, from the whole list of its bytes.
-use Rattle.std.specs.Prelude.{ℕ, List, [], length, map, Bool, Option}
+use Rattle.std.specs.Prelude.{ℕ, ◌≡◌, List, [], length, map, reverse, Option}
 use Rattle.fish_lang.specs.Definition.{Definition}
-use Rattle.fish_lines.specs.File.{accepted, outcomes, refused}
+use Rattle.fish_lines.specs.File.{accepted, refused}
 use Rattle.fish_psf.specs.Records.{evaluation}
 use Rattle.fish_psf.specs.Select.{Entry, select, stored}
 use Rattle.fish_report.specs.declared.item.Item.{Item}
@@ -9,6 +9,7 @@ use Rattle.fish_report.specs.declared.item.Item.TheVariants as item
 use Rattle.fish_value.specs.declared.field.Form.{Form}
 use Rattle.fish_value.specs.declared.row.Row.{Row}
 use Rattle.fish_value.specs.declared.value.Value.{Value}
+use Rattle.fish_select.specs.declared.found.Found.{Found}
 
 -- payloads of a form as a log: each is stored, at its place
 abbrev pub log_of : Form → List (List ℕ) → List Entry
@@ -22,6 +23,13 @@ rows_of def v form payloads = select (log_of form payloads) (evaluation def) v 0
 unfoldable pub selection_of : Definition → Value → Form → List (Option (List ℕ)) → Item
 selection_of def v form os = item.Select (rows_of def v form (accepted os)) (length (accepted os)) (refused os)
 
--- the same of a whole file, behind the header of its rows, where there is to be one
-abbrev pub selection : Definition → Value → Form → Bool → List ℕ → Item
-selection def v form header b = selection_of def v form (outcomes form header b)
+-- the most records of a file that have numbers
+abbrev pub most_records : ℕ
+most_records = 4294967296
+
+-- this was found in these lines or rows
+pub record HasFound (def : Definition) (v : Value) (form : Form) (os : List (Option (List ℕ))) (found : Found)
+    : Type 0 where
+  pub rows : reverse found.rows ≡ rows_of def v form (accepted os)
+  pub count : found.count ≡ length (accepted os)
+  pub refused : found.refused ≡ refused os

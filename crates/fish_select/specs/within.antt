@@ -1,3 +1,3 @@
 -- What private clauses cite, and no promise rests on.
 pub mod Selection
-pub mod Tally
+pub mod Found

@@ -1,10 +1,11 @@
-//! What `select` answers for the bytes of a file of either form: each line or row is read once, and
-//! evaluated while it is read.
+//! What `select` answers for a file of either form, from its parts: each line or row is read once, and evaluated while
+//! it is read.
 #![tactic(auto)]
 
+mod found;
 mod lines;
 mod rows;
 mod selection;
-mod tally;
 
-pub use selection::select;
+pub use found::{Found, SelectRefusal};
+pub use selection::{Query, begin_select, end_select, select_part};

@@ -1,16 +1,19 @@
 //! What the lines of a file in JSON Lines give.
 
-ghost use Rattle.std.specs.Prelude.{◌≡◌, ◌+◌, ◌<◌, ◌≤◌, ◌^◌, length, IfOk, IsUtf8, OnOk};
-ghost use Rattle.fish_json.specs.Lines.{outcomes, payload_of};
+ghost use Rattle.std.specs.Prelude.{◌≡◌, ◌+◌, ◌<◌, ◌≤◌, ◌^◌, ◌∷◌, [], length, map, IfOk, IsErrOf, IsUtf8, OnOk};
+ghost use Rattle.fish_json.specs.Lines.{payload_of};
 ghost use Rattle.fish_lang.specs.Definition.{definition_of};
+ghost use Rattle.fish_lines.specs.File.{accepted};
+ghost use Rattle.fish_lines.specs.Left.{left};
 ghost use Rattle.fish_psf.specs.Eval.{values};
 ghost use Rattle.fish_psf.specs.Select.{has_value};
+ghost use Rattle.fish_select.specs.Selection.{most_records};
+ghost use Rattle.fish_select.specs.declared.found.SelectRefusal.TheVariants.{TooMany};
+ghost use Rattle.fish_select.specs.within.Found.{kept_if, with_outcome, with_outcomes};
 ghost use Rattle.fish_select.specs.within.Selection.{is_selected};
-ghost use Rattle.fish_select.specs.within.Tally.{kept_if, nothing, with_outcome, with_outcomes};
-ghost use Rattle.fish_value.specs.Limits.{longest_file};
 ghost use Rattle.fish_value.specs.declared.field.Form.TheVariants.{Json};
 
-use crate::tally::Tally;
+use crate::found::{Found, SelectRefusal};
 use fish_json::{JsonReader, RecordRefusal};
 use fish_lang::Def;
 use fish_lines::Lines;
@@ -18,26 +21,29 @@ use fish_psf::{Parsed, gives};
 use fish_value::{Text, Value};
 use std::alloc::{AllocError, Global};
 
-/// What all lines of a file give. One reader is kept for all of them, and only the lines that are
-/// selected are copied.
-#[tactic(auto, unfolding(fish_json::specs::Lines::outcomes, fish_json::specs::Lines::outcomes_of))]
-pub(crate) fn tally_of_lines(
+/// Adds what the lines give that are left. One reader is kept for all of them, and only the lines that are selected are
+/// copied.
+pub(crate) fn add_lines(
     alloc: Global,
     def: &Def,
     value: &Value,
-    b: &[u8],
-) -> Result<Tally, AllocError>
-    requires { length b.now ≤ longest_file }
-    ensures { IfOk result (λ tally. tally
-        ≡ with_outcomes (is_selected (definition_of def.now) value.now Json) nothing (outcomes b.now)) }
+    lines: &mut Lines<'_>,
+    found: &mut Found,
+) -> Result<(), SelectRefusal>
+    requires { found.old.count + found.old.refused + length lines.old.rest.now < 2 ^ 63 }
+    ensures added { OnOk result (found.new
+        ≡ with_outcomes (is_selected (definition_of def.now) value.now Json) found.old
+        (map payload_of (left lines.old))) }
+    ensures rises { OnOk result (found.new.count + found.new.refused
+        ≤ found.old.count + found.old.refused + length lines.old.rest.now) }
+    ensures many { IsErrOf result TooMany
+        → most_records < found.old.count + length (accepted (map payload_of (left lines.old))) }
 {
-    let mut tally = Tally::new(alloc);
     let mut reader = JsonReader::new(alloc);
-    let mut lines = Lines::new(b);
     while let Some(line) = lines.next_line() {
-        add_line(alloc, &mut reader, def, value, line, &mut tally)?;
+        add_line(alloc, &mut reader, def, value, line, found)?;
     }
-    Ok(tally)
+    Ok(())
 }
 
 /// Counts one more line.
@@ -48,23 +54,25 @@ fn add_line(
     def: &Def,
     value: &Value,
     line: &[u8],
-    tally: &mut Tally,
-) -> Result<(), AllocError>
-    requires { tally.old.count + tally.old.refused < 2 ^ 28 }
-    ensures counted { OnOk result (tally.new
-        ≡ with_outcome (is_selected (definition_of def.now) value.now Json) tally.old (payload_of line.now)) }
+    found: &mut Found,
+) -> Result<(), SelectRefusal>
+    requires { found.old.count + found.old.refused < 2 ^ 63 }
+    ensures counted { OnOk result (found.new
+        ≡ with_outcome (is_selected (definition_of def.now) value.now Json) found.old (payload_of line.now)) }
     ensures rises { OnOk result
-        (tally.new.count + tally.new.refused ≡ tally.old.count + tally.old.refused + 1) }
+        (found.new.count + found.new.refused ≡ found.old.count + found.old.refused + 1) }
+    ensures many { IsErrOf result TooMany
+        → most_records < found.old.count + length (accepted (payload_of line.now ∷ [])) }
 {
     match reader.read(alloc, line) {
-        Ok(found) => {
-            let kept = kept_line(alloc, def, value, &found, line);
-            drop(found);
-            tally.add(kept?)
+        Ok(parsed) => {
+            let kept = kept_line(alloc, def, value, &parsed, line);
+            drop(parsed);
+            found.add(kept?)
         }
-        Err(RecordRefusal::OutOfMemory) => Err(AllocError),
+        Err(RecordRefusal::OutOfMemory) => Err(SelectRefusal::OutOfMemory),
         Err(_) => {
-            tally.refused += 1;
+            found.refused += 1;
             Ok(())
         }
     }
@@ -75,14 +83,14 @@ fn kept_line<R: Parsed>(
     alloc: Global,
     def: &Def,
     value: &Value,
-    found: &R,
+    parsed: &R,
     line: &[u8],
 ) -> Result<Option<Text>, AllocError>
     requires { IsUtf8 line.now }
     ensures { IfOk result (λ kept. kept
-        ≡ kept_if (has_value (values (definition_of def.now) (R.fields found.now)) value.now) line.now) }
+        ≡ kept_if (has_value (values (definition_of def.now) (R.fields parsed.now)) value.now) line.now) }
 {
-    if !gives(alloc, def, found, value)? {
+    if !gives(alloc, def, parsed, value)? {
         return Ok(None);
     }
     match Text::from_bytes(alloc, line)? {

@@ -1,64 +1,47 @@
 //! What the rows of a file in CSV give.
 
-ghost use Rattle.std.specs.Prelude.{◌≡◌, ◌+◌, ◌<◌, ◌≤◌, ◌^◌, length, IfOk, IsSome, OnOk, Some};
+ghost use Rattle.std.specs.Prelude.{◌≡◌, ◌+◌, ◌<◌, ◌≤◌, ◌^◌, length, IfOk, IsErrOf, IsSome, OnOk, Some};
 ghost use Rattle.fish_csv.specs.Left.{left};
 ghost use Rattle.fish_csv.specs.Reading.{row_of};
-ghost use Rattle.fish_csv.specs.Rows.{outcomes};
 ghost use Rattle.fish_lang.specs.Definition.{definition_of};
+ghost use Rattle.fish_lines.specs.File.{accepted};
+ghost use Rattle.fish_select.specs.Selection.{most_records};
+ghost use Rattle.fish_select.specs.declared.found.SelectRefusal.TheVariants.{TooMany};
+ghost use Rattle.fish_select.specs.within.Found.{kept_if, with_outcome, with_outcomes};
 ghost use Rattle.fish_select.specs.within.Selection.{is_selected};
-ghost use Rattle.fish_select.specs.within.Tally.{kept_if, nothing, with_outcome, with_outcomes};
-ghost use Rattle.fish_value.specs.Limits.{longest_file};
 ghost use Rattle.fish_value.specs.declared.field.Form.TheVariants.{Csv};
 
-use crate::tally::Tally;
-use fish_csv::{CsvReader, CsvRecordRefusal, CsvRefusal, RowTexts};
+use crate::found::{Found, SelectRefusal};
+use fish_csv::{CsvReader, CsvRecordRefusal, RowTexts};
 use fish_lang::Def;
 use fish_psf::gives;
 use fish_value::{Text, Value};
 use std::alloc::{AllocError, Global};
 
-/// What all rows of a file give, with `header` those behind the first.
-pub(crate) fn tally_of_rows(
-    alloc: Global,
-    def: &Def,
-    value: &Value,
-    header: bool,
-    b: &[u8],
-) -> Result<Tally, AllocError>
-    requires { length b.now ≤ longest_file }
-    ensures { IfOk result (λ tally. tally
-        ≡ with_outcomes (is_selected (definition_of def.now) value.now Csv) nothing (outcomes header b.now)) }
-{
-    let mut rows = match RowTexts::new(alloc, b, header) {
-        Ok(rows) => rows,
-        Err(CsvRefusal::OutOfMemory) => return Err(AllocError),
-        Err(CsvRefusal::FileTooLong) => unreachable!(),
-    };
-    let tally = tally_of_left(alloc, def, value, &mut rows);
-    drop(rows);
-    tally
-}
-
-/// What all rows give that are left of a file. One reader is kept for all of them.
-fn tally_of_left(
+/// Adds what the rows give that are left. One reader is kept for all of them.
+pub(crate) fn add_rows(
     alloc: Global,
     def: &Def,
     value: &Value,
     rows: &mut RowTexts<'_>,
-) -> Result<Tally, AllocError>
-    requires { length rows.old.rest.now ≤ longest_file }
-    ensures { IfOk result (λ tally. tally
-        ≡ with_outcomes (is_selected (definition_of def.now) value.now Csv) nothing (left rows.old)) }
+    found: &mut Found,
+) -> Result<(), SelectRefusal>
+    requires { found.old.count + found.old.refused + length rows.old.rest.now < 2 ^ 63 }
+    ensures added { OnOk result (found.new
+        ≡ with_outcomes (is_selected (definition_of def.now) value.now Csv) found.old (left rows.old)) }
+    ensures rises { OnOk result (found.new.count + found.new.refused
+        ≤ found.old.count + found.old.refused + length rows.old.rest.now) }
+    ensures many { IsErrOf result TooMany
+        → most_records < found.old.count + length (accepted (left rows.old)) }
 {
-    let mut tally = Tally::new(alloc);
     let mut reader = CsvReader::new(alloc);
     while let Some(row) = rows.next_row(alloc)? {
         match row {
-            Some(text) => add_row(alloc, &mut reader, def, value, text, &mut tally)?,
-            None => tally.refused += 1,
+            Some(text) => add_row(alloc, &mut reader, def, value, text, found)?,
+            None => found.refused += 1,
         }
     }
-    Ok(tally)
+    Ok(())
 }
 
 /// Counts one more row that is a record.
@@ -68,17 +51,18 @@ fn add_row(
     def: &Def,
     value: &Value,
     text: Text,
-    tally: &mut Tally,
-) -> Result<(), AllocError>
+    found: &mut Found,
+) -> Result<(), SelectRefusal>
     requires is { IsSome (row_of text) }
-    requires room { tally.old.count + tally.old.refused < 2 ^ 28 }
-    ensures counted { OnOk result (tally.new
-        ≡ with_outcome (is_selected (definition_of def.now) value.now Csv) tally.old (Some text)) }
+    requires room { found.old.count + found.old.refused < 2 ^ 63 }
+    ensures counted { OnOk result (found.new
+        ≡ with_outcome (is_selected (definition_of def.now) value.now Csv) found.old (Some text)) }
     ensures rises { OnOk result
-        (tally.new.count + tally.new.refused ≡ tally.old.count + tally.old.refused + 1) }
+        (found.new.count + found.new.refused ≡ found.old.count + found.old.refused + 1) }
+    ensures many { IsErrOf result TooMany → most_records ≤ found.old.count }
 {
     let kept = kept_row(alloc, reader, def, value, text)?;
-    tally.add(kept)
+    found.add(kept)
 }
 
 /// The text of a row, where it has the value.

@@ -1,6 +1,5 @@
 -- A block whose lanes are given their statements in turn, over files that are told: before it, at its end, and where a
 -- fault stopped it.
---
 use Rattle.std.specs.Prelude.{ℕ, ◌≡◌, ◌+◌, List, [], Option, length}
 use Rattle.fish_feed.specs.Queues.{IsQueue, MayEnd}
 use Rattle.fish_feed.specs.Works.{AreDone, Pairs, Triples}
@@ -25,8 +24,8 @@ pub record AreNewLanes (count : ℕ) (lanes : List Lane) : Type 0 where
   pub new : At (λ i x. IsNewLane (i + 1) x × (x.works ≡ [])) lanes
 
 -- the lanes of these queues were given nothing yet
-abbrev pub AreUngiven : {F : Type 0} → Option Files → (F → Option (List ℕ)) → List (List Statement) → List
-    (Queue F) → Type 0
+abbrev pub AreUngiven
+    : {F : Type 0} → Option Files → (F → Option (List ℕ)) → List (List Statement) → List (Queue F) → Type 0
 AreUngiven told left texts queues = Pairs (λ ss q. IsQueue told left ss [] q) texts queues
 
 -- all that the lanes of these queues are to do was given, and its rounds have ended

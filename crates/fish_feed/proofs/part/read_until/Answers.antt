@@ -1,8 +1,9 @@
 -- All that came is the rest of the file, where it has no more.
-use Rattle.std.proofs.Common.{rules, ◌≡◌, Option, subst, true}
+use Rattle.std.proofs.Common.{rules, ◌≡◌, ◌<◌, Option, arith, length, subst, true}
+use Rattle.fish_feed.specs.Parts.{longest_read}
 use Rattle.std.specs.Prelude.{IfSome}
 use Rattle.fish_feed.proofs.Reading.{can_cut, can_none, rest_at_end}
-use Rattle.fish_feed.specs.Queues.{IsCutOff}
+use Rattle.fish_feed.specs.OpenFiles.{IsCutOff}
 use Rattle.fish_lanes.specs.declared.work.Work.{Work}
 use Rattle.fish_feed.proofs.part.read_until.Goals as goal
 
@@ -13,10 +14,12 @@ returns-then-branch-clause-some g c =
     let u = c.rest_of.new.file in
     let end : c.in_ok-read_ahead.field-0 ≡ true = search rules in
     let e = c.in_ok-read_ahead.ensures in
+    let few : c.in_ok-read_ahead.field-0 ≡ true → length m.rest < longest_read =
+    λ is. let less = (e.end is).1 in let most = c.requires.wanted in omega (less, most, arith) in
     record {
       one = λ last. absurd cc;
       rest = λ last. rest_at_end source.left c.args.file.now m u c.in_ok-work.work e.read e.can.short c.in_ok-work.ensures.work
-          c.rest_of.ensures.feed (e.end end);
+          c.rest_of.ensures.feed (e.end end).0 (few end);
     }
 
 pub returns-then-branch-clause-can : goal.returns-then-branch-clause-can

@@ -8,7 +8,7 @@ pub returns-in-Ok-true-clause-given : goal.returns-in-Ok-true-clause-given
 returns-in-Ok-true-clause-given g c = λ ss given h.
     let left = g.H.Feed.Source.left in
     let told = g.H.Host.files c.args.host.now in
-    let new = g.H.Host.files c.give_back.new.host in
+    let new = g.H.Host.files c.close_file.new.host in
     let todos = c.args.queue.now.todos.items in
     let o = c.in-Some.file in
     let w = c.in-Ok-true.field-0.work in
@@ -16,9 +16,9 @@ returns-in-Ok-true-clause-given g c = λ ss given h.
     let none : c.take.new.self ≡ None = search rules in
     let last : c.in-Ok-true.field-0.last ≡ true = search rules in
     subst (λ (z : Option _). HasQueue new left ss (given ++ w ∷ []) z todos) (sym none)
-    (queue_rest left told ss given new c.give_back.ensures.told o c.read_part.new.file w todos
+    (queue_rest left told ss given new c.close_file.ensures.told o c.read_part.new.file w todos
     (subst (λ (z : Option _). HasQueue told left ss given z todos) open_is h) (c.in-Ok-true.ensures.part.rest last)
-    c.give_back.ensures.feed)
+    c.close_file.ensures.feed)
 
 pub returns-in-Ok-false-clause-given : goal.returns-in-Ok-false-clause-given
 returns-in-Ok-false-clause-given g c = λ ss given h.
@@ -35,11 +35,11 @@ pub returns-in-Err-clause-failed : goal.returns-in-Err-clause-failed
 returns-in-Err-clause-failed g c = λ ss given h.
     let left = g.H.Feed.Source.left in
     let told = g.H.Host.files c.args.host.now in
-    let new = g.H.Host.files c.give_back-in-Err.new.host in
+    let new = g.H.Host.files c.close_file-in-Err.new.host in
     let todos = c.args.queue.now.todos.items in
     let o = c.in-Some.file in
     let open_is : c.args.queue.now.current ≡ Some o = search rules in
-    let end = queue_end left told ss given new c.give_back-in-Err.ensures.told (Some o) todos
+    let end = queue_end left told ss given new c.close_file-in-Err.ensures.told (Some o) todos
     (subst (λ (z : Option _). HasQueue told left ss given z todos) open_is h)
-    (λ some. c.read_part.ensures.told (c.give_back-in-Err.ensures.feed some)) in
+    (λ some. c.read_part.ensures.told (c.close_file-in-Err.ensures.feed some)) in
     (end.0, inr end.1)

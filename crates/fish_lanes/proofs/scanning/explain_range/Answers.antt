@@ -4,7 +4,7 @@ use Rattle.fish_lanes.proofs.Fitting.{planned_fits, refused_fits, refused_item}
 use Rattle.fish_lanes.proofs.Doings.{ok_then}
 use Rattle.fish_report.specs.declared.item.Item.TheVariants as item
 use Rattle.fish_rule.specs.Passes.{view}
-use Rattle.fish_scan.proofs.Preparing.{unprepared_refused}
+use Rattle.fish_scan.proofs.PlannedScans.{unplanned_refused}
 use Rattle.fish_lanes.proofs.scanning.explain_range.Goals as goal
 
 pub returns-in-Ok-clause-fits : goal.returns-in-Ok-clause-fits
@@ -18,4 +18,4 @@ returns-in-Err-clause-fits c =
     ok_then c.unplanned.result (λ x h. inr h)
     (refused_item v u c.args.ask.now c.version-in-Err.result c.in-Err.refusal item.ExplainRefused c.unplanned.result
     (λ why is. refused_fits v u c.explain.new.defs.known c.args.ask.now c.in-Err.refusal c.version-in-Err.result why
-    (unprepared_refused _ _ _ _ _ c.in-Err.ensures.refused) is c.version-in-Err.ensures) c.unplanned.ensures)
+    (unplanned_refused _ _ _ _ _ c.in-Err.ensures.refused) is c.version-in-Err.ensures) c.unplanned.ensures)

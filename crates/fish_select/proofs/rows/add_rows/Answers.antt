@@ -2,7 +2,7 @@
 use Rattle.std.proofs.Common.{◌≡◌, ◌∷◌, ap, ◌∙◌, ℕ, List, Option}
 use Rattle.fish_csv.specs.Left.{left}
 use Rattle.fish_select.proofs.RowLemmas.{next_is_row}
-use Rattle.fish_select.proofs.rows.tally_of_left.Goals as goal
+use Rattle.fish_select.proofs.rows.add_rows.Goals as goal
 
 pub add_row-requires-clause-is : goal.add_row-requires-clause-is
 add_row-requires-clause-is c =

@@ -1,0 +1,2 @@
+-- What private clauses cite, and no promise rests on.
+pub mod Selecting
