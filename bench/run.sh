@@ -4,7 +4,7 @@
 # ingest in MB a second, one scan in milliseconds, peak memory. Each `run` makes a new store in data/ and ends with its
 # checkpoint. Then it times a block of four lanes beside one lane.
 #
-# usage: [PAGES=128] [RUNS=3] bench/run.sh [BYTES]        (67108864 bytes where none are given, and no more)
+# usage: [PAGES=128] [RUNS=3] bench/run.sh [BYTES]        (67108864 bytes where none are given)
 #
 # It needs Debian's packages python3, time and util-linux; sqlite3, and librust-serde-json-dev with cargo for the Rust program,
 # which are left out with a note where they are missing. `make build` makes the program first.
