@@ -2,6 +2,7 @@
 
 use fish_lang::LangRefusal;
 use std::alloc::AllocError;
+use std::fmt;
 
 /// Why words are no command.
 #[derive(Clone, Copy, Debug)]
@@ -12,6 +13,22 @@ pub enum UsageCause {
     Definition(LangRefusal),
     /// The definition is one, and the value is none.
     Value,
+}
+
+/// Why they are none, in words.
+impl fmt::Display for UsageCause {
+    ghost use Rattle.std.specs.Prelude.{Some};
+    ghost use Rattle.fish_command.specs.RefusalText.{usage_text};
+
+    ghost output = { λ cause. Some (usage_text cause) };
+
+    fn fmt<W: fmt::Write>(&self, f: &mut fmt::Formatter<W>) -> fmt::Result {
+        match self {
+            UsageCause::Words => write!(f, "words"),
+            UsageCause::Definition(refusal) => write!(f, "definition {refusal}"),
+            UsageCause::Value => write!(f, "value"),
+        }
+    }
 }
 
 /// Why a command was not read.

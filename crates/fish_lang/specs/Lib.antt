@@ -8,5 +8,6 @@ pub mod Machine
 pub mod Moves
 pub mod Outcome
 pub mod Pieces
+pub mod RefusalText
 pub mod Token
 pub mod Views

@@ -16,7 +16,8 @@ use crate::print::print_def;
 use crate::state::{State, advance};
 use crate::token::{Placed, tokens_of};
 use std::alloc::{AllocError, Global};
-use thiserror::Error;
+use std::error::Error;
+use std::fmt;
 
 /// The most bytes of a source.
 pub const MAX_SOURCE: usize = 4_096;
@@ -25,42 +26,57 @@ pub const MAX_SOURCE: usize = 4_096;
 pub const MAX_CANONICAL: usize = 255;
 
 /// Why a text is no definition.
-#[derive(Clone, Copy, Debug, PartialEq, Eq, Error)]
+#[derive(Clone, Copy, Debug, PartialEq, Eq)]
 pub enum LangRefusal {
     /// No definition begins with the tokens up to this one, or the tokens end early.
-    #[error("unexpected at {at}")]
     Unexpected {
         /// The first byte of the token, or the length of the text.
         at: u64,
     },
     /// A `(` or `not` that makes the nesting 17.
-    #[error("too deep at {at}")]
     TooDeep {
         /// Its first byte.
         at: u64,
     },
     /// The text has over 4,096 bytes, or the canonical text over 255.
-    #[error("too long {length}")]
     TooLong {
         /// How many it has.
         length: u64,
     },
     /// A number outside an `i64`.
-    #[error("number too large at {at}")]
     NumberTooLarge {
         /// Its first byte.
         at: u64,
     },
     /// A width of 0.
-    #[error("zero width at {at}")]
     ZeroWidth {
         /// Its first byte.
         at: u64,
     },
     /// Memory ran out.
-    #[error("out of memory")]
     OutOfMemory,
 }
+
+/// Why it is none, and where.
+impl fmt::Display for LangRefusal {
+    ghost use Rattle.std.specs.Prelude.{Some};
+    ghost use Rattle.fish_lang.specs.RefusalText.{lang_refusal_text};
+
+    ghost output = { λ refusal. Some (lang_refusal_text refusal) };
+
+    fn fmt<W: fmt::Write>(&self, f: &mut fmt::Formatter<W>) -> fmt::Result {
+        match self {
+            LangRefusal::Unexpected { at } => write!(f, "unexpected at {at}"),
+            LangRefusal::TooDeep { at } => write!(f, "too deep at {at}"),
+            LangRefusal::TooLong { length } => write!(f, "too long {length}"),
+            LangRefusal::NumberTooLarge { at } => write!(f, "number too large at {at}"),
+            LangRefusal::ZeroWidth { at } => write!(f, "zero width at {at}"),
+            LangRefusal::OutOfMemory => write!(f, "out of memory"),
+        }
+    }
+}
+
+impl Error for LangRefusal {}
 
 impl From<AllocError> for LangRefusal {
     ghost use Rattle.fish_lang.specs.declared.parse.LangRefusal.TheVariants.{OutOfMemory};

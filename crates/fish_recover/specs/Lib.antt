@@ -1,5 +1,6 @@
 pub mod Beginning
 pub mod Choosing
 pub mod Opening
+pub mod RefusalText
 pub mod Resting
 pub mod Stores

@@ -3,6 +3,7 @@ pub mod Laws
 pub mod Limits
 pub mod Lines
 pub mod Places
+pub mod RefusalText
 pub mod Refusals
 pub mod Runnable
 pub mod Script
