@@ -1,16 +1,18 @@
 -- Works that a lane may do, and queues of them.
-use Rattle.std.proofs.Common.{◌≡◌, ◌⊎◌, ℕ, List, [], ◌∷◌, ◌++◌, append_assoc, inl, inr, refl, sym, ap, ◌∙◌, subst}
-use Rattle.std.proofs.Common.{Bool, true, false, Option, Some}
+use Rattle.std.proofs.Common.{◌≡◌, ◌≢◌, ◌⊎◌, ℕ, List, [], ◌∷◌, ◌++◌, append_assoc, inl, inr, refl, sym, ap, ◌∙◌, subst}
+use Rattle.std.proofs.Common.{Bool, true, false, Option, None, Some, ◌<◌, arith}
 use Rattle.std.specs.Prelude.{Err, IfErr, IfOk, IsErr, Ok, Result, option_to_list}
 use Rattle.fish_feed.specs.Queues.{AreFit, AreFitTodos, IsFit, IsFitTodo, IsQueue, MayDo, MayDoAll, MayEnd}
-use Rattle.fish_feed.specs.Works.{AreDone}
+use Rattle.fish_feed.specs.Works.{AreAnew, AreAnewAfterFirst, AreDone, IsAnew, IsWorkOf}
 use Rattle.fish_feed.specs.declared.queue.Queue.{Queue}
 use Rattle.fish_feed.specs.declared.queue.Todo.{Todo}
 use Rattle.fish_lanes.specs.declared.work.Work.{Work}
 use Rattle.fish_lanes.specs.declared.work.Work.TheVariants as work
 use Rattle.fish_lines.specs.declared.resuming.Begin.{Begin}
+use Rattle.fish_lines.specs.declared.resuming.Begin.TheVariants.{After}
 use Rattle.fish_outside.specs.Told.{Files}
 use Rattle.fish_script.specs.declared.script.Statement.{Statement}
+use Rattle.fish_script.specs.declared.script.Statement.TheVariants as does
 use Rattle.fish_value.specs.declared.field.Form.{Form}
 
 -- any lane may store a file
@@ -21,6 +23,50 @@ ingest_may false form begin name file = tt
 pub may_push : (first : Bool) (ws : List Work) (w : Work) → MayDoAll first ws → MayDo first w → MayDoAll first (ws ++ w ∷ [])
 may_push first [] w h one = (one, tt)
 may_push first (x ∷ ws) w h one = (h.0, may_push first ws w h.1 one)
+
+-- what a statement without a file has a lane do is no part of a file
+pub work_anew : (s : Statement) (w : Work) → IsWorkOf s w → IsAnew w
+work_anew (does.Register name def) w h = λ form name file is.
+    absurd (let bad : work.Register _ h.0 ≡ work.Ingest form After name file = sym h.1 ∙ is in cc)
+work_anew (does.Deregister name) w h = λ form name file is.
+    absurd (let bad : work.Deregister _ ≡ work.Ingest form After name file = sym h ∙ is in cc)
+work_anew (does.Ingest form header file) w h = elim h [ ]
+work_anew (does.Scan name value from to way) w h = λ form name file is.
+    absurd (let bad : work.Scan _ ≡ work.Ingest form After name file = sym h ∙ is in cc)
+work_anew (does.Explain name value from to way) w h = λ form name file is.
+    absurd (let bad : work.Explain _ ≡ work.Ingest form After name file = sym h ∙ is in cc)
+work_anew does.Checkpoint w h = λ form name file is.
+    absurd (let bad : work.Checkpoint ≡ work.Ingest form After name file = sym h ∙ is in cc)
+
+-- nor is what a file gives of which nothing was given
+pub first_anew : (form : Form) (begin : Begin) (name file : List ℕ) → begin ≢ After → IsAnew (work.Ingest form begin name file)
+first_anew form begin name file before = λ form' name' file' is. before (ap begin_of is)
+  where
+    begin_of : Work → Begin
+    begin_of (work.Ingest f b n bytes) = b
+    begin_of w = begin
+
+pub anew_push : (ws : List Work) (w : Work) → AreAnew ws → IsAnew w → AreAnew (ws ++ w ∷ [])
+anew_push [] w h one = (one, tt)
+anew_push (x ∷ ws) w h one = (h.0, anew_push ws w h.1 one)
+
+-- one more, where there was none or it begins anew
+pub anew_more : (ws : List Work) (w : Work) → AreAnewAfterFirst ws → (ws ≡ []) ⊎ IsAnew w → AreAnewAfterFirst (ws ++ w ∷ [])
+anew_more [] w h one = tt
+anew_more (x ∷ ws) w h (inl none) = absurd (let bad : x ∷ ws ≡ [] = none in cc)
+anew_more (x ∷ ws) w h (inr one) = anew_push ws w h one
+
+-- where something may still be given, nothing was, or no file is being read
+pub first_or_anew : {X : Type 0} (most : ℕ) (works : List Work) (current : Option X) (A : Type 0) → 0 < most
+    → (current ≡ None → A) → (works ≡ []) ⊎ ((most ≡ 0) ⊎ (current ≡ None)) → (works ≡ []) ⊎ A
+first_or_anew most works current A some anew (inl none) = inl none
+first_or_anew most works current A some anew (inr (inl zero_)) = absurd (omega (some, zero_, arith))
+first_or_anew most works current A some anew (inr (inr none)) = inr (anew none)
+
+pub none_or_full : {X : Type 0} (current : Option X) (most : ℕ) → ((x : X) → current ≡ Some x → most ≡ 0)
+    → (most ≡ 0) ⊎ (current ≡ None)
+none_or_full None most full = inr refl
+none_or_full (Some x) most full = inl (full x refl)
 
 -- a work that was taken is given after the others
 pub given_more : (given works more : List Work) (found : Option Work) (w : Work) → found ≡ Some w → more ≡ works ++ w ∷ []

@@ -25,6 +25,10 @@ pub record IsUnread {F : Type 0} (form : Form) (begin : Begin) (name : List ℕ)
   pub rest_is : o.rest ≡ []
   pub room_is : o.room ≡ longest_in_parts
 
+-- a part of it was given
+abbrev pub IsBegun : {F : Type 0} → OpenFile F → Type 0
+IsBegun o = o.begin ≡ After
+
 -- it holds no more than may be given at once, and a read that failed was counted
 pub record CanRead {F : Type 0} (faults : F → ℕ) (o : OpenFile F) : Type 0 where
   pub short : length o.rest ≤ longest_read

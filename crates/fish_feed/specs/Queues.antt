@@ -3,9 +3,9 @@
 use Rattle.std.specs.Prelude.{ℕ, ◌≡◌, ◌+◌, ◌<◌, ◌≤◌, ◌⊎◌, List, [], ◌∷◌, ◌++◌, Bool, true, false}
 use Rattle.std.specs.Prelude.{Option, None, Some, IfSome, IsSome}
 use Rattle.std.specs.Prelude.{length, map, slice_get, ⊤, ◌≢◌}
-use Rattle.fish_feed.specs.OpenFiles.{CanRead}
+use Rattle.fish_feed.specs.OpenFiles.{CanRead, IsBegun}
 use Rattle.fish_feed.specs.Parts.{AreParts, begin_after, longest_in_parts}
-use Rattle.fish_feed.specs.Works.{AreDone, IsWorkOf, Pairs}
+use Rattle.fish_feed.specs.Works.{AreAnewAfterFirst, AreDone, IsAnew, IsWorkOf, Pairs}
 use Rattle.fish_feed.specs.declared.part.OpenFile.{OpenFile}
 use Rattle.fish_feed.specs.declared.queue.Queue.{Queue}
 use Rattle.fish_feed.specs.declared.queue.Todo.{Todo}
@@ -98,8 +98,8 @@ MayDo true w = IsAcceptable w
 MayDo false w = IsShared w
 
 abbrev pub IsFitTodo : {F : Type 0} → (F → ℕ) → Bool → Todo F → Type 0
-IsFitTodo faults first (todo.Work w) = MayDo first w
-IsFitTodo faults first (todo.File o) = CanRead faults o
+IsFitTodo faults first (todo.Work w) = MayDo first w × IsAnew w
+IsFitTodo faults first (todo.File o) = CanRead faults o × (IsBegun o → ⊥)
 
 abbrev pub AreFitTodos : {F : Type 0} → (F → ℕ) → Bool → List (Todo F) → Type 0
 AreFitTodos faults first [] = ⊤
@@ -135,10 +135,11 @@ both [] ys = []
 both (x ∷ xs) [] = []
 both (x ∷ xs) (y ∷ ys) = (x ++ y) ∷ both xs ys
 
--- a lane had no statement, and got some
+-- a lane had no statement, and got some, of which the first alone may be a later part of a file
 pub record IsGiven (x y : Lane) : Type 0 where
   pub none : x.works ≡ []
   pub is : y ≡ record x { works = y.works }
+  pub one : AreAnewAfterFirst y.works
 
 -- no lane has a statement
 abbrev pub AreIdle : List Lane → Type 0

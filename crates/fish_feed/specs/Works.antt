@@ -1,11 +1,11 @@
 -- What the statements of a script have a lane do, over files that are told.
-use Rattle.std.specs.Prelude.{ℕ, ◌≡◌, List, [], ◌∷◌, ◌++◌, Option, Some, IfSome}
+use Rattle.std.specs.Prelude.{ℕ, ◌≡◌, ◌≢◌, List, [], ◌∷◌, ◌++◌, Option, Some, IfSome, ⊤}
 use Rattle.fish_feed.specs.Parts.{IsRead}
 use Rattle.fish_lang.specs.Definition.{definition_of}
 use Rattle.fish_lang.specs.declared.definition.Def.{Def}
 use Rattle.fish_lanes.specs.declared.work.Work.{Work}
 use Rattle.fish_lanes.specs.declared.work.Work.TheVariants as work
-use Rattle.fish_lines.specs.declared.resuming.Begin.TheVariants.{Start}
+use Rattle.fish_lines.specs.declared.resuming.Begin.TheVariants.{After, Start}
 use Rattle.fish_outside.specs.Told.{Files}
 use Rattle.fish_scan.specs.declared.ask.Ask.{Ask}
 use Rattle.fish_scan.specs.declared.ask.How.{How}
@@ -14,6 +14,7 @@ use Rattle.fish_script.specs.declared.script.By.{By}
 use Rattle.fish_script.specs.declared.script.By.TheVariants as by
 use Rattle.fish_script.specs.declared.script.Statement.{Statement}
 use Rattle.fish_script.specs.declared.script.Statement.TheVariants as does
+use Rattle.fish_value.specs.declared.field.Form.{Form}
 use Rattle.fish_value.specs.declared.value.Value.{Value}
 
 -- ---- lists side by side
@@ -67,3 +68,18 @@ AreDone told (s ∷ ss) ws = (now then : List Work) × (ws ≡ now ++ then) × I
 -- they are the first ones of works that do
 abbrev pub AreFirstOf : Option Files → List Statement → List Work → Type 0
 AreFirstOf told ss ws = (more : List Work) × AreDone told ss (ws ++ more)
+
+-- ---- works that are given at once
+
+-- the work is no later part of a file
+abbrev pub IsAnew : Work → Type 0
+IsAnew w = (form : Form) (name file : List ℕ) → w ≢ work.Ingest form After name file
+
+abbrev pub AreAnew : List Work → Type 0
+AreAnew [] = ⊤
+AreAnew (w ∷ ws) = IsAnew w × AreAnew ws
+
+-- of these works the first alone may be one
+abbrev pub AreAnewAfterFirst : List Work → Type 0
+AreAnewAfterFirst [] = ⊤
+AreAnewAfterFirst (w ∷ ws) = AreAnew ws

@@ -3,12 +3,13 @@
 ghost use Rattle.std.specs.Prelude.{◌≡◌, ◌++◌, ◌∷◌, ◌<◌, ◌≤◌, ℕ, List, Option, [], Bool, true, false, None};
 ghost use Rattle.std.specs.Prelude.{IfErr, IfOk, IfSome};
 ghost use Rattle.std.specs.Prelude.{IsSome, OnErr, OnOk, length, option_to_list};
+ghost use Rattle.fish_feed.specs.OpenFiles.{IsBegun};
 ghost use Rattle.fish_feed.specs.Parts.{longest_read};
 ghost use Rattle.fish_feed.specs.Queues.{AreFit, AreIdle, GoesDown, IsFit, IsGiven, IsQueue, LanesMayDo};
 ghost use Rattle.fish_feed.specs.Queues.{MayDo, MayDoAll, MayEnd};
 ghost use Rattle.fish_feed.specs.Queues.{both, left_of, left_of_all, works_of};
 ghost use Rattle.fish_feed.specs.Reading.{HasReadCause};
-ghost use Rattle.fish_feed.specs.Works.{AreDone, AreFirstOf, Pairs, Triples};
+ghost use Rattle.fish_feed.specs.Works.{AreAnew, AreDone, AreFirstOf, IsAnew, Pairs, Triples};
 ghost use Rattle.fish_lanes.specs.declared.work.Work.{Work as Does};
 ghost use Rattle.fish_outside.specs.Told.{Files, StillTold};
 ghost use Rattle.fish_script.specs.declared.script.Statement.{Statement};
@@ -117,7 +118,8 @@ where
 
 /// How many bytes of files a lane may be given after a statement: none after a part, which is the last that it gets.
 fn room_after(most: usize, work: &Work, is_part: bool) -> usize
-    ensures { result ≤ most }
+    ensures less { result ≤ most }
+    ensures part { is_part ≡ true → result ≡ 0 }
 {
     if is_part {
         return 0;
@@ -146,7 +148,7 @@ where
         → IsQueue (H.files host.old) H.Feed.left ss given queue.old
         → MayEnd (H.files host.new) H.Feed.left ss given queue.new) }
     ensures fit { (first : Bool) → IsFit H.Feed.faults first queue.old → IsFit H.Feed.faults first queue.new
-        × IfOk result (λ w. MayDoAll first (option_to_list w)) }
+        × IfOk result (λ w. MayDoAll first (option_to_list w) × (queue.old.current ≡ None → AreAnew (option_to_list w))) }
     ensures some { IfOk result (λ w. IfSome w (λ _. left_of queue.new < left_of queue.old)) }
     ensures none { IfOk result (λ w. w ≡ None → (left_of queue.old ≡ 0) × (left_of queue.new ≡ 0)) }
     ensures told { StillTold (H.files host.old) (H.files host.new) }
@@ -166,7 +168,8 @@ fn open_next<F: Source + Drop>(queue: &mut Queue<F>) -> Option<Work>
     ensures queue { (told : Option Files) (ss : List Statement) (given : List Does)
         → IsQueue told F.left ss given queue.old → IsQueue told F.left ss (given ++ option_to_list result) queue.new }
     ensures fit { (first : Bool) → IsFit F.faults first queue.old
-        → IsFit F.faults first queue.new × MayDoAll first (option_to_list result) }
+        → IsFit F.faults first queue.new × MayDoAll first (option_to_list result) × AreAnew (option_to_list result)
+        × (queue.old.current ≡ None → IfSome queue.new.current (λ o. IsBegun o → ⊥)) }
     ensures some { IfSome result (λ _. left_of queue.new < left_of queue.old) }
     ensures down { left_of queue.new ≤ left_of queue.old }
     ensures none { result ≡ None → queue.new.current ≡ None
@@ -204,7 +207,7 @@ where
         → IsQueue (H.files host.old) H.Feed.left ss given queue.old
         → MayEnd (H.files host.new) H.Feed.left ss given queue.new) }
     ensures fit { (first : Bool) → IsFit H.Feed.faults first queue.old → IsFit H.Feed.faults first queue.new }
-    ensures work { IfOk result (λ w. (first : Bool) → MayDo first w) }
+    ensures work { IfOk result (λ w. ((first : Bool) → MayDo first w) × (IfSome queue.old.current (λ o. IsBegun o → ⊥) → IsAnew w)) }
     ensures less { IfOk result (λ _. left_of queue.new < left_of queue.old) }
     ensures told { StillTold (H.files host.old) (H.files host.new) }
     ensures cause { HasReadCause (H.faults host.old) (H.faults host.new) result }

@@ -23,7 +23,7 @@ use Rattle.fish_run.proofs.Keeping.{entries_end, keeps_of, sound_first, still_ke
 use Rattle.fish_run.proofs.Shown.{store_is}
 use Rattle.fish_run.proofs.Written.{gained_none, part_still, part_then, part_whole, written_both}
 use Rattle.fish_run.proofs.Tables.{renewed_any}
-use Rattle.fish_run.specs.Blocks.{Round, first_registry, left_table, rounds_of, with_cut}
+use Rattle.fish_run.specs.Blocks.{Round, first_registry, left_table, rounds_of}
 use Rattle.fish_run.specs.Faults.{IsUndamaged}
 use Rattle.fish_run.specs.Ran.{IsLost, IsStopped, IsWhole, StillKeeps, StoodFor, opened_item}
 use Rattle.fish_run.specs.Tables.{LastTable}

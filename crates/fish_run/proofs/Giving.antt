@@ -2,7 +2,7 @@
 use Rattle.std.proofs.Common.{◌≡◌, ℕ, zero, suc, List, [], ◌∷◌, ◌++◌, Some}
 use Rattle.std.proofs.Common.{append-nil, arith, length, slice_get, refl, sym, ap, ◌∙◌, inl, inr}
 use Rattle.fish_feed.specs.Queues.{AreIdle, IsGiven, both, works_of}
-use Rattle.fish_feed.specs.Works.{Pairs, Triples}
+use Rattle.fish_feed.specs.Works.{AreAnewAfterFirst, Pairs, Triples}
 use Rattle.fish_lanes.specs.declared.lane.Lane.{Lane}
 use Rattle.fish_lanes.specs.declared.work.Work.{Work}
 use Rattle.fish_run.specs.within.Going.{HasNext}
@@ -49,14 +49,14 @@ both_length (x ∷ xs) (y ∷ ys) many = ap suc (both_length xs ys (omega (many,
 
 -- idle lanes begin with what they are given
 pub idle_first : (lanes : List Lane) (given : List (List Work)) (ys : List Lane) → AreIdle lanes → Triples HasNext lanes given ys
-    → Pairs (λ ws y. to_do y ≡ ws) given ys
+    → Pairs (λ ws y. (to_do y ≡ ws) × AreAnewAfterFirst ws) given ys
 idle_first [] [] [] idle h = tt
 idle_first [] [] (y ∷ ys) idle h = elim h [ ]
 idle_first [] (ws ∷ given) ys idle h = elim h [ ]
 idle_first (x ∷ lanes) [] ys idle h = elim h [ ]
 idle_first (x ∷ lanes) (ws ∷ given) [] idle h = elim h [ ]
 idle_first (x ∷ lanes) (ws ∷ given) (y ∷ ys) idle h =
-    (h.0.0 ∙ ap (λ (z : List Work). z ++ ws) idle.0, idle_first lanes given ys idle.1 h.1)
+    ((h.0.0 ∙ ap (λ (z : List Work). z ++ ws) idle.0, h.0.2), idle_first lanes given ys idle.1 h.1)
 
 -- lanes that are given nothing begin with what they have
 pub none_next : (lanes ys : List Lane) → Pairs (λ x y. to_do y ≡ x.works) lanes ys → Triples HasNext lanes (nones lanes) ys
@@ -64,7 +64,7 @@ unfolding nones
 none_next [] [] h = tt
 none_next [] (y ∷ ys) h = elim h [ ]
 none_next (x ∷ lanes) [] h = elim h [ ]
-none_next (x ∷ lanes) (y ∷ ys) h = ((h.0 ∙ sym (append-nil x.works), inr refl), none_next lanes ys h.1)
+none_next (x ∷ lanes) (y ∷ ys) h = ((h.0 ∙ sym (append-nil x.works), inr refl, tt), none_next lanes ys h.1)
 
 -- and lanes that had none with what they were given
 pub given_next : (lanes lanes' ys : List Lane) → Pairs IsGiven lanes lanes' → Pairs (λ x y. to_do y ≡ x.works) lanes' ys
@@ -75,4 +75,4 @@ given_next [] (z ∷ lanes') ys g h = elim g [ ]
 given_next (x ∷ lanes) [] ys g h = elim g [ ]
 given_next (x ∷ lanes) (z ∷ lanes') [] g h = elim h [ ]
 given_next (x ∷ lanes) (z ∷ lanes') (y ∷ ys) g h =
-    ((h.0 ∙ ap (λ (l : List Work). l ++ z.works) (sym g.0.none), inl g.0.none), given_next lanes lanes' ys g.1 h.1)
+    ((h.0 ∙ ap (λ (l : List Work). l ++ z.works) (sym g.0.none), inl g.0.none, g.0.one), given_next lanes lanes' ys g.1 h.1)

@@ -1,8 +1,7 @@
 -- A table that is full and has no entry is near the limits of a log.
-use Rattle.std.proofs.Common.{◌≡◌, ◌≢◌, ℕ, suc, ◌+◌, ◌-◌, ◌*◌, ◌/◌, ◌<◌, ◌≤◌, ◌⊎◌, List, min, refl, sym, ap, ◌∙◌, subst, inl, inr, ⊎_elim}
-use Rattle.std.proofs.Common.{Some, arith, slice_get}
+use Rattle.std.proofs.Common.{◌≡◌, ◌≢◌, ℕ, suc, ◌+◌, ◌-◌, ◌/◌, ◌<◌, ◌≤◌, List, refl, sym, ap, ◌∙◌, subst, inl, inr}
+use Rattle.std.proofs.Common.{Some, arith}
 use Rattle.std.proofs.Math.Decide.{dec_lt}
-use Rattle.fish_flush.specs.Carrying.{Carries}
 use Rattle.fish_lanes.specs.Blocks.{IsMarkItem, NameMarks}
 use Rattle.fish_lanes.specs.Ending.{HasEnd}
 use Rattle.fish_lanes.specs.Gains.{IsMarkAt}
@@ -18,7 +17,7 @@ use Rattle.fish_rule.specs.Passes.{view}
 use Rattle.fish_rule.specs.Regions.{code, kind_of, kind_within}
 use Rattle.fish_rule.specs.Start.{table_lines}
 use Rattle.fish_rule.specs.Table.{Stands}
-use Rattle.fish_rule.specs.World.{World, high, last_line, last_number, low}
+use Rattle.fish_rule.specs.World.{World, high, last_line, low}
 use Rattle.fish_rule.specs.declared.view.Key.{Key}
 use Rattle.fish_rule.specs.declared.view.Kind.TheVariants.{Mark, Stored, Void}
 use Rattle.fish_rule.specs.declared.view.View.{View}

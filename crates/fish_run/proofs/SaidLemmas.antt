@@ -1,5 +1,5 @@
 -- What a lane says after what it said before.
-use Rattle.std.proofs.Common.{◌≡◌, ℕ, List, [], ◌∷◌, ◌++◌, Bool, true, false, refl, ap}
+use Rattle.std.proofs.Common.{◌≡◌, List, [], ◌∷◌, ◌++◌, Bool, true, false, ap}
 use Rattle.fish_report.specs.declared.item.Item.{Item}
 use Rattle.fish_run.specs.Joins.{first_joined, is_part, part_after, said_after}
 

@@ -157,6 +157,7 @@ module _ (old ran : List Lane) (are : AreLanes old) (kept : Pairs IsKept old ran
           subst (λ (f : Bool). GoesOnWith f x y.works) (sym same) (subst (GoesOnWith full x) (new_works y h.1.nothing_left) h.0),
           k.0,
           k.1,
+          k.2,
         )) ran new given c next have
 
     -- where none hands anything back or goes on with a file, the new ones have nothing

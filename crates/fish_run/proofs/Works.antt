@@ -1,5 +1,5 @@
 -- Lanes and what they are given, over files that are still told.
-use Rattle.std.proofs.Common.{◌≡◌, ℕ, zero, suc, ◌+◌, ◌<◌, ◌≤◌, List, [], ◌∷◌, ◌++◌, length, refl, sym, ap, ◌∙◌, subst, arith}
+use Rattle.std.proofs.Common.{◌≡◌, ℕ, zero, suc, ◌+◌, ◌<◌, ◌≤◌, List, [], ◌∷◌, ◌++◌, length, refl, sym, ◌∙◌, subst, arith}
 use Rattle.std.proofs.Common.{All, None, Option, Some, append-nil, false, inl, slice_get, true}
 use Rattle.fish_feed.proofs.Queues.{dones_later}
 use Rattle.fish_feed.specs.Queues.{AreIdle, IsGiven, IsQueue, LanesMayDo, MayDoAll, MayEnd}

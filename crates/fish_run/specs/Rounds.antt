@@ -1,7 +1,7 @@
 -- How the statements of a block are shared out among its rounds.
 use Rattle.std.specs.Prelude.{ℕ, ◌≡◌, ◌+◌, ◌⊎◌, List, [], ◌∷◌, ◌++◌, Bool, false, true, Option, ⊤}
 use Rattle.fish_feed.specs.Queues.{both}
-use Rattle.fish_feed.specs.Works.{AreFirstOf, Pairs, Triples}
+use Rattle.fish_feed.specs.Works.{AreAnewAfterFirst, AreFirstOf, Pairs, Triples}
 use Rattle.fish_lanes.specs.Full.{EndsFull}
 use Rattle.fish_lanes.specs.Outcome.{LeaveNone}
 use Rattle.fish_lanes.specs.declared.lane.Lane.{Lane}
@@ -58,10 +58,11 @@ GoesOnWith false x next = next ≡ x.left
 GoesOnWith true x next = ((IsCutFile x → ⊥) × (next ≡ x.left)) ⊎ IsRest x next
 
 -- what a lane is to do in a round: what it goes on with after the one before, and where that is nothing, what it was
--- given
+-- given, of which the first alone may go on with a file
 abbrev pub IsNext : Bool → Lane → List Work → Lane → Type 0
 IsNext fresh x given y =
     (next : List Work) × GoesOnWith fresh x next × (to_do y ≡ next ++ given) × ((next ≡ []) ⊎ (given ≡ []))
+    × AreAnewAfterFirst given
 
 -- each round goes on from the one before it
 abbrev pub GoOn : Round → List Round → Type 0
@@ -71,7 +72,8 @@ GoOn a (b ∷ rounds) = Triples (IsNext b.fresh) a.lanes b.given b.lanes × AreN
 -- and in the first one lanes do what they were given
 abbrev pub FollowOn : List Round → Type 0
 FollowOn [] = ⊤
-FollowOn (a ∷ rounds) = Pairs (λ ws x. to_do x ≡ ws) a.given a.lanes × AreNumbered a.lanes × (a.fresh ≡ false) × GoOn a rounds
+FollowOn (a ∷ rounds) =
+    Pairs (λ ws x. (to_do x ≡ ws) × AreAnewAfterFirst ws) a.given a.lanes × AreNumbered a.lanes × (a.fresh ≡ false) × GoOn a rounds
 
 -- what lanes were given over rounds
 abbrev pub given_after : List (List Work) → List Round → List (List Work)

@@ -1,7 +1,7 @@
 -- How the rounds of a block go on.
-use Rattle.std.specs.Prelude.{ℕ, ◌≡◌, ◌⊎◌, ◌+◌, ◌-◌, ◌++◌, List, [], ◌∷◌, Bool, true, false, Option, Some, None, length, ⊤}
+use Rattle.std.specs.Prelude.{ℕ, ◌≡◌, ◌⊎◌, ◌++◌, List, [], ◌∷◌, Bool, true, false, Option, Some, None, length, ⊤}
 use Rattle.fish_feed.specs.Queues.{both}
-use Rattle.fish_feed.specs.Works.{Pairs, Triples}
+use Rattle.fish_feed.specs.Works.{AreAnewAfterFirst, Pairs, Triples}
 use Rattle.fish_lanes.specs.Blocks.{IsNewLane}
 use Rattle.fish_lanes.specs.Controlling.{bound_items}
 use Rattle.fish_lanes.specs.Registering.{registry_of}
@@ -54,7 +54,7 @@ WereGiven given (a ∷ rounds) = given_in (a ∷ rounds) ≡ given
 
 -- what a lane has and what it is given, the next round of it begins with
 abbrev pub HasNext : Lane → List Work → Lane → Type 0
-HasNext x given y = (to_do y ≡ x.works ++ given) × ((x.works ≡ []) ⊎ (given ≡ []))
+HasNext x given y = (to_do y ≡ x.works ++ given) × ((x.works ≡ []) ⊎ (given ≡ [])) × AreAnewAfterFirst given
 
 -- the rounds so far of a block, from its first moment on: over them lanes were given this, and they go on with what
 -- they have; what they said is kept, but for the boundary that was found last

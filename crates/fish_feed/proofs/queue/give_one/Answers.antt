@@ -1,10 +1,11 @@
 -- One statement more.
-use Rattle.std.proofs.Common.{◌≡◌, ◌<◌, ◌++◌, ◌∷◌, ◌∙◌, [], List, Option, Some, append-nil, ap, arith, inl, inr, refl, subst, sym, ⊎_elim}
-use Rattle.std.specs.Prelude.{IfSome, option_to_list}
-use Rattle.fish_feed.proofs.Fit.{given_more, may_front, may_push, may_queue}
+use Rattle.std.proofs.Common.{◌≡◌, ◌<◌, ◌++◌, ◌∷◌, ◌∙◌, [], List, None, Option, Some, append-nil, ap, arith, inl, inr, refl, subst, sym, ⊎_elim}
+use Rattle.std.specs.Prelude.{IfSome, is_some, option_to_list}
+use Rattle.fish_feed.proofs.Fit.{anew_more, first_or_anew, given_more, may_front, may_push, may_queue, none_or_full}
 use Rattle.fish_feed.proofs.Giving.{lane_with}
 use Rattle.fish_feed.proofs.Told.{still_self}
 use Rattle.fish_feed.specs.Queues.{IsQueue, MayDo, MayDoAll, left_of}
+use Rattle.fish_feed.specs.Works.{AreAnew, AreAnewAfterFirst, IsAnew}
 use Rattle.fish_lanes.specs.declared.work.Work.{Work}
 use Rattle.fish_outside.proofs.ToldLemmas.{StillTold_trans}
 use Rattle.fish_feed.proofs.queue.give_one.Goals as goal
@@ -16,6 +17,8 @@ loop-most-init g c = record {
   most = omega arith;
   lane = refl;
   fit = λ first h. (h, subst (MayDoAll first) (sym c.requires.empty) tt);
+  one = subst AreAnewAfterFirst (sym c.requires.empty) tt;
+  last = inl c.requires.empty;
   down = omega arith;
   falls = inl refl;
   told = still_self (g.H.Host.files c.args.host.now);
@@ -51,7 +54,11 @@ loop-most-preserved g c =
     let less : left_of q < left_of c.loop-most.queue =
     subst (λ (z : Option Work). IfSome z (λ _. left_of q < left_of c.loop-most.queue)) is c.in-Ok-Some.ensures.some in
     let down = inv.down in
-    let sub = c.room_after-most.ensures in
+    let sub = c.room_after-most.ensures.less in
+    let test = c.loop-most-test.true in
+    let anew : c.loop-most.queue.current ≡ None → IsAnew w = λ none.
+    (subst (λ (o : Option Work). AreAnew (option_to_list o)) is
+    ((c.in-Ok-Some.ensures.fit c.requires.fit.0 (inv.fit c.requires.fit.0 c.requires.fit.1).0).1.1 none)).0 in
     let most = inv.most in
     let cause = c.in-Ok-Some.ensures.cause.later in
     let later = inv.later in
@@ -64,8 +71,12 @@ loop-most-preserved g c =
       fit = λ first h.
           let before = inv.fit first h in
           let one = c.in-Ok-Some.ensures.fit first before.0 in
-          let may : MayDo first w = (subst (λ (o : Option Work). MayDoAll first (option_to_list o)) is one.1).0 in
+          let may : MayDo first w = (subst (λ (o : Option Work). MayDoAll first (option_to_list o)) is one.1.0).0 in
           (one.0, subst (MayDoAll first) (sym pushed) (may_push first works w before.1 may));
+      one = subst AreAnewAfterFirst (sym pushed)
+          (anew_more works w inv.one (first_or_anew c.loop-most.most works c.loop-most.queue.current (IsAnew w) test anew inv.last));
+      last = inr (none_or_full q.current c.room_after-most.result (λ o open_is. c.room_after-most.ensures.part
+          (c.is_some.ensures ∙ ap (λ (z : Option _). is_some z) open_is)));
       down = omega (less, down, arith);
       falls = inr (omega (less, down, arith));
       told = StillTold_trans was mid new inv.told c.in-Ok-Some.ensures.told;

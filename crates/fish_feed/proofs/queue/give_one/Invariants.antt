@@ -1,6 +1,7 @@
 -- The lane has what was given so far, and the queue the rest.
-use Rattle.std.proofs.Common.{◌≡◌, ◌<◌, ◌≤◌, ◌⊎◌, ◌++◌, List, Bool}
+use Rattle.std.proofs.Common.{◌≡◌, ◌<◌, ◌≤◌, ◌⊎◌, ◌++◌, [], List, Bool, None}
 use Rattle.fish_feed.specs.Queues.{IsFit, IsQueue, MayDoAll, left_of}
+use Rattle.fish_feed.specs.Works.{AreAnewAfterFirst}
 use Rattle.fish_lanes.specs.declared.work.Work.{Work}
 use Rattle.fish_outside.specs.Told.{StillTold}
 use Rattle.fish_script.specs.declared.script.Statement.{Statement}
@@ -14,6 +15,8 @@ invariant-loop-most g l = record {
   lane : l.lane ≡ record l.fn.lane { works = l.lane.works };
   fit : (first : Bool) → IsFit g.H.Feed.Source.faults first l.fn.queue
       → IsFit g.H.Feed.Source.faults first l.queue × MayDoAll first l.lane.works;
+  one : AreAnewAfterFirst l.lane.works;
+  last : (l.lane.works ≡ []) ⊎ ((l.most ≡ 0) ⊎ (l.queue.current ≡ None));
   down : left_of l.queue ≤ left_of l.fn.queue;
   falls : (l.most ≡ 1048576) ⊎ (left_of l.queue < left_of l.fn.queue);
   told : StillTold (g.H.Host.files l.fn.host) (g.H.Host.files l.host);

@@ -1,8 +1,9 @@
 -- The next statement, or what the file gives that is being read.
 use Rattle.std.proofs.Common.{rules, ◌≡◌, ◌++◌, ◌∙◌, List, None, append-nil, ap, subst}
-use Rattle.std.specs.Prelude.{Option, option_to_list}
+use Rattle.std.specs.Prelude.{Option, Some, option_to_list}
 use Rattle.fish_feed.proofs.Fit.{if_err, if_ok}
 use Rattle.fish_feed.specs.Queues.{IsQueue, MayDoAll, MayEnd}
+use Rattle.fish_feed.specs.Works.{AreAnew}
 use Rattle.fish_lanes.specs.declared.work.Work.{Work}
 use Rattle.fish_script.specs.declared.script.Statement.{Statement}
 use Rattle.fish_feed.proofs.queue.next.Goals as goal
@@ -25,11 +26,26 @@ returns-in_err-read_open-clause-failed g c =
 pub returns-in_err-read_open-clause-fit : goal.returns-in_err-read_open-clause-fit
 returns-in_err-read_open-clause-fit g c = λ first h. (
   c.read_open.ensures.fit first (c.open_next.ensures.fit first h).0,
-  if_ok c.from_residual.result (λ w. MayDoAll first (option_to_list w)) c.from_residual.ensures.0,
+  if_ok c.from_residual.result (λ w. MayDoAll first (option_to_list w)
+      × (c.args.queue.now.current ≡ None → AreAnew (option_to_list w))) c.from_residual.ensures.0,
 )
 
+pub returns-in-Some-clause-fit : goal.returns-in-Some-clause-fit
+returns-in-Some-clause-fit g c = λ first h.
+    let opened = c.open_next.ensures.fit first h in
+    let is : c.open_next.result ≡ Some c.in-Some.work = search rules in (
+      opened.0,
+      (
+        subst (λ (z : Option Work). MayDoAll first (option_to_list z)) is opened.1,
+        λ none. subst (λ (z : Option Work). AreAnew (option_to_list z)) is opened.2,
+      ),
+    )
+
+pub returns-then-is_none-clause-fit : goal.returns-then-is_none-clause-fit
+returns-then-is_none-clause-fit g c = λ first h. ((c.open_next.ensures.fit first h).0, (tt, λ none. tt))
+
 pub returns-clause-fit : goal.returns-clause-fit
-returns-clause-fit g c = λ first h. (
-  c.read_open.ensures.fit first (c.open_next.ensures.fit first h).0,
-  (c.in_ok-read_open.ensures.work first, tt),
-)
+returns-clause-fit g c = λ first h.
+    let opened = c.open_next.ensures.fit first h in
+    let work = c.in_ok-read_open.ensures.work in
+    (c.read_open.ensures.fit first opened.0, ((work.0 first, tt), λ none. (work.1 (opened.3 none), tt)))

@@ -1,5 +1,4 @@
 -- The lanes so far are new ones.
-use Rattle.std.proofs.Common.{◌≡◌}
 use Rattle.fish_run.specs.within.Parts.{AreNewLanes}
 use Rattle.fish_run.proofs.parts.numbered_lanes.Given as goal
 

@@ -1,7 +1,5 @@
 -- Round after round, until no lane goes on.
-use Rattle.std.proofs.Common.{◌≡◌, true, false, length, refl, arith, rules}
-use Rattle.std.specs.Prelude.{◌≢◌}
-use Rattle.fish_outside.specs.Causes.{Rose}
+use Rattle.std.proofs.Common.{◌≡◌, true, false, refl, arith, rules}
 use Rattle.fish_run.proofs.Going.{err_known}
 use Rattle.fish_run.proofs.Giving.{nones}
 use Rattle.fish_run.proofs.Rounding.{ready_none}
