@@ -24,6 +24,7 @@ mod workload;
 
 use checkpoints::measure_checkpoint;
 use events::read_events;
+use fish_outside::keep_freed_memory;
 use fish_value::Text;
 use images::measure_image;
 use ingests::measure_ingest;
@@ -67,6 +68,8 @@ const INGESTS: &[LaneCount] = &[LaneCount::One, LaneCount::Two, LaneCount::Four]
 const BESIDE: &[LaneCount] = &[LaneCount::Three, LaneCount::Four];
 
 fn main(rt: HostRuntime) -> ExitCode {
+    // As in the program that is shipped.
+    keep_freed_memory(rt.alloc());
     let measured = match words_of(&rt) {
         Ok(words) => measure(&rt, &rt, words.as_slice()),
         Err(failure) => Err(failure),

@@ -185,11 +185,12 @@ fn cut_off<F: Source>(alloc: Global, file: &mut OpenFile<F>) -> Result<Option<Wo
         return Ok(None);
     }
     let name = file.name.again(alloc)?;
-    let (front, after) = file.rest.as_bytes().split_at(end);
-    let part = Bytes::copy_of(alloc, front)?;
-    let rest = Bytes::copy_of(alloc, after)?;
+    let (_, after) = file.rest.as_bytes().split_at(end);
+    let mut rest = Bytes::with_room(alloc, AT_ONCE)?;
+    rest.append(after)?;
     let begin = replace(&mut file.begin, Begin::After);
-    file.rest = rest;
+    let mut part = replace(&mut file.rest, rest);
+    part.truncate(end);
     file.room -= end as u64;
     Ok(Some(Work::Ingest {
         form: file.form,

@@ -151,10 +151,10 @@ fn read_text(alloc: Global, words: &[u64], len: usize) -> Result<Option<Text>, A
     ensures text { IfOk result (λ o. IsSome o ↔ IsUtf8 (bytes_in words.now len)) }
 {
     let bytes = read_bytes(alloc, words, len)?;
-    match String::from_utf8(bytes) {
-        Ok(text) => Ok(Some(Text::from_string(text))),
-        Err(_) => Ok(None),
+    if simdutf8::basic::from_utf8(&bytes).is_err() {
+        return Ok(None);
     }
+    Ok(Some(text_of(bytes)))
 }
 
 /// So many bytes from the front of words.

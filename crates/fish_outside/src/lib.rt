@@ -8,6 +8,7 @@
 
 mod fault;
 mod file;
+mod heap;
 mod host;
 mod memory;
 mod output;
@@ -19,6 +20,7 @@ mod sure_sink;
 
 pub use fault::{Failed, FeedRefusal};
 pub use file::{FileFeed, FileHost};
+pub use heap::keep_freed_memory;
 pub use host::Host;
 pub use memory::{HostFile, HostFiles, MemoryHost, MemorySink, MemorySource};
 pub use output::OutSink;

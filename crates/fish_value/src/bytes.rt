@@ -1,6 +1,6 @@
 //! Bytes of any kind, as they come from the outside. Contracts see the list of them.
 
-ghost use Rattle.std.specs.Prelude.{◌≡◌, ◌==◌, ◌++◌, ℕ, List, [], length, IfOk, OnOk, OnErr};
+ghost use Rattle.std.specs.Prelude.{◌≡◌, ◌==◌, ◌++◌, ℕ, List, [], length, take, IfOk, OnOk, OnErr};
 
 use std::alloc::{AllocError, Global};
 use std::marker::Model;
@@ -27,6 +27,15 @@ impl Bytes {
         Bytes {
             inner: Vec::new(alloc),
         }
+    }
+
+    /// No bytes, with room for so many.
+    pub fn with_room(alloc: Global, room: usize) -> Result<Bytes, AllocError>
+        ensures { IfOk result (λ bytes. bytes ≡ []) }
+    {
+        Ok(Bytes {
+            inner: Vec::with_capacity(alloc, room)?,
+        })
     }
 
     /// A copy of bytes.
@@ -64,6 +73,13 @@ impl Bytes {
         ensures { result ≡ (length self.now == 0) }
     {
         self.inner.is_empty()
+    }
+
+    /// Drops all but the first ones, up to so many.
+    pub fn truncate(&mut self, len: usize)
+        ensures { self.new ≡ take len self.old }
+    {
+        self.inner.truncate(len);
     }
 
     /// Puts bytes behind the others.

@@ -8,7 +8,7 @@ mod args;
 
 use args::{store_of, words_of};
 use fish_disk::FileDisk;
-use fish_outside::{FileHost, OutSink};
+use fish_outside::{FileHost, OutSink, keep_freed_memory};
 use fish_program::{Fault, Outcome, run};
 use std::env;
 use std::fs::File;
@@ -22,6 +22,7 @@ fn main(rt: HostRuntime) -> ExitCode {
         File::open(&rt, "/"),
         File::open(&rt, "/"),
     ];
+    keep_freed_memory(rt.alloc());
     let outcome = match words_of(rt.alloc(), env::args(&rt)) {
         Ok(words) => match store_of(rt.alloc(), words.as_slice()) {
             Ok(store) => run(

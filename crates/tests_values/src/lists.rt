@@ -8,6 +8,9 @@ use std::test::Fail;
 /// Pieces that are appended to two bytes one after the other.
 const PIECES: &[&[u8]] = &[b"", b"bc", b""];
 
+/// To how many they are then cut.
+const LENGTHS: &[usize] = &[3, 9, 1];
+
 /// Bytes as numbers, and how many they are.
 fn put_bytes(alloc: Global, told: &mut String, bytes: &Bytes) -> Result<(), AllocError> {
     let text = format!(in alloc; "{:?} {}, ", bytes.as_bytes(), bytes.len())?;
@@ -29,13 +32,19 @@ fn bytes_told(alloc: Global) -> Result<String, AllocError> {
         bytes.append(piece)?;
         put_again(alloc, &mut told, &bytes)?;
     }
+    for len in LENGTHS {
+        bytes.truncate(*len);
+        put_bytes(alloc, &mut told, &bytes)?;
+    }
+    put_bytes(alloc, &mut told, &Bytes::with_room(alloc, 2)?)?;
     Ok(told)
 }
 
 #[test]
 fn bytes(rt: HostRuntime) -> Result<(), Fail> {
     let told = bytes_told(rt.alloc())?;
-    let want = "[] 0, empty; [97, 255] 2, [97, 255, 98, 99] 4, [97, 255, 98, 99] 4, ";
+    let want = "[] 0, empty; [97, 255] 2, [97, 255, 98, 99] 4, [97, 255, 98, 99] 4, \
+        [97, 255, 98] 3, [97, 255, 98] 3, [97] 1, [] 0, empty; ";
     expect(&rt, told.as_str(), want);
     Ok(())
 }
