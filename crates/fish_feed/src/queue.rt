@@ -148,7 +148,8 @@ where
         → IsQueue (H.files host.old) H.Feed.left ss given queue.old
         → MayEnd (H.files host.new) H.Feed.left ss given queue.new) }
     ensures fit { (first : Bool) → IsFit H.Feed.faults first queue.old → IsFit H.Feed.faults first queue.new
-        × IfOk result (λ w. MayDoAll first (option_to_list w) × (queue.old.current ≡ None → AreAnew (option_to_list w))) }
+        × IfOk result (λ w. MayDoAll first (option_to_list w)
+        × (queue.old.current ≡ None → AreAnew (option_to_list w))) }
     ensures some { IfOk result (λ w. IfSome w (λ _. left_of queue.new < left_of queue.old)) }
     ensures none { IfOk result (λ w. w ≡ None → (left_of queue.old ≡ 0) × (left_of queue.new ≡ 0)) }
     ensures told { StillTold (H.files host.old) (H.files host.new) }
@@ -207,7 +208,8 @@ where
         → IsQueue (H.files host.old) H.Feed.left ss given queue.old
         → MayEnd (H.files host.new) H.Feed.left ss given queue.new) }
     ensures fit { (first : Bool) → IsFit H.Feed.faults first queue.old → IsFit H.Feed.faults first queue.new }
-    ensures work { IfOk result (λ w. ((first : Bool) → MayDo first w) × (IfSome queue.old.current (λ o. IsBegun o → ⊥) → IsAnew w)) }
+    ensures work { IfOk result (λ w. ((first : Bool) → MayDo first w)
+        × (IfSome queue.old.current (λ o. IsBegun o → ⊥) → IsAnew w)) }
     ensures less { IfOk result (λ _. left_of queue.new < left_of queue.old) }
     ensures told { StillTold (H.files host.old) (H.files host.new) }
     ensures cause { HasReadCause (H.faults host.old) (H.faults host.new) result }

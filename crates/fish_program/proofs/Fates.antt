@@ -1,5 +1,5 @@
 -- How a script that was read and the run of it make an end.
-use Rattle.std.proofs.Common.{◌≡◌, ◌≢◌, ℕ, inl, inr, List, [], append-nil, ap, refl, sym, subst, ◌∙◌}
+use Rattle.std.proofs.Common.{◌≡◌, ℕ, inl, inr, List, [], append-nil, ap, refl, sym, subst, ◌∙◌}
 use Rattle.std.specs.Prelude.{Bool, Option, Some, None, IfSome, IsSome}
 use Rattle.fish_outside.specs.Told.{Files, Gained, StillTold}
 use Rattle.fish_recover.specs.declared.opened.Opened.{Opened}
@@ -13,7 +13,7 @@ use Rattle.fish_run.specs.declared.fault.RunFault.{RunFault}
 use Rattle.fish_run.specs.declared.fault.RunFault.TheVariants as ran
 use Rattle.fish_run.specs.declared.running.Ran.{Ran}
 use Rattle.fish_script.specs.declared.script.Block.{Block}
-use Rattle.fish_program.specs.Faults.{open_fault, run_fault}
+use Rattle.fish_program.specs.Faults.{open_fault, ran_fault}
 use Rattle.fish_program.specs.Outcome.{DidNothing, EndsScript}
 use Rattle.fish_program.specs.Runs.{HasScript, IsLeft, IsStoppedRun}
 use Rattle.fish_program.specs.Stores.{IsUnopened, Opens}
@@ -43,29 +43,29 @@ gained_nil (Some a) = ap Some (append-nil a)
 -- ---- faults
 
 -- the fault of a run is the one of the input where that of its script's run is, and so of the output and of the disk
-pub input_ran : (why : RunFault) → run_fault why ≡ fault.Input → why ≡ ran.Input
-input_ran ran.Input is = refl
-input_ran ran.None is = absurd cc
-input_ran ran.Output is = absurd cc
-input_ran ran.Memory is = absurd cc
-input_ran ran.Disk is = absurd cc
-input_ran (ran.Damaged n) is = absurd cc
+pub input_ran : (why : Option RunFault) → ran_fault why ≡ fault.Input → why ≡ Some ran.Input
+input_ran None is = absurd cc
+input_ran (Some ran.Input) is = refl
+input_ran (Some ran.Output) is = absurd cc
+input_ran (Some ran.Memory) is = absurd cc
+input_ran (Some ran.Disk) is = absurd cc
+input_ran (Some (ran.Damaged n)) is = absurd cc
 
-pub output_ran : (why : RunFault) → run_fault why ≡ fault.Output → why ≡ ran.Output
-output_ran ran.Output is = refl
-output_ran ran.None is = absurd cc
-output_ran ran.Input is = absurd cc
-output_ran ran.Memory is = absurd cc
-output_ran ran.Disk is = absurd cc
-output_ran (ran.Damaged n) is = absurd cc
+pub output_ran : (why : Option RunFault) → ran_fault why ≡ fault.Output → why ≡ Some ran.Output
+output_ran None is = absurd cc
+output_ran (Some ran.Output) is = refl
+output_ran (Some ran.Input) is = absurd cc
+output_ran (Some ran.Memory) is = absurd cc
+output_ran (Some ran.Disk) is = absurd cc
+output_ran (Some (ran.Damaged n)) is = absurd cc
 
-pub disk_ran : (why : RunFault) → run_fault why ≡ fault.Disk → why ≡ ran.Disk
-disk_ran ran.Disk is = refl
-disk_ran ran.None is = absurd cc
-disk_ran ran.Input is = absurd cc
-disk_ran ran.Output is = absurd cc
-disk_ran ran.Memory is = absurd cc
-disk_ran (ran.Damaged n) is = absurd cc
+pub disk_ran : (why : Option RunFault) → ran_fault why ≡ fault.Disk → why ≡ Some ran.Disk
+disk_ran None is = absurd cc
+disk_ran (Some ran.Disk) is = refl
+disk_ran (Some ran.Input) is = absurd cc
+disk_ran (Some ran.Output) is = absurd cc
+disk_ran (Some ran.Memory) is = absurd cc
+disk_ran (Some (ran.Damaged n)) is = absurd cc
 
 -- ---- an end
 
@@ -82,39 +82,42 @@ module _ {D : Type 0} (content : D → Option (List ℕ)) (images : D → List �
   refused_end opening.OutOfMemory none nothing = inl (none, nothing)
 
   -- what a run of a script ensures, with the refusals and the log of an outcome
-  pub record Went (o : Opened) (why : RunFault) : Type 0 where
+  pub record Went (o : Opened) (fault_of : Option RunFault) : Type 0 where
     pub opens : Opens content images since moment disk mid disk' asked o
     pub report : out.report.items ≡ []
-    pub whole : why ≡ ran.None → (log : Remains) × (out.remains ≡ Some log)
+    pub whole : fault_of ≡ None → (log : Remains) × (out.remains ≡ Some log)
         × IsWhole content images since moment mid disk' o told script log old new out.refused
-    pub stopped : why ≢ ran.None → (log : Remains) → out.remains ≡ Some log
+    pub stopped : (why : RunFault) → fault_of ≡ Some why → (log : Remains) → out.remains ≡ Some log
         → IsStopped content images since moment mid disk' o told script log old new why
-    pub lost : out.remains ≡ None → (why ≡ ran.Memory) × IsLost content images since moment mid disk' o told script old new
-    pub damaged : IsSome (content disk') → IsUndamaged why
+    pub lost : out.remains ≡ None → (fault_of ≡ Some ran.Memory) × IsLost content images since moment mid disk' o told script old new
+    pub damaged : IsSome (content disk') → IfSome fault_of IsUndamaged
 
   -- the log that a stopped run left, or that it was lost
   left_of : (o : Opened) (why : RunFault) (remains : Option Remains)
       → ((log : Remains) → remains ≡ Some log → IsStopped content images since moment mid disk' o told script log old new why)
-      → (remains ≡ None → (why ≡ ran.Memory) × IsLost content images since moment mid disk' o told script old new)
+      → (remains ≡ None → (Some why ≡ Some ran.Memory) × IsLost content images since moment mid disk' o told script old new)
       → IsLeft content images since moment mid disk' o told script old new why remains
   left_of o why (Some log) stopped lost = stopped log refl
-  left_of o why None stopped lost = lost refl
+  left_of o why None stopped lost =
+      let gone = lost refl in
+      let both : Some why ≡ Some ran.Memory = gone.0 in
+      let memory : why ≡ ran.Memory = cc in (memory, gone.1)
 
   -- a run that this fault stopped
-  stopped_end : (o : Opened) (why : RunFault) → why ≢ ran.None → Went o why
+  stopped_end : (o : Opened) (why : RunFault) → Went o (Some why)
       → IsStoppedRun content images since moment disk disk' asked told script old new why out
-  stopped_end o why some went = record {
+  stopped_end o why went = record {
     opened = o;
     mid = mid;
     opens = went.opens;
     report = went.report;
-    left = left_of o why out.remains (went.stopped some) went.lost;
+    left = left_of o why out.remains (went.stopped why refl) went.lost;
   }
 
   -- so it ends
-  pub run_end : (o : Opened) (why : RunFault) → Went o why
-      → EndsScript content images since moment disk disk' asked told script old new out (run_fault why)
-  run_end o ran.None went =
+  pub run_end : (o : Opened) (why : Option RunFault) → Went o why
+      → EndsScript content images since moment disk disk' asked told script old new out (ran_fault why)
+  run_end o None went =
       let whole = went.whole refl in record {
         opened = o;
         mid = mid;
@@ -124,22 +127,22 @@ module _ {D : Type 0} (content : D → Option (List ℕ)) (images : D → List �
         remains = whole.1;
         whole = whole.2;
       }
-  run_end o ran.Input went = stopped_end o ran.Input (λ e. cc) went
-  run_end o ran.Output went = stopped_end o ran.Output (λ e. cc) went
-  run_end o ran.Memory went = inr (stopped_end o ran.Memory (λ e. cc) went)
-  run_end o ran.Disk went = inr (stopped_end o ran.Disk (λ e. cc) went)
-  run_end o (ran.Damaged n) went =
-      inr (n, refl, record { stopped = stopped_end o (ran.Damaged n) (λ e. cc) went; untold = went.damaged })
+  run_end o (Some ran.Input) went = stopped_end o ran.Input went
+  run_end o (Some ran.Output) went = stopped_end o ran.Output went
+  run_end o (Some ran.Memory) went = inr (stopped_end o ran.Memory went)
+  run_end o (Some ran.Disk) went = inr (stopped_end o ran.Disk went)
+  run_end o (Some (ran.Damaged n)) went =
+      inr (n, refl, record { stopped = stopped_end o (ran.Damaged n) went; untold = went.damaged })
 
   -- what the run ensures is so of an outcome that has its parts
   pub went_as : (o : Opened) (r : Ran) → Opens content images since moment disk mid disk' asked o
       → out.report.items ≡ [] → out.refused ≡ r.refused → out.remains ≡ r.remains
-      → (r.fault ≡ ran.None → (log : Remains) × (r.remains ≡ Some log)
+      → (r.fault ≡ None → (log : Remains) × (r.remains ≡ Some log)
       × IsWhole content images since moment mid disk' o told script log old new r.refused)
-      → (r.fault ≢ ran.None → (log : Remains) → r.remains ≡ Some log
-      → IsStopped content images since moment mid disk' o told script log old new r.fault)
-      → (r.remains ≡ None → (r.fault ≡ ran.Memory) × IsLost content images since moment mid disk' o told script old new)
-      → (IsSome (content disk') → IsUndamaged r.fault)
+      → ((why : RunFault) → r.fault ≡ Some why → (log : Remains) → r.remains ≡ Some log
+      → IsStopped content images since moment mid disk' o told script log old new why)
+      → (r.remains ≡ None → (r.fault ≡ Some ran.Memory) × IsLost content images since moment mid disk' o told script old new)
+      → (IsSome (content disk') → IfSome r.fault IsUndamaged)
       → Went o r.fault
   went_as o r opens report refused remains whole stopped lost damaged = record {
     opens = opens;
@@ -149,7 +152,7 @@ module _ {D : Type 0} (content : D → Option (List ℕ)) (images : D → List �
       remains ∙ all.1,
       subst (λ (x : Bool). IsWhole content images since moment mid disk' o told script all.0 old new x) (sym refused) all.2,
     );
-    stopped = λ some log is. stopped some log (sym remains ∙ is);
+    stopped = λ why some log is. stopped why some log (sym remains ∙ is);
     lost = λ is. lost (sym remains ∙ is);
     damaged = damaged;
   }

@@ -74,12 +74,16 @@ feed_fault feed.OutOfMemory = fault.Memory
 
 -- what a fault of a script's run ends the whole by
 abbrev pub run_fault : RunFault → Fault
-run_fault ran.None = fault.None
 run_fault ran.Input = fault.Input
 run_fault ran.Output = fault.Output
 run_fault ran.Memory = fault.Memory
 run_fault ran.Disk = fault.Disk
 run_fault (ran.Damaged n) = fault.Store (opening.Damaged n)
+
+-- and what its run does, by a fault if one came
+abbrev pub ran_fault : Option RunFault → Fault
+ran_fault None = fault.None
+ran_fault (Some why) = run_fault why
 
 -- ---- where a step may end so
 

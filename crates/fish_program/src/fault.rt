@@ -103,7 +103,6 @@ impl From<RunFault> for Fault {
 
     fn from(fault: RunFault) -> Fault {
         match fault {
-            RunFault::None => Fault::None,
             RunFault::Input => Fault::Input,
             RunFault::Output => Fault::Output,
             RunFault::Memory => Fault::Memory,

@@ -6,7 +6,7 @@ ghost use Rattle.fish_outside.specs.Told.{StillTold};
 ghost use Rattle.fish_recover.specs.Stores.{asked_shape};
 ghost use Rattle.fish_rule.specs.Start.{IsShape};
 ghost use Rattle.fish_script.specs.Runnable.{CanRun};
-ghost use Rattle.fish_program.specs.Faults.{run_fault};
+ghost use Rattle.fish_program.specs.Faults.{ran_fault};
 ghost use Rattle.fish_program.specs.Outcome.{EndsRun, EndsScript, status_of};
 ghost use Rattle.fish_program.specs.Runs.{HasScript, IsScriptFault};
 ghost use Rattle.fish_program.specs.Stores.{shape_asked};
@@ -125,7 +125,7 @@ where
 /// The end of a run whose script was run.
 fn ended(alloc: Global, ran: Ran) -> Outcome
     ensures status { result.status ≡ status_of result.fault result.refused }
-    ensures fault { result.fault ≡ run_fault ran.fault }
+    ensures fault { result.fault ≡ ran_fault ran.fault }
     ensures refused { result.refused ≡ ran.refused }
     ensures report { result.report.items ≡ [] }
     ensures remains { result.remains ≡ ran.remains }
@@ -135,5 +135,9 @@ fn ended(alloc: Global, ran: Ran) -> Outcome
         refused,
         remains,
     } = ran;
-    Outcome::new(Fault::from(fault), refused, no_report(alloc), remains)
+    let fault = match fault {
+        Some(fault) => Fault::from(fault),
+        None => Fault::None,
+    };
+    Outcome::new(fault, refused, no_report(alloc), remains)
 }

@@ -137,26 +137,18 @@ module _
             None end) (sym (append-nil (rounds_of h.blocks))) h.ran
 
     -- the run came to its end
-    pub ends_whole : (refused : Bool) (end : ℕ) (why : RunFault) → why ≡ fault.None → All x refused end
+    pub ends_whole : (refused : Bool) (end : ℕ) (why : Option RunFault) → why ≡ None → All x refused end
         → HasEnd (view x.pass) x.file.flusher.count → Finishes (Ok end) why mid new
         → IsWhole content images since moment disk disk' o told text remains old new refused
-    ends_whole refused end fault.None is all ends f = whole_of refused end all ends f
-    ends_whole refused end fault.Input is all ends f = absurd cc
-    ends_whole refused end fault.Output is all ends f = absurd cc
-    ends_whole refused end fault.Memory is all ends f = absurd cc
-    ends_whole refused end fault.Disk is all ends f = absurd cc
-    ends_whole refused end (fault.Damaged n) is all ends f = absurd cc
+    ends_whole refused end None is all ends f = whole_of refused end all ends f
+    ends_whole refused end (Some why) is all ends f = absurd cc
 
     -- or a fault came at its end
-    pub ends_late : (refused : Bool) (end : ℕ) (why : RunFault) → why ≢ fault.None → All x refused end
-        → HasEnd (view x.pass) x.file.flusher.count → Finishes (Ok end) why mid new
+    pub ends_late : (refused : Bool) (end : ℕ) (why : RunFault) (fault : Option RunFault) → fault ≡ Some why → All x refused end
+        → HasEnd (view x.pass) x.file.flusher.count → Finishes (Ok end) fault mid new
         → IsStopped content images since moment disk disk' o told text remains old new why
-    ends_late refused end fault.None other all ends f = absurd (other refl)
-    ends_late refused end fault.Input other all ends f = absurd (f.0 refl)
-    ends_late refused end fault.Output other all ends f = late_of refused end fault.Output f.0 all ends f.1
-    ends_late refused end fault.Memory other all ends f = late_of refused end fault.Memory f.0 all ends f.1
-    ends_late refused end fault.Disk other all ends f = late_of refused end fault.Disk f.0 all ends f.1
-    ends_late refused end (fault.Damaged n) other all ends f = late_of refused end (fault.Damaged n) f.0 all ends f.1
+    ends_late refused end why fault is all ends f =
+        let last = subst (λ (z : Option RunFault). Finishes (Ok end) z mid new) is f in late_of refused end why last.0 all ends last.1
 
   -- where a fault stopped the blocks, a store that is there may be closed
   close_is : (e : Stopped) (x : Store) → e.store ≡ Some x → (h : Stops e) → (h.stops.at ≡ point_at disk' x) × CanClose x
@@ -193,10 +185,12 @@ module _
 
   -- the same by how the fault was handed on
   pub ends_stopped : (x : Store) (remains : Remains) → IsClosed (view x.pass) remains → (e : Stopped) (why : RunFault)
-      → e.store ≡ Some x → Stops e → Finishes (Err e.why) why mid new
+      (fault : Option RunFault) → fault ≡ Some why → e.store ≡ Some x → Stops e → Finishes (Err e.why) fault mid new
       → IsStopped content images since moment disk disk' o told text remains old new why
-  ends_stopped x remains closed e why is some f =
-      subst (IsStopped content images since moment disk disk' o told text remains old new) (sym f.0)
+  ends_stopped x remains closed e why fault fault_is is some f =
+      let both : Some e.why ≡ Some why = sym f.0 ∙ fault_is in
+      let same : e.why ≡ why = cc in
+      subst (IsStopped content images since moment disk disk' o told text remains old new) same
       (stopped_of x remains closed e is some f.1)
 
   -- all blocks ran, and there was no memory to show the log

@@ -134,7 +134,6 @@ module _
         → StopsRounds content images since moment m disk mid s rounds cut e
         → StopsRounds content images since moment p disk from r (es ++ rounds) cut e
     stops_after disk es rounds cut e h stop = record {
-      named = stop.named;
       at = stop.at;
       disk_is = stop.disk_is;
       store = stop.store;

@@ -1,5 +1,5 @@
 -- Why a run stops, case by case.
-use Rattle.std.proofs.Common.{◌≡◌, ◌≢◌, ℕ, List, refl, sym, ◌∙◌, subst}
+use Rattle.std.proofs.Common.{◌≡◌, ◌≢◌, ℕ, List, None, Some, refl, sym, ap, ◌∙◌, subst}
 use Rattle.fish_flush.specs.declared.refusal.FlushRefusal.{FlushRefusal}
 use Rattle.fish_flush.specs.declared.refusal.FlushRefusal.TheVariants as flush
 use Rattle.fish_lanes.specs.Blocks.{At}
@@ -20,24 +20,12 @@ use Rattle.fish_run.specs.declared.fault.RunFault.{RunFault}
 use Rattle.fish_run.specs.declared.fault.RunFault.TheVariants as fault
 use Rattle.fish_whole.specs.Whole.{Whole}
 
--- a fault has a name
-pub feed_named : (r : FeedRefusal) → feed_fault r ≢ fault.None
-feed_named feed.Failed is = absurd cc
-feed_named feed.OutOfMemory is = absurd cc
-
-pub write_named : (r : WriteRefusal) → write_fault r ≢ fault.None
-write_named write.Failed is = absurd cc
-write_named write.OutOfMemory is = absurd cc
-
-pub flush_named : (r : FlushRefusal) → flush_fault r ≢ fault.None
-flush_named flush.DiskFault is = absurd cc
-flush_named flush.OutOfMemory is = absurd cc
-
-pub lane_named : (f : LaneFault) → f ≢ cause.None → lane_fault f ≢ fault.None
-lane_named cause.None named is = named refl
-lane_named cause.Memory named is = absurd cc
-lane_named cause.Disk named is = absurd cc
-lane_named (cause.Damaged n) named is = absurd cc
+-- a lane that stopped at no fault
+pub no_fault : (f : LaneFault) → lane_fault f ≡ None → f ≡ cause.None
+no_fault cause.None is = refl
+no_fault cause.Memory is = absurd cc
+no_fault cause.Disk is = absurd cc
+no_fault (cause.Damaged n) is = absurd cc
 
 -- that of the output, of a lane or of a checkpoint is none of the input
 pub write_other : (r : WriteRefusal) → write_fault r ≢ fault.Input
@@ -48,7 +36,7 @@ pub flush_other : (r : FlushRefusal) → flush_fault r ≢ fault.Input
 flush_other flush.DiskFault is = absurd cc
 flush_other flush.OutOfMemory is = absurd cc
 
-pub lane_other : (f : LaneFault) → lane_fault f ≢ fault.Input
+pub lane_other : (f : LaneFault) → lane_fault f ≢ Some fault.Input
 lane_other cause.None is = absurd cc
 lane_other cause.Memory is = absurd cc
 lane_other cause.Disk is = absurd cc
@@ -59,7 +47,7 @@ pub flush_no_output : (r : FlushRefusal) → flush_fault r ≢ fault.Output
 flush_no_output flush.DiskFault is = absurd cc
 flush_no_output flush.OutOfMemory is = absurd cc
 
-pub lane_no_output : (f : LaneFault) → lane_fault f ≢ fault.Output
+pub lane_no_output : (f : LaneFault) → lane_fault f ≢ Some fault.Output
 lane_no_output cause.None is = absurd cc
 lane_no_output cause.Memory is = absurd cc
 lane_no_output cause.Disk is = absurd cc
@@ -96,14 +84,14 @@ pub flush_well : (r : FlushRefusal) → IsUndamaged (flush_fault r)
 flush_well flush.DiskFault = tt
 flush_well flush.OutOfMemory = tt
 
-pub lane_well : (f : LaneFault) → IsWell f → IsUndamaged (lane_fault f)
-lane_well cause.None h = tt
-lane_well cause.Memory h = tt
-lane_well cause.Disk h = tt
-lane_well (cause.Damaged n) h = h
+pub lane_well : (f : LaneFault) (why : RunFault) → lane_fault f ≡ Some why → IsWell f → IsUndamaged why
+lane_well cause.None why is h = absurd cc
+lane_well cause.Memory why is h = subst IsUndamaged (let e : fault.Memory ≡ why = cc in e) tt
+lane_well cause.Disk why is h = subst IsUndamaged (let e : fault.Disk ≡ why = cc in e) tt
+lane_well (cause.Damaged n) why is h = elim h [ ]
 
 -- a lane that stopped at the disk has that cause
-pub lane_disk : (before now : ℕ) (f : LaneFault) → lane_fault f ≡ fault.Disk → HasCause before now f → Rose before now
+pub lane_disk : (before now : ℕ) (f : LaneFault) → lane_fault f ≡ Some fault.Disk → HasCause before now f → Rose before now
 lane_disk before now cause.None is h = absurd cc
 lane_disk before now cause.Memory is h = absurd cc
 lane_disk before now cause.Disk is h = h
@@ -113,29 +101,23 @@ lane_disk before now (cause.Damaged n) is h = absurd cc
 
 -- it is none of the input
 pub first_no_input : (lanes : List Lane) (why : RunFault) → IsFirstFault lanes why → why ≢ fault.Input
-first_no_input lanes why h is = lane_other h.lane.fault (sym h.is ∙ is)
+first_no_input lanes why h is = lane_other h.lane.fault (h.is ∙ ap Some is)
 
 -- that of a lane is the disk's only where its count rose, and no damage behind a past that it has whole
 pub lane_rose : (Past : Whole → Type 0) (before now : ℕ) (lanes : List Lane) (why : RunFault)
     → At (λ i x. Stops Past before now x) lanes → IsFirstFault lanes why → why ≡ fault.Disk → Rose before now
 lane_rose Past before now lanes why stops h is =
-    lane_disk before now h.lane.fault (sym h.is ∙ is) (stops h.at h.lane h.lane_is).cause
+    lane_disk before now h.lane.fault (h.is ∙ ap Some is) (stops h.at h.lane h.lane_is).cause
 
 pub lane_whole : (Past : Whole → Type 0) (before now : ℕ) (lanes : List Lane) (why : RunFault)
     → At (λ i x. Stops Past before now x) lanes → IsFirstFault lanes why → (past : Whole) → Past past → IsUndamaged why
 lane_whole Past before now lanes why stops h past p =
-    subst IsUndamaged (sym h.is) (lane_well h.lane.fault ((stops h.at h.lane h.lane_is).whole past p))
-
-pub first_named : (lanes : List Lane) (why : RunFault) → IsFirstFault lanes why → why ≢ fault.None
-first_named lanes why h is = lane_named h.lane.fault h.stopped (sym h.is ∙ is)
+    lane_well h.lane.fault why h.is ((stops h.at h.lane h.lane_is).whole past p)
 
 pub first_no_output : (lanes : List Lane) (why : RunFault) → IsFirstFault lanes why → why ≢ fault.Output
-first_no_output lanes why h is = lane_no_output h.lane.fault (sym h.is ∙ is)
+first_no_output lanes why h is = lane_no_output h.lane.fault (h.is ∙ ap Some is)
 
 -- ---- the last checkpoint
-
-pub commit_named : (why : RunFault) → IsCommitFault why → why ≢ fault.None
-commit_named why h is = flush_named h.0 (sym h.1 ∙ is)
 
 pub commit_other : (why : RunFault) → IsCommitFault why → why ≢ fault.Input
 commit_other why h is = flush_other h.0 (sym h.1 ∙ is)
@@ -150,7 +132,6 @@ commit_well why h = subst IsUndamaged (sym h.1) (flush_well h.0)
 
 -- a fault that names no number is no damage
 pub well_of : (why : RunFault) → ((n : ℕ) → why ≢ fault.Damaged n) → IsUndamaged why
-well_of fault.None h = tt
 well_of fault.Input h = tt
 well_of fault.Output h = tt
 well_of fault.Memory h = tt

@@ -80,11 +80,10 @@ module _
 
   -- a fault that is none of a round stops the run with the store
   pub stops_with : (p : Point D) (disk : D) (s : Store) (from to : ℕ) (r : Registry) (rounds : List Round) (e : Stopped)
-      → e.store ≡ Some s → CanClose s → e.why ≢ fault.None → IsUndamaged e.why
+      → e.store ≡ Some s → CanClose s → IsUndamaged e.why
       → HasRunFirst content images since moment p (point_at disk s) from r rounds false None to
       → StopsRounds content images since moment p disk from r rounds None e
-  stops_with p disk s from to r rounds e is close named well ran = record {
-    named = named;
+  stops_with p disk s from to r rounds e is close well ran = record {
     at = point_at disk s;
     disk_is = refl;
     store = subst (λ (z : Option Store). IfSome z (λ x. (point_at disk s ≡ point_at disk x) × CanClose x)) (sym is) (refl, close);
@@ -147,11 +146,11 @@ module _
           })
 
       -- it couldn't be written
-      pub one_unwritten : (e : Stopped) → e.store ≡ Some d.store → e.why ≢ fault.None → IsUndamaged e.why → e.why ≢ fault.Input
+      pub one_unwritten : (e : Stopped) → e.store ≡ Some d.store → IsUndamaged e.why → e.why ≢ fault.Input
           → GainedPart old new (report_text (said_items text.several a.count d.end d.said.items))
           → StopsOne content images since moment disk disk' a told text old new e
       unfolding block
-      one_unwritten e named_is named well other part =
+      one_unwritten e named_is well other part =
           let p = point_at disk a.store in
           let q = point_at disk' d.store in
           let r = registry_of (view a.store.pass) a.store.registrar in
@@ -160,7 +159,7 @@ module _
             rounds = h.rounds;
             cut = None;
             stops = stops_with p disk' d.store a.count d.end.to r h.rounds e named_is
-                (close_of images disk' d.store d.end.to h.go) named well
+                (close_of images disk' d.store d.end.to h.go) well
                 (first_of p q a.count d.end.to r t h.rounds h.ran h.go.end);
             renewed = renewed_any h.rounds true h.renewed;
             how = inr (

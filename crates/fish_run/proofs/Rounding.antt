@@ -1,5 +1,5 @@
 -- From round to round of a block.
-use Rattle.std.proofs.Common.{◌≡◌, ◌≢◌, ℕ, suc, ◌+◌, ◌<◌, List, [], ◌∷◌, ◌++◌, Bool, true, false, length}
+use Rattle.std.proofs.Common.{◌≡◌, ℕ, suc, ◌+◌, ◌<◌, List, [], ◌∷◌, ◌++◌, Bool, true, false, length}
 use Rattle.std.proofs.Common.{refl, sym, ap, ◌∙◌, ◌⊎◌, subst, inl, arith, None, Option, Some, slice_get}
 use Rattle.std.specs.Prelude.{◌&&◌, IfSome}
 use Rattle.fish_feed.specs.Queues.{AreIdle, IsGiven, both, works_of}
@@ -20,7 +20,7 @@ use Rattle.fish_rule.specs.declared.table.Log.{Log}
 use Rattle.fish_rule.specs.declared.view.Key.{Key}
 use Rattle.fish_rule.specs.declared.view.View.{View}
 use Rattle.fish_run.proofs.Blocks.{left, left_cut, left_whole}
-use Rattle.fish_run.proofs.Faults.{commit_named, commit_well, first_named, first_no_input, lane_whole}
+use Rattle.fish_run.proofs.Faults.{commit_well, first_no_input, lane_whole}
 use Rattle.fish_run.proofs.Giving.{both_length, given_next, idle_first, none_next, nones, nones_left, nones_length, nones_right}
 use Rattle.fish_run.proofs.Giving.{works_length}
 use Rattle.fish_run.proofs.Going.{close_of, here_self}
@@ -226,15 +226,14 @@ module _
         }
 
     -- none could be read, or memory ran out
-    pub stops_unread : (why : RunFault) → why ≢ fault.None → IsUndamaged why → CanGoOn images disk a.store a.from
+    pub stops_unread : (why : RunFault) → IsUndamaged why → CanGoOn images disk a.store a.from
         → StopsBlock content images since moment d s from given disk (record { store = Some a.store; why = why })
-    stops_unread why named well go = record {
+    stops_unread why well go = record {
       rounds = g.rounds;
       cut = None;
       follow = g.follow;
       were = g.were;
       stops = record {
-        named = named;
         at = point_at disk a.store;
         disk_is = refl;
         store = (refl, close_of images disk a.store a.from go);
@@ -252,16 +251,15 @@ module _
     }
 
   -- a fault came before it
-  pub stops_before : (e : Stopped) → e.store ≡ Some s → e.why ≢ fault.None → IsUndamaged e.why → CanGoOn images d s from
+  pub stops_before : (e : Stopped) → e.store ≡ Some s → IsUndamaged e.why → CanGoOn images d s from
       → (given : List (List Work)) → StopsBlock content images since moment d s from given d e
-  stops_before e store named well go given = record {
+  stops_before e store well go given = record {
     rounds = [];
     cut = None;
     follow = tt;
     were = tt;
     renewed = tt;
     stops = record {
-      named = named;
       at = p;
       disk_is = refl;
       store = subst (λ (z : Option Store). IfSome z (λ x. (p ≡ point_at d x) × CanClose x)) (sym store)
@@ -278,17 +276,16 @@ module _
   }
 
   -- its files couldn't be opened
-  pub stops_unopened : (e : Stopped) → e.store ≡ Some s → e.why ≢ fault.None → IsUndamaged e.why → CanGoOn images d s from
+  pub stops_unopened : (e : Stopped) → e.store ≡ Some s → IsUndamaged e.why → CanGoOn images d s from
       → (texts : List (List Statement)) (told : Option Files) → StopsLanes content images since moment d s from texts d told e
   unfolding stops_before
-  stops_unopened e store named well go texts told =
-      record { given = []; stops = stops_before e store named well go []; are = tt }
+  stops_unopened e store well go texts told =
+      record { given = []; stops = stops_before e store well go []; are = tt }
 
   -- memory ran out before it
   pub stops_none : (e : Stopped) → e.store ≡ Some s → e.why ≡ fault.Memory → CanGoOn images d s from
       → (given : List (List Work)) → StopsBlock content images since moment d s from given d e
-  stops_none e store why go given = stops_before e store
-      (λ is. (let bad : fault.Memory ≡ fault.None = sym why ∙ is in absurd cc)) (subst IsUndamaged (sym why) tt) go given
+  stops_none e store why go given = stops_before e store (subst IsUndamaged (sym why) tt) go given
 
   -- ---- after a round
 
@@ -350,7 +347,6 @@ module _
       were = were;
       renewed = renewed_push g.rounds b true g.renewed (λ line lines end f. inl refl);
       stops = record {
-        named = first_named ran why f;
         at = at;
         disk_is = refl;
         store = (refl, close);
@@ -384,7 +380,6 @@ module _
         were = were;
         renewed = renewed_push g.rounds b true g.renewed (λ line lines end f. inl refl);
         stops = record {
-          named = commit_named e.why k.named;
           at = k.at;
           disk_is = k.disk_is;
           store = k.store;
@@ -432,7 +427,6 @@ module _
           were = were;
           renewed = renewed_push g.rounds b true g.renewed (λ line lines end f. inl refl);
           stops = record {
-            named = λ is. (let bad : fault.Memory ≡ fault.None = sym why ∙ is in absurd cc);
             at = q;
             disk_is = refl;
             store = subst (λ (z : Option Store). IfSome z (λ x. (q ≡ point_at disk'' x) × CanClose x)) (sym store)

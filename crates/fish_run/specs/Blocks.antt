@@ -1,5 +1,5 @@
 -- What a run tells of the whole log, by the rounds of its blocks.
-use Rattle.std.specs.Prelude.{ℕ, ◌≡◌, ◌≢◌, ◌<◌, ◌≤◌, ◌+◌, List, [], ◌∷◌, ◌++◌, length, map, slice_get, Bool, true, false, Option, Some, None, ⊤}
+use Rattle.std.specs.Prelude.{ℕ, ◌≡◌, ◌<◌, ◌≤◌, ◌+◌, List, [], ◌∷◌, ◌++◌, length, map, slice_get, Bool, true, false, Option, Some, None, ⊤}
 use Rattle.fish_catalog.specs.Clamps.{clamped}
 use Rattle.fish_catalog.specs.declared.row.CatRow.{CatRow}
 use Rattle.fish_lanes.specs.Blocks.{AreEnded, At, NameMarks, TellsBlock, control_items}
@@ -202,8 +202,7 @@ pub record IsFirstFault (lanes : List Lane) (why : RunFault) : Type 0 where
   pub at : ℕ
   pub lane : Lane
   pub lane_is : slice_get lanes at ≡ Some lane
-  pub stopped : lane.fault ≢ cause.None
-  pub is : why ≡ lane_fault lane.fault
+  pub is : lane_fault lane.fault ≡ Some why
   pub before : (i : ℕ) (x : Lane) → i < at → slice_get lanes i ≡ Some x → x.fault ≡ cause.None
 
 -- all refusals by a full log name marks

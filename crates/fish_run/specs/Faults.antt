@@ -1,5 +1,5 @@
 -- Why a run stops.
-use Rattle.std.specs.Prelude.{◌≡◌, ⊤}
+use Rattle.std.specs.Prelude.{◌≡◌, ⊤, Option, None, Some}
 use Rattle.fish_flush.specs.declared.refusal.FlushRefusal.{FlushRefusal}
 use Rattle.fish_flush.specs.declared.refusal.FlushRefusal.TheVariants as flush
 use Rattle.fish_lanes.specs.declared.work.LaneFault.{LaneFault}
@@ -26,12 +26,12 @@ abbrev pub flush_fault : FlushRefusal → RunFault
 flush_fault flush.DiskFault = fault.Disk
 flush_fault flush.OutOfMemory = fault.Memory
 
--- a lane that stopped
-abbrev pub lane_fault : LaneFault → RunFault
-lane_fault cause.None = fault.None
-lane_fault cause.Memory = fault.Memory
-lane_fault cause.Disk = fault.Disk
-lane_fault (cause.Damaged number) = fault.Damaged number
+-- a lane that stopped, if it did
+abbrev pub lane_fault : LaneFault → Option RunFault
+lane_fault cause.None = None
+lane_fault cause.Memory = Some fault.Memory
+lane_fault cause.Disk = Some fault.Disk
+lane_fault (cause.Damaged number) = Some (fault.Damaged number)
 
 -- the fault is one of a checkpoint
 abbrev pub IsCommitFault : RunFault → Type 0
@@ -40,7 +40,6 @@ IsCommitFault why = (r : FlushRefusal) × (why ≡ flush_fault r)
 -- no record was damaged
 abbrev pub IsUndamaged : RunFault → Type 0
 IsUndamaged (fault.Damaged number) = ⊥
-IsUndamaged fault.None = ⊤
 IsUndamaged fault.Input = ⊤
 IsUndamaged fault.Output = ⊤
 IsUndamaged fault.Memory = ⊤

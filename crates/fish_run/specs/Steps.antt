@@ -140,7 +140,6 @@ pub record StopsRounds
     (since : D → ℕ → List ℕ → Type 0)
     (moment : D → ℕ)
     (p : Point D) (disk : D) (from : ℕ) (r : Registry) (rounds : List Round) (cut : Option Round) (s : Stopped) : Type 0 where
-  pub named : s.why ≢ fault.None
   pub at : Point D
   pub disk_is : at.disk ≡ disk
   pub store : IfSome s.store (λ x. (at ≡ point_at disk x) × CanClose x)
@@ -219,7 +218,7 @@ pub record CommitsAll
 -- ---- the end
 
 -- the last item was written where all blocks had run
-abbrev pub Finishes : Result ℕ RunFault → RunFault → Option (List ℕ) → Option (List ℕ) → Type 0
-Finishes (Ok count) fault.None old new = Gained old new (report_text (item.Closed count ∷ []))
-Finishes (Ok count) why old new = (why ≢ fault.Input) × GainedPart old new (report_text (item.Closed count ∷ []))
-Finishes (Err before) why old new = (why ≡ before) × Gained old new []
+abbrev pub Finishes : Result ℕ RunFault → Option RunFault → Option (List ℕ) → Option (List ℕ) → Type 0
+Finishes (Ok count) None old new = Gained old new (report_text (item.Closed count ∷ []))
+Finishes (Ok count) (Some why) old new = (why ≢ fault.Input) × GainedPart old new (report_text (item.Closed count ∷ []))
+Finishes (Err before) why old new = (why ≡ Some before) × Gained old new []

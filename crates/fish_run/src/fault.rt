@@ -1,5 +1,8 @@
 //! Why a run stops.
 
+ghost use Rattle.std.specs.Prelude.{◌≡◌};
+ghost use Rattle.fish_run.specs.Faults.{lane_fault};
+
 use fish_flush::FlushRefusal;
 use fish_lanes::LaneFault;
 use fish_outside::FeedRefusal;
@@ -8,8 +11,6 @@ use fish_report::WriteRefusal;
 /// Why a run stopped before its script's end.
 #[derive(Clone, Copy, Debug, PartialEq, Eq)]
 pub enum RunFault {
-    /// It didn't.
-    None,
     /// A file couldn't be read.
     Input,
     /// The output failed.
@@ -67,18 +68,14 @@ impl From<FlushRefusal> for RunFault {
     }
 }
 
-impl From<LaneFault> for RunFault {
-    ghost use Rattle.std.specs.Prelude.{◌≡◌};
-    ghost use Rattle.fish_run.specs.Faults.{lane_fault};
-
-    ghost from_gives = { λ stopped fault. fault ≡ lane_fault stopped };
-
-    fn from(stopped: LaneFault) -> RunFault {
-        match stopped {
-            LaneFault::None => RunFault::None,
-            LaneFault::Memory => RunFault::Memory,
-            LaneFault::Disk => RunFault::Disk,
-            LaneFault::Damaged { number } => RunFault::Damaged { number },
-        }
+/// The fault at which a lane stopped, if it did.
+pub(crate) fn lane_fault(stopped: LaneFault) -> Option<RunFault>
+    ensures { result ≡ lane_fault stopped }
+{
+    match stopped {
+        LaneFault::None => None,
+        LaneFault::Memory => Some(RunFault::Memory),
+        LaneFault::Disk => Some(RunFault::Disk),
+        LaneFault::Damaged { number } => Some(RunFault::Damaged { number }),
     }
 }

@@ -147,11 +147,10 @@ fn first_fault(lanes: &[Lane]) -> Result<(), RunFault>
     ensures whole { OnOk result (AreWhole lanes.now) }
     ensures first { IfErr result (IsFirstFault lanes.now) }
 {
-    let why = fault_of(lanes);
-    if why != RunFault::None {
-        return Err(why);
+    match fault_of(lanes) {
+        Some(why) => Err(why),
+        None => Ok(()),
     }
-    Ok(())
 }
 
 /// Begins a new table after a log of so many entries, where one is asked for.

@@ -18,6 +18,7 @@ ghost use Rattle.fish_run.specs.Reports.{first_item, said_items, said_refused};
 ghost use Rattle.fish_run.specs.Running.{EndsOne, EndsRun, StopsOne, StopsRun, counts_of};
 ghost use Rattle.fish_run.specs.Runs.{CanClose, CanGoOn, IsNewStore};
 ghost use Rattle.fish_run.specs.Steps.{Finishes};
+ghost use Rattle.fish_run.specs.declared.fault.RunFault.{RunFault as Why};
 ghost use Rattle.fish_run.specs.within.Counting.{AreLater, IsCausedBy};
 ghost use Rattle.fish_script.specs.Runnable.{CanRun, IsRunnableBlock};
 
@@ -40,7 +41,8 @@ use std::thread::Threads;
 /// What a run leaves.
 #[derive(Drop)]
 pub struct Ran {
-    pub fault: RunFault,
+    /// Why it stopped before its script's end, if it did.
+    pub fault: Option<RunFault>,
     /// Whether a statement was refused.
     pub refused: bool,
     /// The log, where there was memory to show it.
@@ -83,21 +85,21 @@ where
     requires opened { (c : Commit) × (log : List Entry)
         × IsOpened (D.content disk.old) (D.images disk.old) c log opened }
     requires script { CanRun script.now }
-    ensures whole { result.fault ≡ RunFault.None → (r : Remains) × (result.remains ≡ Some r)
+    ensures whole { result.fault ≡ None → (r : Remains) × (result.remains ≡ Some r)
         × IsWhole D.content D.images D.since D.moment disk.old disk.new opened (H.files host.new) script.now r
         (W.written out.old) (W.written out.new) result.refused }
-    ensures stopped { result.fault ≢ RunFault.None → (r : Remains) → result.remains ≡ Some r
+    ensures stopped { (why : Why) → result.fault ≡ Some why → (r : Remains) → result.remains ≡ Some r
         → IsStopped D.content D.images D.since D.moment disk.old disk.new opened (H.files host.new) script.now r
-        (W.written out.old) (W.written out.new) result.fault }
-    ensures lost { result.remains ≡ None → (result.fault ≡ RunFault.Memory)
+        (W.written out.old) (W.written out.new) why }
+    ensures lost { result.remains ≡ None → (result.fault ≡ Some RunFault.Memory)
         × IsLost D.content D.images D.since D.moment disk.old disk.new opened (H.files host.new) script.now
         (W.written out.old) (W.written out.new) }
     ensures told { StillTold (H.files host.old) (H.files host.new) }
     ensures before { IsSome (D.content disk.new) → IsSome (D.content disk.old) }
-    ensures input { result.fault ≡ RunFault.Input → Rose (H.faults host.old) (H.faults host.new) }
-    ensures output { result.fault ≡ RunFault.Output → Rose (W.faults out.old) (W.faults out.new) }
-    ensures disk { result.fault ≡ RunFault.Disk → Rose (D.faults disk.old) (D.faults disk.new) }
-    ensures damaged { IsSome (D.content disk.new) → IsUndamaged result.fault }
+    ensures input { result.fault ≡ Some RunFault.Input → Rose (H.faults host.old) (H.faults host.new) }
+    ensures output { result.fault ≡ Some RunFault.Output → Rose (W.faults out.old) (W.faults out.new) }
+    ensures disk { result.fault ≡ Some RunFault.Disk → Rose (D.faults disk.old) (D.faults disk.new) }
+    ensures damaged { IsSome (D.content disk.new) → IfSome result.fault IsUndamaged }
 {
     let made = opened.made;
     let count = opened.count;
@@ -120,7 +122,7 @@ where
         Err(Stopped { store, why }) => match store {
             Some(store) => close(alloc, store, out, Err(why), refused),
             None => Ran {
-                fault: why,
+                fault: Some(why),
                 refused,
                 remains: None,
             },
@@ -137,16 +139,15 @@ fn close<W: Sink>(
     refused: bool,
 ) -> Ran
     requires close { CanClose store }
-    requires named { IfErr ended (λ why. why ≢ RunFault.None) }
     ensures refused { result.refused ≡ refused }
     ensures shown { IfSome result.remains (λ r. IsClosed (view store.pass) r
         × Finishes ended result.fault (W.written out.old) (W.written out.new)) }
-    ensures lost { result.remains ≡ None → (result.fault ≡ RunFault.Memory) × (out.new ≡ out.old) }
-    ensures input { result.fault ≡ RunFault.Input → ended ≡ Err RunFault.Input }
-    ensures output { result.fault ≡ RunFault.Output → (ended ≡ Err RunFault.Output)
+    ensures lost { result.remains ≡ None → (result.fault ≡ Some RunFault.Memory) × (out.new ≡ out.old) }
+    ensures input { result.fault ≡ Some RunFault.Input → ended ≡ Err RunFault.Input }
+    ensures output { result.fault ≡ Some RunFault.Output → (ended ≡ Err RunFault.Output)
         ⊎ Rose (W.faults out.old) (W.faults out.new) }
-    ensures disk { result.fault ≡ RunFault.Disk → ended ≡ Err RunFault.Disk }
-    ensures damaged { (n : ℕ) → result.fault ≡ RunFault.Damaged n → ended ≡ Err (RunFault.Damaged n) }
+    ensures disk { result.fault ≡ Some RunFault.Disk → ended ≡ Err RunFault.Disk }
+    ensures damaged { (n : ℕ) → result.fault ≡ Some (RunFault.Damaged n) → ended ≡ Err (RunFault.Damaged n) }
     ensures later { W.faults out.old ≤ W.faults out.new }
 {
     let Store {
@@ -168,7 +169,7 @@ fn close<W: Sink>(
         Err(want) => {
             drop(want);
             Ran {
-                fault: RunFault::Memory,
+                fault: Some(RunFault::Memory),
                 refused,
                 remains: None,
             }
@@ -177,21 +178,21 @@ fn close<W: Sink>(
 }
 
 /// Writes how long the log is in the end, where no fault came before.
-fn finish<W: Sink>(alloc: Global, out: &mut W, ended: Result<u32, RunFault>) -> RunFault
+fn finish<W: Sink>(alloc: Global, out: &mut W, ended: Result<u32, RunFault>) -> Option<RunFault>
     ensures ends { Finishes ended result (W.written out.old) (W.written out.new) }
-    ensures input { result ≡ RunFault.Input → ended ≡ Err RunFault.Input }
-    ensures output { result ≡ RunFault.Output → (ended ≡ Err RunFault.Output)
+    ensures input { result ≡ Some RunFault.Input → ended ≡ Err RunFault.Input }
+    ensures output { result ≡ Some RunFault.Output → (ended ≡ Err RunFault.Output)
         ⊎ Rose (W.faults out.old) (W.faults out.new) }
-    ensures disk { result ≡ RunFault.Disk → ended ≡ Err RunFault.Disk }
-    ensures damaged { (n : ℕ) → result ≡ RunFault.Damaged n → ended ≡ Err (RunFault.Damaged n) }
+    ensures disk { result ≡ Some RunFault.Disk → ended ≡ Err RunFault.Disk }
+    ensures damaged { (n : ℕ) → result ≡ Some (RunFault.Damaged n) → ended ≡ Err (RunFault.Damaged n) }
     ensures later { W.faults out.old ≤ W.faults out.new }
 {
     match ended {
         Ok(count) => match write_items(alloc, out, &[Item::Closed { count }]) {
-            Ok(()) => RunFault::None,
-            Err(refusal) => RunFault::from(refusal),
+            Ok(()) => None,
+            Err(refusal) => Some(RunFault::from(refusal)),
         },
-        Err(fault) => fault,
+        Err(fault) => Some(fault),
     }
 }
 

@@ -1,6 +1,6 @@
 //! What is written of a block: the items of its lanes, in order.
 
-ghost use Rattle.std.specs.Prelude.{◌≡◌, ◌≢◌, ◌∷◌, [], OnErr, OnOk};
+ghost use Rattle.std.specs.Prelude.{◌≡◌, ◌∷◌, [], IfSome, None, OnErr, OnOk};
 ghost use Rattle.std.specs.List.{flat_map, list_any};
 ghost use Rattle.fish_outside.specs.Told.{Gained, GainedPart};
 ghost use Rattle.fish_report.specs.ReportText.{is_refusal, report_text};
@@ -10,24 +10,25 @@ ghost use Rattle.fish_run.specs.Reports.{block_foot, block_head, first_item, lan
 ghost use Rattle.fish_run.specs.Reports.{said_refused};
 ghost use Rattle.fish_run.specs.Steps.{AreWhole};
 
-use crate::fault::RunFault;
+use crate::fault::{RunFault, lane_fault};
 use crate::saying::Said;
-use fish_lanes::{BlockEnd, Lane, LaneFault};
+use fish_lanes::{BlockEnd, Lane};
 use fish_outside::Sink;
 use fish_report::{Item, WriteRefusal, write_items};
 use std::alloc::Global;
 
 /// The fault of the first lane that stopped at one.
-pub(crate) fn fault_of(lanes: &[Lane]) -> RunFault
-    ensures none { result ≡ RunFault.None → AreWhole lanes.now }
-    ensures first { result ≢ RunFault.None → IsFirstFault lanes.now result }
+pub(crate) fn fault_of(lanes: &[Lane]) -> Option<RunFault>
+    ensures none { result ≡ None → AreWhole lanes.now }
+    ensures first { IfSome result (IsFirstFault lanes.now) }
 {
     for lane in lanes {
-        if lane.fault != LaneFault::None {
-            return RunFault::from(lane.fault);
+        let fault = lane_fault(lane.fault);
+        if fault.is_some() {
+            return fault;
         }
     }
-    RunFault::None
+    None
 }
 
 /// Whether a statement of a lane was refused.

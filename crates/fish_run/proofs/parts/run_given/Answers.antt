@@ -4,7 +4,7 @@ use Rattle.fish_feed.specs.Queues.{both, works_of}
 use Rattle.fish_lanes.specs.declared.lane.Lane.{Lane}
 use Rattle.fish_lanes.specs.declared.work.Work.{Work}
 use Rattle.fish_outside.proofs.CauseLemmas.{Rose_earlier}
-use Rattle.fish_run.proofs.Faults.{feed_failed, feed_named, feed_no_disk, feed_no_output, feed_well}
+use Rattle.fish_run.proofs.Faults.{feed_failed, feed_no_disk, feed_no_output, feed_well}
 use Rattle.fish_run.proofs.Going.{err_known}
 use Rattle.fish_run.proofs.Giving.{nones, nones_at, nones_length}
 use Rattle.fish_run.proofs.Rounding.{goes_first, nothing_length, ready_given, stops_unread}
@@ -49,7 +49,7 @@ returns-in-Err-clause-stopped g c =
     record {
       given = inv.given;
       stops = stops_unread disk.content disk.images disk.since disk.moment a.disk.now a.store a.from l.disk l.start l.lanes l.said inv.given
-          inv.goes c.from.result (λ none. feed_named refusal (sym why ∙ none)) (subst IsUndamaged (sym why) (feed_well refusal)) inv.go;
+          inv.goes c.from.result (subst IsUndamaged (sym why) (feed_well refusal)) inv.go;
       may = λ texts h. c.in-Err.ensures.failed texts inv.given (inv.queues texts h);
     }
 

@@ -5,7 +5,7 @@ use Rattle.fish_feed.specs.Queues.{IsQueue, MayEnd}
 use Rattle.fish_feed.specs.Works.{Triples}
 use Rattle.fish_outside.proofs.CauseLemmas.{Rose_earlier, Rose_later}
 use Rattle.fish_outside.specs.Causes.{Rose}
-use Rattle.fish_run.proofs.Faults.{feed_named, feed_well}
+use Rattle.fish_run.proofs.Faults.{feed_well}
 use Rattle.fish_run.proofs.Lists.{pairs_length, written_back}
 use Rattle.fish_run.proofs.One.{are_rounds}
 use Rattle.fish_run.proofs.Rounding.{stops_unopened}
@@ -114,5 +114,5 @@ returns-in-Err-clause-stopped g c =
     let refusal = c.in-Err.refusal in
     let why : c.from.result ≡ feed_fault refusal = c.from.ensures in
     stops_unopened disk.content disk.images disk.since disk.moment a.disk.now a.store a.from
-    (record { store = Some a.store; why = c.from.result }) refl (λ none. feed_named refusal (sym why ∙ none))
+    (record { store = Some a.store; why = c.from.result }) refl
     (subst IsUndamaged (sym why) (feed_well refusal)) c.requires.go a.texts.now (g.H.Host.files c.open_lanes.new.host)

@@ -6,7 +6,7 @@ use Rattle.fish_lanes.specs.Registering.{Registry, registry_of}
 use Rattle.fish_rule.specs.Passes.{view}
 use Rattle.fish_run.proofs.Caused.{caused_since, caused_write}
 use Rattle.fish_run.proofs.Ends.{runs_all, stops_first, stops_more, writes_first, writes_more}
-use Rattle.fish_run.proofs.Faults.{write_named, write_other, write_well}
+use Rattle.fish_run.proofs.Faults.{write_other, write_well}
 use Rattle.fish_run.proofs.Going.{close_of, err_known, new_registry}
 use Rattle.fish_run.proofs.Lists.{get_at}
 use Rattle.fish_run.proofs.One.{first_of, rounds_self, stops_with}
@@ -109,7 +109,7 @@ returns-in-Err-clause-some g c =
     stops_first disk.content disk.images disk.since disk.moment from first (first_item c.args.made from) p c.args.disk.now
     (g.H.Host.files c.args.host.now) c.args.script.now (g.W.Sink.written c.args.out.now) (g.W.Sink.written c.write_opened.new.out) e
     (stops_with disk.content disk.images disk.since disk.moment p c.args.disk.now s from from first [] e c.stopped.ensures.store
-    (close_of disk.images c.args.disk.now s s.log.key.number new.go) (λ none. write_named refusal (sym why ∙ none))
+    (close_of disk.images c.args.disk.now s s.log.key.number new.go)
     (subst IsUndamaged (sym why) (write_well refusal))
     (first_of disk.content disk.images disk.since disk.moment p p from from first first []
     (rounds_self disk.content disk.images disk.since disk.moment p from first)

@@ -1,5 +1,5 @@
 -- The blocks run from the moment at which the store was opened, and the log that is closed is the one of which they tell.
-use Rattle.std.proofs.Common.{◌≡◌, ◌^◌, ◌∙◌, Bool, Err, Ok, ap, refl, subst, sym}
+use Rattle.std.proofs.Common.{◌≡◌, ◌^◌, ◌∙◌, Bool, Err, None, Ok, Some, ap, refl, subst, sym}
 use Rattle.fish_rule.specs.ClosedLog.{IsClosed}
 use Rattle.fish_rule.specs.Passes.{view}
 use Rattle.fish_rule.specs.declared.close.Remains.{Remains}
@@ -46,7 +46,7 @@ returns-in-Ok-clause-whole g c none =
     shown_some (λ (r : Remains). IsClosed (view l.store.pass) r × Finishes (Ok l.count) k.result.fault mid now)
     (λ (r : Remains). IsWhole disk.content disk.images disk.since disk.moment first b.new.disk o told text r old now k.result.refused)
     k.result.remains
-    (λ lost. (let bad : fault.None ≡ fault.Memory = sym none ∙ (k.ensures.lost lost).0 in absurd cc)) k.ensures.shown
+    (λ lost. (let bad : None ≡ Some fault.Memory = sym none ∙ (k.ensures.lost lost).0 in absurd cc)) k.ensures.shown
     (λ r f. subst (λ (z : Bool). IsWhole disk.content disk.images disk.since disk.moment first b.new.disk o told text r old now z)
     (sym k.ensures.refused)
     (ends_whole disk.content disk.images disk.since disk.moment laws.as_read first o (point_at first s)
@@ -56,7 +56,7 @@ returns-in-Ok-clause-whole g c none =
     now l.store h.close r f.0 b.new.refused l.count k.result.fault none h.runs (h.committed refl) f.1))
 
 pub returns-in-Ok-clause-stopped : goal.returns-in-Ok-clause-stopped
-returns-in-Ok-clause-stopped g c other r is =
+returns-in-Ok-clause-stopped g c why fault_is r is =
     let disk = g.D.Disk in
     let laws = g.met.D.Disk g.world.𝓛 g.world.𝓜 g.world.𝓡 ((λ s x. x), (λ x. x), (λ x. x), λ x. x) in
     let o = c.args.opened in
@@ -76,13 +76,13 @@ returns-in-Ok-clause-stopped g c other r is =
     let k = c.close in
     let now = g.W.Sink.written k.new.out in
     shown_is (λ (r : Remains). IsClosed (view l.store.pass) r × Finishes (Ok l.count) k.result.fault mid now)
-    (λ (r : Remains). IsStopped disk.content disk.images disk.since disk.moment first b.new.disk o told text r old now k.result.fault)
+    (λ (r : Remains). IsStopped disk.content disk.images disk.since disk.moment first b.new.disk o told text r old now why)
     k.result.remains r is k.ensures.shown
     (λ f. ends_late disk.content disk.images disk.since disk.moment laws.as_read first o (point_at first s)
     (point_opened first s o e.log e.pass e.rows e.flusher e.cold) s.registrar.catalog e.rows new.unshut
     (subst (λ (z : Log). z.key.buckets ≡ 2 ^ z.shape.bucket_bits) e.log new.go.table.buckets)
     (new.go.can.of.about ∙ ap (λ (z : Log). z.key) e.log) b.new.disk told text old mid
-    now l.store h.close r f.0 b.new.refused l.count k.result.fault other h.runs (h.committed refl) f.1)
+    now l.store h.close r f.0 b.new.refused l.count why k.result.fault fault_is h.runs (h.committed refl) f.1)
 
 pub returns-in-Ok-clause-lost : goal.returns-in-Ok-clause-lost
 returns-in-Ok-clause-lost g c none =
@@ -129,11 +129,11 @@ returns-in-Some-clause-whole g c none =
     shown_some (λ (r : Remains). IsClosed (view c.in-Some.store.pass) r × Finishes (Err stop.why) k.result.fault mid now)
     (λ (r : Remains). IsWhole disk.content disk.images disk.since disk.moment c.args.disk.now c.run_store.new.disk c.args.opened
     (g.H.Host.files c.run_store.new.host) c.args.script.now r (g.W.Sink.written c.args.out.now) now k.result.refused) k.result.remains
-    (λ lost. (let bad : fault.None ≡ fault.Memory = sym none ∙ (k.ensures.lost lost).0 in absurd cc)) k.ensures.shown
-    (λ r f. absurd (c.in-Err.ensures.some.stops.named (sym f.1.0 ∙ none)))
+    (λ lost. (let bad : None ≡ Some fault.Memory = sym none ∙ (k.ensures.lost lost).0 in absurd cc)) k.ensures.shown
+    (λ r f. (let bad : Some stop.why ≡ None = sym f.1.0 ∙ none in absurd cc))
 
 pub returns-in-Some-clause-stopped : goal.returns-in-Some-clause-stopped
-returns-in-Some-clause-stopped g c other r is =
+returns-in-Some-clause-stopped g c why fault_is r is =
     let disk = g.D.Disk in
     let laws = g.met.D.Disk g.world.𝓛 g.world.𝓜 g.world.𝓡 ((λ s x. x), (λ x. x), (λ x. x), λ x. x) in
     let o = c.args.opened in
@@ -154,13 +154,13 @@ returns-in-Some-clause-stopped g c other r is =
     let k = c.close-in-Some in
     let now = g.W.Sink.written k.new.out in
     shown_is (λ (r : Remains). IsClosed (view x.pass) r × Finishes (Err stop.why) k.result.fault mid now)
-    (λ (r : Remains). IsStopped disk.content disk.images disk.since disk.moment first b.new.disk o told text r old now k.result.fault)
+    (λ (r : Remains). IsStopped disk.content disk.images disk.since disk.moment first b.new.disk o told text r old now why)
     k.result.remains r is k.ensures.shown
     (λ f. ends_stopped disk.content disk.images disk.since disk.moment laws.as_read first o (point_at first s)
     (point_opened first s o e.log e.pass e.rows e.flusher e.cold) s.registrar.catalog e.rows new.unshut
     (subst (λ (z : Log). z.key.buckets ≡ 2 ^ z.shape.bucket_bits) e.log new.go.table.buckets)
     (new.go.can.of.about ∙ ap (λ (z : Log). z.key) e.log) b.new.disk told text old mid
-    now x r f.0 stop k.result.fault c.in-Some.is some f.1)
+    now x r f.0 stop why k.result.fault fault_is c.in-Some.is some f.1)
 
 pub returns-in-Some-clause-lost : goal.returns-in-Some-clause-lost
 returns-in-Some-clause-lost g c none =
@@ -239,7 +239,7 @@ returns-in-None-clause-lost g c none =
     e.flusher e.cold in
     let stop = c.in-Err.field-0 in
     let some = c.in-Err.ensures.some in (
-      some.stops.lost c.in-None.is,
+      ap Some (some.stops.lost c.in-None.is),
       lost_some disk.content disk.images disk.since disk.moment laws.as_read first o (point_at first s)
           (point_opened first s o e.log e.pass e.rows e.flusher e.cold) s.registrar.catalog e.rows new.unshut
           (subst (λ (z : Log). z.key.buckets ≡ 2 ^ z.shape.bucket_bits) e.log new.go.table.buckets)

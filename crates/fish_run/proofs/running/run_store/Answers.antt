@@ -3,7 +3,7 @@ use Rattle.std.proofs.Common.{ap, refl, Err, Some}
 use Rattle.fish_rule.specs.declared.table.Log.{Log}
 use Rattle.fish_run.proofs.Caused.{caused_inner, caused_since}
 use Rattle.fish_run.proofs.Ends.{all_later, all_stopped}
-use Rattle.fish_run.proofs.Faults.{commit_named, commit_no_output, commit_other, commit_well}
+use Rattle.fish_run.proofs.Faults.{commit_no_output, commit_other, commit_well}
 use Rattle.fish_run.proofs.One.{runs_on, stops_with}
 use Rattle.fish_run.specs.Blocks.{first_registry, rounds_of}
 use Rattle.fish_run.specs.Reports.{first_item}
@@ -43,7 +43,7 @@ returns-in-Err-clause-some g c =
     all_stopped disk.content disk.images disk.since disk.moment c.args.count first begin p q c.commit.new.disk told c.args.script.now old
     new c.run_blocks.new.refused l.count e all
     (stops_with disk.content disk.images disk.since disk.moment p c.commit.new.disk last c.args.count l.count first
-    (rounds_of all.blocks) e refl c.commit.ensures.close (commit_named why named) (commit_well why named) all.ran)
+    (rounds_of all.blocks) e refl c.commit.ensures.close (commit_well why named) all.ran)
     (commit_other why named)
 
 pub returns-in-Err-clause-cause : goal.returns-in-Err-clause-cause
