@@ -1,5 +1,6 @@
 -- One statement more.
-use Rattle.std.proofs.Common.{◌≡◌, ◌<◌, ◌++◌, ◌∷◌, ◌∙◌, [], List, None, Option, Some, append-nil, ap, arith, inl, inr, refl, subst, sym, ⊎_elim}
+use Rattle.std.proofs.Common.{◌≡◌, ◌<◌, ◌++◌, ◌∷◌, ◌∙◌, [], List, None, Option}
+use Rattle.std.proofs.Common.{Some, append-nil, ap, arith, inl, inr, refl, subst, sym, ⊎_elim}
 use Rattle.std.specs.Prelude.{IfSome, is_some, option_to_list}
 use Rattle.fish_feed.proofs.Fit.{anew_more, first_or_anew, given_more, may_front, may_push, may_queue, none_or_full}
 use Rattle.fish_feed.proofs.Giving.{lane_with}
