@@ -5,6 +5,7 @@ pub mod Doing
 pub mod Ending
 pub mod Full
 pub mod Gains
+pub mod Leaving
 pub mod Loading
 pub mod Outcome
 pub mod Pending

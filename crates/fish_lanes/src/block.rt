@@ -7,6 +7,7 @@ ghost use Rattle.fish_lanes.specs.Blocks.{NameMarks, TellsBlock};
 ghost use Rattle.fish_lanes.specs.Controlling.{CanControl, IsCommitted};
 ghost use Rattle.fish_lanes.specs.Ending.{HasEnd};
 ghost use Rattle.fish_lanes.specs.Gains.{WasShut};
+ghost use Rattle.fish_lanes.specs.Leaving.{ItemsHold, LeavesLanes, LeavesStore};
 ghost use Rattle.fish_lanes.specs.Outcome.{AreVacant, HandsBack, LanesSayPlans, LeaveNone, Stops, TellFullLast};
 ghost use Rattle.fish_lanes.specs.Outcome.{TellsAlone, TellsAloneBy, TellsShutBy};
 ghost use Rattle.fish_lanes.specs.Plans.{KnowsRows};
@@ -340,34 +341,11 @@ pub fn run_block<R: Threads + Sync, D: Disk + Send, G: Gate + Sync>(
     requires end { (from : ℕ) × HasEnd (view store.old.pass) from }
     requires known { KnowsRegistry (view store.old.pass) (registry_of (view store.old.pass) store.old.registrar) }
     requires lanes { AreLanes lanes.old }
-    ensures log { store.new.log ≡ store.old.log }
-    ensures can { CanControl store.new.log store.new.pass store.new.registrar }
-    ensures below { IsBelow store.new.log.key store.new.file.cold }
-    ensures goes { GoesOnHere D.content D.images D.since D.moment (point_at disk.old store.old) (point_at disk.new store.new) }
-    ensures again { ((x : Lane) → slice_get lanes.new 0 ≡ Some x → x.fault ≡ cause.Disk → ⊥)
-        → MayGoOn D.images (point_at disk.new store.new) }
-    ensures end { HasEnd (view store.new.pass) result.to }
-    ensures later { Later (view store.old.pass) (view store.new.pass) }
-    ensures kept { AreKept lanes.old lanes.new }
-    ensures vacant { AreVacant lanes.old → AreVacant lanes.new }
-    ensures told { (past : Whole) → IsSoundBehind D.content D.images (point_at disk.old store.old) (D.content disk.new) past
-        → (s : Span) → IsBlockSpan (view store.old.pass) (view store.new.pass) result.to s → s.lanes ≡ length lanes.old
-        → (s.from ≤ s.to) × Will past (view store.new.pass) (λ w. TellsBlock w s lanes.new) }
-    ensures registered { (x : Lane) → slice_get lanes.new 0 ≡ Some x
-        → HasRegistered (view store.old.pass) (view store.new.pass) store.old.registrar store.new.registrar x result }
-    ensures alone { TellsAlone (IsSoundBehind D.content D.images (point_at disk.old store.old) (D.content disk.new))
-        (view store.old.pass) (view store.new.pass) store.old.registrar lanes.new }
-    ensures ended { AreEnded lanes.new }
-    ensures marks { NameMarks (view store.new.pass) lanes.new }
-    ensures plans { (from : ℕ) → HasEnd (view store.old.pass) from → LanesSayPlans (KnowsRows (view store.new.pass))
-        (registry_of (view store.old.pass) store.old.registrar) store.new.registrar.catalog from lanes.new }
-    ensures shuts { TellsShutBy (view store.old.pass) (view store.new.pass) lanes.new }
-    ensures left { HandsBack (view store.old.pass) (view store.new.pass) lanes.new }
-    ensures last { TellFullLast (view store.old.pass) lanes.new }
-    ensures goes_on { WasShut (view store.old.pass) → LeaveNone lanes.new }
-    ensures stops { At (λ i x. Stops (IsSoundBehind D.content D.images (point_at disk.old store.old) (D.content disk.new))
-        (D.faults disk.old) (D.faults disk.new) x) lanes.new }
-    ensures committed { (x : Lane) → slice_get lanes.new 0 ≡ Some x → AllOf (IsCommitted store.new.file.flusher.count) x.items }
+    ensures store { LeavesStore D.content D.images D.since D.moment disk.old store.old disk.new store.new lanes.new result }
+    ensures lanes { LeavesLanes (IsSoundBehind D.content D.images (point_at disk.old store.old) (D.content disk.new))
+        (D.faults disk.old) (D.faults disk.new) (view store.old.pass) (view store.new.pass) lanes.old lanes.new }
+    ensures items { ItemsHold (IsSoundBehind D.content D.images (point_at disk.old store.old) (D.content disk.new))
+        (view store.old.pass) (view store.new.pass) store.old.registrar store.new.registrar lanes.old lanes.new result }
 {
     let (first, others) = lanes.split_at_mut(1);
     run_lanes(

@@ -2,10 +2,9 @@
 
 ghost use Rattle.std.specs.Prelude.{◌≡◌, ◌≢◌, ◌≤◌, length, ℕ, List, [], IfErr, IfOk, IsSome, MatchOption, OnOk, Some, None, false, true};
 ghost use Rattle.std.specs.List.{list_any};
-ghost use Rattle.fish_lanes.specs.Blocks.{AreKept, AreLanes, At};
-ghost use Rattle.fish_lanes.specs.Ending.{HasEnd};
-ghost use Rattle.fish_lanes.specs.Gains.{WasShut};
-ghost use Rattle.fish_lanes.specs.Outcome.{HandsBack, LeaveNone, Stops};
+ghost use Rattle.fish_lanes.specs.Blocks.{AreLanes};
+ghost use Rattle.fish_lanes.specs.Leaving.{LeavesLanes, LeavesStore};
+ghost use Rattle.fish_lanes.specs.Outcome.{LeaveNone};
 ghost use Rattle.fish_lanes.specs.Registering.{registry_of};
 ghost use Rattle.fish_outside.specs.Causes.{Rose};
 ghost use Rattle.fish_rule.specs.Passes.{view};
@@ -17,9 +16,6 @@ ghost use Rattle.fish_run.specs.Joins.{goes_on};
 ghost use Rattle.fish_run.specs.Rolls.{StopsRoll};
 ghost use Rattle.fish_run.specs.Runs.{Behind, CanClose, CanGoOn};
 ghost use Rattle.fish_run.specs.Steps.{AreWhole, Leaves};
-ghost use Rattle.fish_store.specs.Points.{point_at};
-ghost use Rattle.fish_store.specs.Sound.{GoesOnHere};
-ghost use Rattle.fish_whole.specs.Whole.{Later};
 
 use crate::fault::RunFault;
 use crate::lasting::{Stopped, roll_on};
@@ -197,19 +193,13 @@ fn run_round<R: Threads + Sync, D: Disk + Send, G: Gate + Sync>(
 ) -> BlockEnd
     requires go { CanGoOn D.images disk.old store.old from }
     requires lanes { AreLanes lanes.old }
-    ensures log { store.new.log ≡ store.old.log }
+    ensures store { LeavesStore D.content D.images D.since D.moment disk.old store.old disk.new store.new lanes.new result }
+    ensures lanes { LeavesLanes (Behind D.content D.images disk.old store.old disk.new) (D.faults disk.old)
+        (D.faults disk.new) (view store.old.pass) (view store.new.pass) lanes.old lanes.new }
     ensures close { CanClose store.new }
-    ensures end { HasEnd (view store.new.pass) result.to }
-    ensures later { Later (view store.old.pass) (view store.new.pass) }
-    ensures goes { GoesOnHere D.content D.images D.since D.moment (point_at disk.old store.old) (point_at disk.new store.new) }
     ensures go { AreWhole lanes.new → CanGoOn D.images disk.new store.new result.to }
     ensures leaves { Leaves (Behind D.content D.images disk.old store.old disk.new) store.new.file.flusher.count
         (view store.old.pass) (view store.new.pass) store.old.registrar store.new.registrar from lanes.new result }
-    ensures kept { AreKept lanes.old lanes.new }
-    ensures left { HandsBack (view store.old.pass) (view store.new.pass) lanes.new }
-    ensures goes_on { WasShut (view store.old.pass) → LeaveNone lanes.new }
-    ensures stops { At (λ i x. Stops (Behind D.content D.images disk.old store.old disk.new) (D.faults disk.old)
-        (D.faults disk.new) x) lanes.new }
     ensures rises { D.faults disk.old ≤ D.faults disk.new }
 {
     run_block(rt, alloc, store, disk, lanes, gate)

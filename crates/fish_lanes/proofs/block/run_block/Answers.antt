@@ -27,108 +27,85 @@ run_lanes-requires-clause-others g c κs bounds =
     subst (CanGive (view c.args.store.now.pass)) (sym c.split_at_mut-first.ensures.back)
     (others_new (view c.args.store.now.pass) c.requires.end.0 c.args.lanes.now c.requires.end.1 c.requires.lanes)
 
-pub returns-clause-told : goal.returns-clause-told
-returns-clause-told g c past behind k span many =
-    let t = c.run_lanes.ensures.told past behind k span
-    (many ∙ subst (λ (z : List Lane). length c.args.lanes.now ≡ length z + 1) (sym c.split_at_mut-first.ensures.back)
-    (others_many c.args.lanes.now c.requires.lanes)) in
-    subst (λ (z : List Lane). (k.from ≤ k.to) × Will past (view c.run_lanes.new.main) (λ w. TellsBlock w k z))
-    (lanes_again c.split_at_mut-first.result.0.now c.args.lanes.now c.run_lanes.new.first c.run_lanes.new.others c.requires.lanes
-    c.split_at_mut-first.ensures.front) t
-
-pub returns-clause-marks : goal.returns-clause-marks
-returns-clause-marks g c = subst (NameMarks (view c.run_lanes.new.main))
-    (lanes_again c.split_at_mut-first.result.0.now c.args.lanes.now c.run_lanes.new.first c.run_lanes.new.others c.requires.lanes
-    c.split_at_mut-first.ensures.front) c.run_lanes.ensures.marks
-
-pub returns-clause-ended : goal.returns-clause-ended
-returns-clause-ended g c = subst AreEnded
-    (lanes_again c.split_at_mut-first.result.0.now c.args.lanes.now c.run_lanes.new.first c.run_lanes.new.others c.requires.lanes
-    c.split_at_mut-first.ensures.front) c.run_lanes.ensures.ended
-
 pub run_lanes-requires-clause-acceptable : goal.run_lanes-requires-clause-acceptable
 run_lanes-requires-clause-acceptable g c κs bounds =
     subst (λ (z : List Lane). All IsAcceptable (get_or z 0 c.index-first-0.result).works) (sym c.split_at_mut-first.ensures.front)
     (first_acceptable c.args.lanes.now c.index-first-0.result c.requires.lanes)
 
-pub returns-clause-registered : goal.returns-clause-registered
-returns-clause-registered g c x at =
-    first_there (λ (z : Lane). HasRegistered (view c.args.store.now.pass) (view c.run_lanes.new.main) c.args.store.now.registrar
-    c.run_lanes.new.registrar z c.run_lanes.result) c.run_lanes.new.first c.args.lanes.now c.run_lanes.new.others c.requires.lanes
-    c.run_lanes.ensures.registered x
-    (subst (λ (z : List Lane). slice_get (set z 0 c.run_lanes.new.first ++ c.run_lanes.new.others) 0 ≡ Some x)
-    c.split_at_mut-first.ensures.front at)
+pub returns-clause-store : goal.returns-clause-store
+returns-clause-store g c =
+    let e = c.run_lanes.ensures in
+    let front = c.split_at_mut-first.ensures.front in
+    let first = c.run_lanes.new.first in
+    let others = c.run_lanes.new.others in
+    record {
+      log = refl;
+      can = e.can;
+      below = e.below;
+      goes = e.goes;
+      again = λ fine. e.again (fine first
+          (subst (λ (z : List Lane). slice_get z 0 ≡ Some first)
+          (lanes_again c.split_at_mut-first.result.0.now c.args.lanes.now first others c.requires.lanes front) refl));
+      ends = e.end;
+      later = e.later;
+      committed = λ x at.
+          first_there (λ (z : Lane). AllOf (IsCommitted c.run_lanes.new.file.flusher.count) z.items) first c.args.lanes.now others
+          c.requires.lanes e.committed x (subst (λ (z : List Lane). slice_get (set z 0 first ++ others) 0 ≡ Some x) front at);
+    }
 
-pub returns-clause-alone : goal.returns-clause-alone
-returns-clause-alone g c x is =
-    alone_first (TellsAloneBy (IsSoundBehind g.D.Disk.content g.D.Disk.images (point_at c.args.disk.now c.args.store.now)
-    (g.D.Disk.content c.run_lanes.new.disk)) (view c.args.store.now.pass) (view c.run_lanes.new.main) c.args.store.now.registrar)
-    c.run_lanes.new.first
-    c.args.lanes.now c.split_at_mut-first.result.1.now c.run_lanes.new.others c.requires.lanes c.run_lanes.auto.others
-    c.run_lanes.ensures.alone x
-    (subst (λ (z : List Lane). set z 0 c.run_lanes.new.first ++ c.run_lanes.new.others ≡ x ∷ []) c.split_at_mut-first.ensures.front is)
-
-pub returns-clause-vacant : goal.returns-clause-vacant
-returns-clause-vacant g c before =
-    subst (λ (z : List Lane). AreVacant (set z 0 c.run_lanes.new.first ++ c.run_lanes.new.others))
-    (sym c.split_at_mut-first.ensures.front)
-    (vacant_both c.run_lanes.new.first c.index-first-0.result c.args.lanes.now c.run_lanes.new.others c.requires.lanes
-    (subst (λ (z : List Lane). c.run_lanes.new.first.seat ≡ (get_or z 0 c.index-first-0.result).seat)
-    c.split_at_mut-first.ensures.front c.run_lanes.ensures.first_seat) before c.run_lanes.ensures.vacant)
-
-pub returns-clause-shuts : goal.returns-clause-shuts
-returns-clause-shuts g c = subst (TellsShutBy (view c.args.store.now.pass) (view c.run_lanes.new.main))
-    (lanes_again c.split_at_mut-first.result.0.now c.args.lanes.now c.run_lanes.new.first c.run_lanes.new.others c.requires.lanes
-    c.split_at_mut-first.ensures.front) c.run_lanes.ensures.shuts
-
-pub returns-clause-kept : goal.returns-clause-kept
-returns-clause-kept g c =
-    subst (λ (z : List Lane). AreKept c.args.lanes.now (set z 0 c.run_lanes.new.first ++ c.run_lanes.new.others))
-    (sym c.split_at_mut-first.ensures.front)
-    (kept_both c.run_lanes.new.first c.index-first-0.result c.args.lanes.now c.run_lanes.new.others c.requires.lanes
-    (subst (λ (z : List Lane). IsKept (get_or z 0 c.index-first-0.result) c.run_lanes.new.first) c.split_at_mut-first.ensures.front
-    c.run_lanes.ensures.first)
-    (subst (λ (z : List Lane). AreKept z c.run_lanes.new.others) c.split_at_mut-first.ensures.back c.run_lanes.ensures.kept))
-
-pub returns-clause-left : goal.returns-clause-left
-returns-clause-left g c = subst (HandsBack (view c.args.store.now.pass) (view c.run_lanes.new.main))
-    (lanes_again c.split_at_mut-first.result.0.now c.args.lanes.now c.run_lanes.new.first c.run_lanes.new.others c.requires.lanes
-    c.split_at_mut-first.ensures.front) c.run_lanes.ensures.left
-
-pub returns-clause-last : goal.returns-clause-last
-returns-clause-last g c = subst (TellFullLast (view c.args.store.now.pass))
-    (lanes_again c.split_at_mut-first.result.0.now c.args.lanes.now c.run_lanes.new.first c.run_lanes.new.others c.requires.lanes
-    c.split_at_mut-first.ensures.front) c.run_lanes.ensures.last
-
-pub returns-clause-goes_on : goal.returns-clause-goes_on
-returns-clause-goes_on g c was i x at =
-    left_none (view c.args.store.now.pass) x.left was
-    (λ some. (returns-clause-left g c i x at some).unshut)
-
-pub returns-clause-plans : goal.returns-clause-plans
-returns-clause-plans g c from end = subst (LanesSayPlans (KnowsRows (view c.run_lanes.new.main))
-    (registry_of (view c.args.store.now.pass) c.args.store.now.registrar) c.run_lanes.new.registrar.catalog from)
-    (lanes_again c.split_at_mut-first.result.0.now c.args.lanes.now c.run_lanes.new.first c.run_lanes.new.others c.requires.lanes
-    c.split_at_mut-first.ensures.front) (c.run_lanes.ensures.plans from end)
-
-pub returns-clause-stops : goal.returns-clause-stops
-returns-clause-stops g c =
+pub returns-clause-lanes : goal.returns-clause-lanes
+returns-clause-lanes g c =
     let disk = g.D.Disk in
-    subst (At (λ i x. Stops (IsSoundBehind disk.content disk.images (point_at c.args.disk.now c.args.store.now)
-    (disk.content c.run_lanes.new.disk)) (disk.faults c.args.disk.now) (disk.faults c.run_lanes.new.disk) x))
-    (lanes_again c.split_at_mut-first.result.0.now c.args.lanes.now c.run_lanes.new.first c.run_lanes.new.others c.requires.lanes
-    c.split_at_mut-first.ensures.front) c.run_lanes.ensures.stops
+    let e = c.run_lanes.ensures in
+    let v = view c.args.store.now.pass in
+    let u = view c.run_lanes.new.main in
+    let front = c.split_at_mut-first.ensures.front in
+    let first = c.run_lanes.new.first in
+    let others = c.run_lanes.new.others in
+    let again = lanes_again c.split_at_mut-first.result.0.now c.args.lanes.now first others c.requires.lanes front in
+    let left = subst (HandsBack v u) again e.left in
+    record {
+      kept = subst (λ (z : List Lane). AreKept c.args.lanes.now (set z 0 first ++ others)) (sym front)
+          (kept_both first c.index-first-0.result c.args.lanes.now others c.requires.lanes
+          (subst (λ (z : List Lane). IsKept (get_or z 0 c.index-first-0.result) first) front e.first)
+          (subst (λ (z : List Lane). AreKept z others) c.split_at_mut-first.ensures.back e.kept));
+      vacant = λ before. subst (λ (z : List Lane). AreVacant (set z 0 first ++ others)) (sym front)
+          (vacant_both first c.index-first-0.result c.args.lanes.now others c.requires.lanes
+          (subst (λ (z : List Lane). first.seat ≡ (get_or z 0 c.index-first-0.result).seat) front e.first_seat) before e.vacant);
+      ended = subst AreEnded again e.ended;
+      stops = subst (At (λ i x. Stops (IsSoundBehind disk.content disk.images (point_at c.args.disk.now c.args.store.now)
+          (disk.content c.run_lanes.new.disk)) (disk.faults c.args.disk.now) (disk.faults c.run_lanes.new.disk) x)) again e.stops;
+      left = left;
+      last = subst (TellFullLast v) again e.last;
+      goes_on = λ was i x at. left_none v x.left was (λ some. (left i x at some).unshut);
+      shuts = subst (TellsShutBy v u) again e.shuts;
+      marks = subst (NameMarks u) again e.marks;
+    }
 
-pub returns-clause-committed : goal.returns-clause-committed
-returns-clause-committed g c x at =
-    first_there (λ (z : Lane). AllOf (IsCommitted c.run_lanes.new.file.flusher.count) z.items) c.run_lanes.new.first c.args.lanes.now
-    c.run_lanes.new.others c.requires.lanes c.run_lanes.ensures.committed x
-    (subst (λ (z : List Lane). slice_get (set z 0 c.run_lanes.new.first ++ c.run_lanes.new.others) 0 ≡ Some x)
-    c.split_at_mut-first.ensures.front at)
-
-pub returns-clause-again : goal.returns-clause-again
-returns-clause-again g c fine =
-    c.run_lanes.ensures.again (fine c.run_lanes.new.first
-    (subst (λ (z : List Lane). slice_get z 0 ≡ Some c.run_lanes.new.first)
-    (lanes_again c.split_at_mut-first.result.0.now c.args.lanes.now c.run_lanes.new.first c.run_lanes.new.others c.requires.lanes
-    c.split_at_mut-first.ensures.front) refl))
+pub returns-clause-items : goal.returns-clause-items
+returns-clause-items g c =
+    let disk = g.D.Disk in
+    let e = c.run_lanes.ensures in
+    let v = view c.args.store.now.pass in
+    let u = view c.run_lanes.new.main in
+    let r = c.args.store.now.registrar in
+    let front = c.split_at_mut-first.ensures.front in
+    let first = c.run_lanes.new.first in
+    let others = c.run_lanes.new.others in
+    let again = lanes_again c.split_at_mut-first.result.0.now c.args.lanes.now first others c.requires.lanes front in
+    record {
+      told = λ past behind k span many.
+          subst (λ (z : List Lane). (k.from ≤ k.to) × Will past u (λ w. TellsBlock w k z)) again
+          (e.told past behind k span
+          (many ∙ subst (λ (z : List Lane). length c.args.lanes.now ≡ length z + 1) (sym c.split_at_mut-first.ensures.back)
+          (others_many c.args.lanes.now c.requires.lanes)));
+      registered = λ x at.
+          first_there (λ (z : Lane). HasRegistered v u r c.run_lanes.new.registrar z c.run_lanes.result) first c.args.lanes.now others
+          c.requires.lanes e.registered x (subst (λ (z : List Lane). slice_get (set z 0 first ++ others) 0 ≡ Some x) front at);
+      alone = λ x is.
+          alone_first (TellsAloneBy (IsSoundBehind disk.content disk.images (point_at c.args.disk.now c.args.store.now)
+          (disk.content c.run_lanes.new.disk)) v u r) first c.args.lanes.now c.split_at_mut-first.result.1.now others c.requires.lanes
+          c.run_lanes.auto.others e.alone x (subst (λ (z : List Lane). set z 0 first ++ others ≡ x ∷ []) front is);
+      plans = λ from end.
+          subst (LanesSayPlans (KnowsRows u) (registry_of v r) c.run_lanes.new.registrar.catalog from) again (e.plans from end);
+    }

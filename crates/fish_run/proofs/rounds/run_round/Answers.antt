@@ -15,23 +15,24 @@ returns-clause-leaves g c =
     let Past : Whole → Type 0 = Behind disk.content disk.images c.args.disk.now c.args.store.now b.new.disk in
     leaves_of Past b.new.store.file.flusher.count (view c.args.store.now.pass) (view b.new.store.pass) c.args.store.now.registrar
     b.new.store.registrar c.args.from c.args.lanes.now b.new.lanes b.result c.requires.lanes b.auto.lanes c.requires.go.end
-    (λ past p k span many. b.ensures.told past p k span (omega (many, b.auto.lanes, arith)))
-    b.ensures.registered b.ensures.ended b.ensures.marks b.ensures.shuts (b.ensures.plans c.args.from c.requires.go.end)
-    c.requires.go.settled b.ensures.alone b.ensures.committed
+    (λ past p k span many. b.ensures.items.told past p k span (omega (many, b.auto.lanes, arith)))
+    b.ensures.items.registered b.ensures.lanes.ended b.ensures.lanes.marks b.ensures.lanes.shuts
+    (b.ensures.items.plans c.args.from c.requires.go.end)
+    c.requires.go.settled b.ensures.items.alone b.ensures.store.committed
 
 pub returns-clause-go : goal.returns-clause-go
 returns-clause-go g c = λ whole.
     let b = c.run_block in
     go_whole g.D.Disk.images b.new.disk b.new.store (view c.args.store.now.pass) c.args.store.now.registrar b.new.lanes b.result whole
-    b.ensures.can b.ensures.again b.ensures.below b.ensures.end b.ensures.registered
+    b.ensures.store.can b.ensures.store.again b.ensures.store.below b.ensures.store.ends b.ensures.items.registered
     (let some = c.requires.lanes.some in let same = b.auto.lanes in omega arith)
-    (table_same c.args.store.now b.new.store b.ensures.log c.requires.go.table)
+    (table_same c.args.store.now b.new.store b.ensures.store.log c.requires.go.table)
 
 pub returns-clause-close : goal.returns-clause-close
 returns-clause-close g c = record {
-  of = c.run_block.ensures.can.of;
-  alone = c.run_block.ensures.end.alone;
-  table = table_same c.args.store.now c.run_block.new.store c.run_block.ensures.log c.requires.go.table;
+  of = c.run_block.ensures.store.can.of;
+  alone = c.run_block.ensures.store.ends.alone;
+  table = table_same c.args.store.now c.run_block.new.store c.run_block.ensures.store.log c.requires.go.table;
 }
 
 -- the first lane tells that the disk's count didn't fall
@@ -39,4 +40,4 @@ pub returns-clause-rises : goal.returns-clause-rises
 returns-clause-rises g c =
     let lanes : List Lane = c.run_block.new.lanes in
     let first = first_there lanes (let some = c.requires.lanes.some in let same = c.run_block.auto.lanes in omega arith) in
-    (c.run_block.ensures.stops 0 first.0 first.1).later
+    (c.run_block.ensures.lanes.stops 0 first.0 first.1).later

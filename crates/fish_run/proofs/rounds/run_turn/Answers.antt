@@ -28,15 +28,16 @@ returns-in-Err-clause-stopped g c = λ d s from now given ready.
     let e = b.ensures in
     stops_cut disk.content disk.images disk.since disk.moment d s from a.disk.now a.start a.lanes.now a.said.now now
     given ready
-    c.requires.lanes b.new.disk b.new.store b.new.lanes b.result b.auto.lanes e.kept e.log e.goes e.later e.end e.leaves
-    c.in-Err.why c.in-Err.ensures.first (disk.faults a.disk.now) (disk.faults b.new.disk) e.stops e.close
+    c.requires.lanes b.new.disk b.new.store b.new.lanes b.result b.auto.lanes
+    e.lanes.kept e.store.log e.store.goes e.store.later e.store.ends e.leaves
+    c.in-Err.why c.in-Err.ensures.first (disk.faults a.disk.now) (disk.faults b.new.disk) e.lanes.stops e.close
 
 pub returns-in-Err-clause-disk : goal.returns-in-Err-clause-disk
 returns-in-Err-clause-disk g c = λ is.
     let disk = g.D.Disk in
     let b = c.run_round-end in
     let Past : Whole → Type 0 = Behind disk.content disk.images c.args.disk.now c.args.start.store b.new.disk in
-    lane_rose Past (disk.faults c.args.disk.now) (disk.faults b.new.disk) b.new.lanes c.in-Err.why b.ensures.stops
+    lane_rose Past (disk.faults c.args.disk.now) (disk.faults b.new.disk) b.new.lanes c.in-Err.why b.ensures.lanes.stops
     c.in-Err.ensures.first is
 
 pub returns-in-Err-clause-inner : goal.returns-in-Err-clause-inner
@@ -61,7 +62,8 @@ returns-in_err-next-clause-stopped g c =
     (λ d s from now given ready.
     stops_roll disk.content disk.images disk.since disk.moment d s from a.disk.now a.start a.lanes.now a.said.now now
     given ready
-    c.requires.lanes b.new.disk b.new.store b.new.lanes b.result b.auto.lanes e.kept e.log e.goes e.later e.end e.leaves whole e.close
+    c.requires.lanes b.new.disk b.new.store b.new.lanes b.result b.auto.lanes
+    e.lanes.kept e.store.log e.store.goes e.store.later e.store.ends e.leaves whole e.close
     c.renew.new.disk why c.in_err-next.ensures.stopped)
 
 pub returns-in_err-next-clause-disk : goal.returns-in_err-next-clause-disk
@@ -93,7 +95,7 @@ returns-in-Ok-step_all-clause-on g c =
     disk.moment b.new.disk c.renew.new.disk b.new.store c.in_ok-next.next b.result.to (e.go whole) fresh c.in_ok-next.ensures.next in
     let h : HasStepped fresh a.start.fresh a.start.bound a.said.now c.step_all.new.said b.new.lanes c.step_all.new.lanes
     = c.in-Ok-step_all.ensures in
-    let rises = b.ensures.end.above in
+    let rises = b.ensures.store.ends.above in
     let about = (e.go whole).can.of.about in
     let least : b.new.store.log.key.number ≤ b.result.to = subst (λ (k : Key). k.number ≤ b.result.to) about rises in
     let asked : (line lines end : ℕ) → IsFullIn b.new.lanes line lines end → (fresh ≡ true) ⊎ IsNearLimits b.result.to end
@@ -104,7 +106,7 @@ returns-in-Ok-step_all-clause-on g c =
     c.go_on-more.ensures.full line lines end full) in
     record {
       go = go;
-      lanes_are = lanes_next a.lanes.now b.new.lanes c.requires.lanes (kept_pairs a.lanes.now b.new.lanes b.auto.lanes e.kept) fresh
+      lanes_are = lanes_next a.lanes.now b.new.lanes c.requires.lanes (kept_pairs a.lanes.now b.new.lanes b.auto.lanes e.lanes.kept) fresh
           c.step_all.new.lanes h.next;
       many =
           let lanes = c.step_all.auto.lanes in
@@ -113,20 +115,23 @@ returns-in-Ok-step_all-clause-on g c =
           let before = c.requires.many in
           omega arith;
       same = (let lanes = c.step_all.auto.lanes in let ran = b.auto.lanes in omega arith);
-      idle = λ last. idle_next a.lanes.now b.new.lanes c.requires.lanes (kept_pairs a.lanes.now b.new.lanes b.auto.lanes e.kept) fresh
+      idle = λ last. idle_next a.lanes.now b.new.lanes c.requires.lanes (kept_pairs a.lanes.now b.new.lanes b.auto.lanes e.lanes.kept) fresh
           c.step_all.new.lanes h.next (and_false more (nat_lt c.base.result.number b.result.to) last) (c.go_on-more.ensures.done last);
       less = fewer_tables disk.content disk.images disk.since disk.moment b.new.disk c.renew.new.disk a.start.store b.new.store
-          c.in_ok-next.next c.base.result.number b.result.to b.new.lanes e.log c.base.ensures.0 (omega arith) e.left e.goes_on more
+          c.in_ok-next.next c.base.result.number b.result.to b.new.lanes e.store.log c.base.ensures.0 (omega arith)
+          e.lanes.left e.lanes.goes_on more
           c.go_on-more.ensures.left c.in_ok-next.ensures.next;
       goes = λ d s from now given ready.
           goes_more disk.content disk.images disk.since disk.moment d s from a.disk.now a.start a.lanes.now a.said.now now
           given ready
-          c.requires.lanes b.new.disk b.new.store b.new.lanes b.result b.auto.lanes e.kept e.log e.goes e.later e.end e.leaves whole e.close
+          c.requires.lanes b.new.disk b.new.store b.new.lanes b.result b.auto.lanes
+          e.lanes.kept e.store.log e.store.goes e.store.later e.store.ends e.leaves whole e.close
           fresh c.renew.new.disk c.in_ok-next.next c.in_ok-next.ensures.next above c.step_all.new.lanes c.step_all.new.said h asked;
       ends = λ last d s from now given ready.
           ends_rounds disk.content disk.images disk.since disk.moment d s from a.disk.now a.start a.lanes.now a.said.now now
           given ready
-          c.requires.lanes b.new.disk b.new.store b.new.lanes b.result b.auto.lanes e.kept e.log e.goes e.later e.end e.leaves whole e.close
+          c.requires.lanes b.new.disk b.new.store b.new.lanes b.result b.auto.lanes
+          e.lanes.kept e.store.log e.store.goes e.store.later e.store.ends e.leaves whole e.close
           fresh c.renew.new.disk c.in_ok-next.next c.in_ok-next.ensures.next above c.step_all.new.lanes c.step_all.new.said h asked
           (and_false more (nat_lt c.base.result.number b.result.to) last) (c.go_on-more.ensures.done last) go;
     }
@@ -141,7 +146,8 @@ returns-in-Err-step_all-clause-stopped g c = λ d s from now given ready.
     let fresh : Bool = c.go_on-more.result && nat_lt c.base.result.number b.result.to in
     stops_then disk.content disk.images disk.since disk.moment d s from a.disk.now a.start a.lanes.now a.said.now now
     given ready
-    c.requires.lanes b.new.disk b.new.store b.new.lanes b.result b.auto.lanes e.kept e.log e.goes e.later e.end e.leaves whole e.close
+    c.requires.lanes b.new.disk b.new.store b.new.lanes b.result b.auto.lanes
+    e.lanes.kept e.store.log e.store.goes e.store.later e.store.ends e.leaves whole e.close
     fresh c.renew.new.disk c.in_ok-next.next c.in_ok-next.ensures.next
     (above_base c.base.result.number b.result.to b.new.store.log.key.number c.go_on-more.result c.base.ensures.0)
     c.out_of_memory.result c.out_of_memory.ensures.store c.out_of_memory.ensures.why

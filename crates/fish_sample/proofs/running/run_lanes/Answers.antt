@@ -24,14 +24,14 @@ returns g c =
     let span = span_is (view s.pass) (view t.pass) c.args.from b.result.to (length lanes) c.requires.between.end in
     record {
       between = between_after lanes whole disk.content disk.images c.args.disk.now s b.new.disk t c.args.lanes.now c.args.from b.result
-          unbound e.registered first.0 first.1 e.can e.again e.below e.end;
-      goes = record { later = e.later; sound = λ past sound. e.goes.sound past sound (c.requires.told b.new.disk) };
-      kept = kept_works lanes whole c.args.lanes.now e.kept;
+          unbound e.items.registered first.0 first.1 e.store.can e.store.again e.store.below e.store.ends;
+      goes = record { later = e.store.later; sound = λ past sound. e.store.goes.sound past sound (c.requires.told b.new.disk) };
+      kept = kept_works lanes whole c.args.lanes.now e.lanes.kept;
       many = many;
-      ended = all_ended lanes whole e.ended;
-      told = λ past sound. e.told past (record { sound = sound; told = c.requires.told b.new.disk })
+      ended = all_ended lanes whole e.lanes.ended;
+      told = λ past sound. e.items.told past (record { sound = sound; told = c.requires.told b.new.disk })
           (span_of (view s.pass) (view t.pass) c.args.from b.result.to (length lanes)) span many;
-      so = λ x at. (e.registered x at).so (span_of (view s.pass) (view t.pass) c.args.from b.result.to (length lanes)) span;
+      so = λ x at. (e.items.registered x at).so (span_of (view s.pass) (view t.pass) c.args.from b.result.to (length lanes)) span;
       registry = registry_is lanes whole disk.content disk.images c.args.disk.now s b.new.disk t c.args.lanes.now c.args.from b.result
-          unbound e.registered;
+          unbound e.items.registered;
     }

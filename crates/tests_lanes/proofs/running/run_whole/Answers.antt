@@ -7,5 +7,5 @@ pub returns : goal.returns
 returns g c =
     let end = c.run_block-end in
     let b = end.ensures in
-    block_between g.D.Disk.images end.new.disk _ (view c.args.store.now.pass) c.args.store.now.registrar _ end.result b.can b.again b.below
-    b.end b.registered (c.is_whole.ensures c.if-not-is_whole.false)
+    block_between g.D.Disk.images end.new.disk _ (view c.args.store.now.pass) c.args.store.now.registrar _ end.result b.store.can
+    b.store.again b.store.below b.store.ends b.items.registered (c.is_whole.ensures c.if-not-is_whole.false)
