@@ -9,7 +9,7 @@ CRATES := $(shell sed -n 's/^\(fish[a-z_]*\).*:.*/\1/p' crates.txt)
 FILES = $(shell find $(1) -name out -prune -o \( -path '*/src/*' -o -path '*/specs/*' -o -path '*/proofs/*' \) -type f -print)
 SOURCES := crates.txt $(call FILES,crates/fish*)
 
-.PHONY: demo build test try hostile faults rolls soak edits gate install bench bench_run bench_log bench_ingest bench_registrations bench_scans bench_peers bench_checkpoints bench_older clean
+.PHONY: demo build test try quick hostile faults rolls soak edits gate install bench bench_run bench_log bench_ingest bench_registrations bench_scans bench_peers bench_checkpoints bench_older clean
 
 # Runs both commands of the program on the examples, built with no proof. With FILE, DEF and VALUE it is a `select` on a file of one's
 # own (and FORM=csv), with SCRIPT a `run` of a script of one's own.
@@ -52,6 +52,10 @@ soak: build
 # Runs all tests with no proof.
 try:
 	for crate in $(TESTS); do (cd crates/$$crate && rt try --test --seconds 120) || exit 1; done
+
+# Formats every crate, and makes the checks that need neither a proof nor the program.
+quick:
+	tools/quick
 
 # Tries every wrong body of every crate: each has to be refused. And no function may be dear to check.
 edits:
