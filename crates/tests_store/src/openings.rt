@@ -41,10 +41,7 @@ const CASES: &[(Case, &str)] = &[
         ((1, 0, 3, 6), (1, 2, 2, 4), ALL, None, None),
         "slot 0 alone false count 3 heads 5:17 6:9 starts 0 at 0",
     ),
-    (
-        ((1, 1, 3, 6), (1, 1, 2, 4), ALL, None, None),
-        "damaged after 0 entries",
-    ),
+    (((1, 1, 3, 6), (1, 1, 2, 4), ALL, None, None), "damaged 0"),
     // no gate is open: another byte opens none
     (((0, 0, 3, 6), (0, 1, 2, 4), ALL, None, None), "not a store"),
     (
@@ -59,28 +56,22 @@ const CASES: &[(Case, &str)] = &[
     ),
     (
         ((1, 0, 3, 6), (0, 1, 2, 4), ALL, Some(2), Some(4)),
-        "another shape was asked for",
+        "shape 1 4 asked 2 4",
     ),
     (
         ((1, 0, 3, 6), (0, 1, 2, 4), ALL, Some(1), Some(5)),
-        "another shape was asked for",
+        "shape 1 4 asked 1 5",
     ),
     (
         ((1, 0, 4, 6), (0, 1, 2, 4), ALL, None, Some(5)),
-        "another shape was asked for",
+        "shape 1 4 asked 1 5",
     ),
     // lines that stand for no log, by what is counted and by what the file has
-    (
-        ((1, 0, 4, 6), (0, 1, 2, 4), ALL, None, None),
-        "damaged after 3 entries",
-    ),
-    (
-        ((1, 0, 2, 6), (0, 1, 2, 4), ALL, None, None),
-        "damaged after 2 entries",
-    ),
+    (((1, 0, 4, 6), (0, 1, 2, 4), ALL, None, None), "damaged 3"),
+    (((1, 0, 2, 6), (0, 1, 2, 4), ALL, None, None), "damaged 2"),
     (
         ((1, 0, 3, 6), (0, 1, 2, 4), ALL - 65, None, None),
-        "damaged after 1 entries",
+        "damaged 1",
     ),
     // a store without a record needs its body alone
     (
@@ -89,7 +80,7 @@ const CASES: &[(Case, &str)] = &[
     ),
     (
         ((1, 0, 0, 0), (0, 1, 0, 0), 94_207, None, None),
-        "damaged after 0 entries",
+        "damaged 0",
     ),
 ];
 
@@ -182,13 +173,13 @@ fn openings(rt: HostRuntime) -> Result<(), Fail> {
 /// The number of the call that fails, of a store both of whose gates are open. The calls are a sync, two reads of gates and two of
 /// turns, one of a body, and one of a page.
 const STOPS: &[(u64, &str)] = &[
-    (0, "the disk failed"),
-    (1, "the disk failed"),
-    (2, "the disk failed"),
-    (3, "the disk failed"),
-    (4, "the disk failed"),
-    (5, "the disk failed"),
-    (6, "the disk failed"),
+    (0, "disk"),
+    (1, "disk"),
+    (2, "disk"),
+    (3, "disk"),
+    (4, "disk"),
+    (5, "disk"),
+    (6, "disk"),
     (7, "slot 1 alone false count 2 heads 5:1 6:9 starts 0 at 0"),
 ];
 

@@ -67,7 +67,7 @@ const CASES: &[(Case, &str)] = &[
     // whatever isn't opened stays as it is
     (
         ((1, 0, 3, 6), (1, 0, 2, 4), ALL),
-        "damaged after 0 entries gates 11 bytes 180416",
+        "damaged 0 gates 11 bytes 180416",
     ),
     (
         ((0, 0, 3, 6), (0, 1, 2, 4), 94_208),
@@ -75,7 +75,7 @@ const CASES: &[(Case, &str)] = &[
     ),
     (
         ((1, 0, 3, 6), (1, 1, 4, 6), ALL),
-        "damaged after 3 entries gates 11 bytes 180416",
+        "damaged 3 gates 11 bytes 180416",
     ),
 ];
 
@@ -172,7 +172,7 @@ const FORMATS: &[(u8, &str)] = &[
         b'1',
         "opened 3 at line 6 of 1 pages heads 5:17 6:9 starts 0 at 0 rows 0 3 gates 10 bytes 180416",
     ),
-    (b'3', "damaged after 0 entries gates 10 bytes 180416"),
+    (b'3', "damaged 0 gates 10 bytes 180416"),
 ];
 
 fn format_told(alloc: Global, letter: &u8) -> Result<String, AllocError> {
@@ -194,18 +194,18 @@ fn formats(rt: HostRuntime) -> Result<(), Fail> {
 /// each of eight picks of a crash opens with then. The calls are a sync, the length, a sync, two reads of gates and two of
 /// turns, one of a body and one of a page; the write of the older gate and its sync; and the length again.
 const STOPS: &[(u64, &str)] = &[
-    (0, "the disk failed 22222222"),
-    (1, "the disk failed 22222222"),
-    (2, "the disk failed 22222222"),
-    (3, "the disk failed 22222222"),
-    (4, "the disk failed 22222222"),
-    (5, "the disk failed 22222222"),
-    (6, "the disk failed 22222222"),
-    (7, "the disk failed 22222222"),
-    (8, "the disk failed 22222222"),
-    (9, "the disk failed 22222222"),
-    (10, "the disk failed 22222222"),
-    (11, "the disk failed 22222222"),
+    (0, "disk 22222222"),
+    (1, "disk 22222222"),
+    (2, "disk 22222222"),
+    (3, "disk 22222222"),
+    (4, "disk 22222222"),
+    (5, "disk 22222222"),
+    (6, "disk 22222222"),
+    (7, "disk 22222222"),
+    (8, "disk 22222222"),
+    (9, "disk 22222222"),
+    (10, "disk 22222222"),
+    (11, "disk 22222222"),
     (
         12,
         "opened 2 at line 4 of 1 pages heads 5:1 6:9 starts 0 at 0 rows 0 2 22222222",
@@ -215,10 +215,10 @@ const STOPS: &[(u64, &str)] = &[
 /// The same of a store without a record whose file ends after its body: a sync, the length, a sync, two reads of gates and one
 /// of a body; the length again, the write of zero bytes, and its sync.
 const SHORT_STOPS: &[(u64, &str)] = &[
-    (5, "the disk failed 00000000"),
-    (6, "the disk failed 00000000"),
-    (7, "the disk failed 00000000"),
-    (8, "the disk failed 00000000"),
+    (5, "disk 00000000"),
+    (6, "disk 00000000"),
+    (7, "disk 00000000"),
+    (8, "disk 00000000"),
     (
         9,
         "opened 0 at line 0 of 1 pages heads starts rows 0 0 00000000",
