@@ -17,6 +17,7 @@ use Rattle.fish_program.specs.Faults.{open_fault, ran_fault}
 use Rattle.fish_program.specs.Outcome.{DidNothing, EndsScript}
 use Rattle.fish_program.specs.Runs.{HasScript, IsLeft, IsStoppedRun}
 use Rattle.fish_program.specs.Stores.{IsUnopened, Opens}
+use Rattle.fish_program.specs.declared.fault.Fault.{Fault}
 use Rattle.fish_program.specs.declared.fault.Fault.TheVariants as fault
 use Rattle.fish_program.specs.declared.outcome.Outcome.{Outcome}
 
@@ -42,30 +43,23 @@ gained_nil (Some a) = ap Some (append-nil a)
 
 -- ---- faults
 
--- the fault of a run is the one of the input where that of its script's run is, and so of the output and of the disk
-pub input_ran : (why : Option RunFault) → ran_fault why ≡ fault.Input → why ≡ Some ran.Input
-input_ran None is = absurd cc
-input_ran (Some ran.Input) is = refl
-input_ran (Some ran.Output) is = absurd cc
-input_ran (Some ran.Memory) is = absurd cc
-input_ran (Some ran.Disk) is = absurd cc
-input_ran (Some (ran.Damaged n)) is = absurd cc
+-- the fault with which a script's run ended, by that of the whole
+abbrev pub ran_of : Fault → Option RunFault
+ran_of fault.Input = Some ran.Input
+ran_of fault.Output = Some ran.Output
+ran_of fault.Memory = Some ran.Memory
+ran_of fault.Disk = Some ran.Disk
+ran_of (fault.Store (opening.Damaged n)) = Some (ran.Damaged n)
+ran_of f = None
 
-pub output_ran : (why : Option RunFault) → ran_fault why ≡ fault.Output → why ≡ Some ran.Output
-output_ran None is = absurd cc
-output_ran (Some ran.Output) is = refl
-output_ran (Some ran.Input) is = absurd cc
-output_ran (Some ran.Memory) is = absurd cc
-output_ran (Some ran.Disk) is = absurd cc
-output_ran (Some (ran.Damaged n)) is = absurd cc
-
-pub disk_ran : (why : Option RunFault) → ran_fault why ≡ fault.Disk → why ≡ Some ran.Disk
-disk_ran None is = absurd cc
-disk_ran (Some ran.Disk) is = refl
-disk_ran (Some ran.Input) is = absurd cc
-disk_ran (Some ran.Output) is = absurd cc
-disk_ran (Some ran.Memory) is = absurd cc
-disk_ran (Some (ran.Damaged n)) is = absurd cc
+-- it is told by it
+pub ran_back : (why : Option RunFault) (f : Fault) → ran_fault why ≡ f → why ≡ ran_of f
+ran_back None f is = ap ran_of is
+ran_back (Some ran.Input) f is = ap ran_of is
+ran_back (Some ran.Output) f is = ap ran_of is
+ran_back (Some ran.Memory) f is = ap ran_of is
+ran_back (Some ran.Disk) f is = ap ran_of is
+ran_back (Some (ran.Damaged n)) f is = ap ran_of is
 
 -- ---- an end
 

@@ -4,7 +4,8 @@ use Rattle.fish_outside.proofs.CauseLemmas.{Rose_earlier}
 use Rattle.fish_program.specs.Outcome.{DidNothing, EndsScript}
 use Rattle.fish_program.specs.Stores.{IsUnopened}
 use Rattle.fish_program.specs.declared.fault.Fault.{Fault}
-use Rattle.fish_program.proofs.Fates.{disk_ran, gained_nil, input_ran, output_ran, refused_end, run_end, went_as}
+use Rattle.fish_program.specs.declared.fault.Fault.TheVariants as fault
+use Rattle.fish_program.proofs.Fates.{gained_nil, ran_back, refused_end, run_end, went_as}
 use Rattle.fish_program.proofs.Stores.{opens}
 use Rattle.fish_program.proofs.script.run_store.Goals as goal
 
@@ -37,18 +38,18 @@ returns-in-Ok-clause-ended g c =
 
 pub returns-in-Ok-clause-input : goal.returns-in-Ok-clause-input
 returns-in-Ok-clause-input g c is =
-    c.run_script-ran.ensures.input (input_ran c.run_script-ran.result.fault (sym c.ended.ensures.fault ∙ is))
+    c.run_script-ran.ensures.input (ran_back c.run_script-ran.result.fault fault.Input (sym c.ended.ensures.fault ∙ is))
 
 pub returns-in-Ok-clause-output : goal.returns-in-Ok-clause-output
 returns-in-Ok-clause-output g c is =
-    c.run_script-ran.ensures.output (output_ran c.run_script-ran.result.fault (sym c.ended.ensures.fault ∙ is))
+    c.run_script-ran.ensures.output (ran_back c.run_script-ran.result.fault fault.Output (sym c.ended.ensures.fault ∙ is))
 
 -- the opening let the count of faults be, or raised it
 pub returns-in-Ok-clause-disk : goal.returns-in-Ok-clause-disk
 returns-in-Ok-clause-disk g c is =
     let faults = g.D.Disk.faults in
     Rose_earlier (faults c.args.disk.now) (faults c.open_store.new.disk) (faults c.run_script-ran.new.disk) c.open_store.ensures.cause.later
-    (c.run_script-ran.ensures.disk (disk_ran c.run_script-ran.result.fault (sym c.ended.ensures.fault ∙ is)))
+    (c.run_script-ran.ensures.disk (ran_back c.run_script-ran.result.fault fault.Disk (sym c.ended.ensures.fault ∙ is)))
 
 pub returns-in-Err-clause-ended : goal.returns-in-Err-clause-ended
 returns-in-Err-clause-ended g c =
