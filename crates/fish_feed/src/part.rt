@@ -186,6 +186,7 @@ fn cut_off<F: Source>(alloc: Global, file: &mut OpenFile<F>) -> Result<Option<Wo
     }
     let name = file.name.again(alloc)?;
     let (_, after) = file.rest.as_bytes().split_at(end);
+    // Room for the next part, so that its bytes aren't moved again as they come.
     let mut rest = Bytes::with_room(alloc, AT_ONCE)?;
     rest.append(after)?;
     let begin = replace(&mut file.begin, Begin::After);
