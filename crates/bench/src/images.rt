@@ -186,8 +186,8 @@ fn image(alloc: Global) -> Result<Vec<u64>, AllocError> {
     let mut words = Vec::new(alloc);
     let mut prev = 0u64;
     for number in 0..u64::from(RECORDS) {
-        for (place, word) in WORDS.iter().enumerate() {
-            let word = match place {
+        for (position, word) in WORDS.iter().enumerate() {
+            let word = match position {
                 1 => prev,
                 2 => number,
                 _ => *word,

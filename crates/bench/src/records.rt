@@ -29,8 +29,8 @@ pub fn records_of<L: Ledger>(
 {
     let mut steps = Steps::<L>::new(blank);
     let mut records = Vec::new(alloc);
-    for place in 0..count {
-        let payload = workload.payload(alloc, lane, place)?;
+    for position in 0..count {
+        let payload = workload.payload(alloc, lane, position)?;
         records.push(record_of(alloc, defs, lane, payload, &mut steps)?)?;
     }
     Ok(records)

@@ -97,10 +97,10 @@ fn measure_index<R: Clock + AllocGlobal + Eprint>(
 /// Short payloads.
 fn short_payloads(alloc: Global, values: Values) -> Result<Texts, AllocError> {
     let mut texts = Texts::new(alloc);
-    for place in 0..RECORDS {
+    for position in 0..RECORDS {
         let value = match values {
             Values::Same => FIRST,
-            Values::Own => FIRST + place,
+            Values::Own => FIRST + position,
         };
         let payload = format!(in alloc; "{{\"a\":{value}}}")?;
         texts.push(Text::from_string(payload))?;

@@ -62,13 +62,13 @@ impl Workload {
     }
 
     /// The payload of a record at its place among those of a lane.
-    pub fn payload(self, alloc: Global, lane: u8, place: u64) -> Result<String, AllocError> {
+    pub fn payload(self, alloc: Global, lane: u8, position: u64) -> Result<String, AllocError> {
         match self {
             Workload::Stores => padded(alloc, "{\"p\":\"", 126),
             Workload::Plain => padded(alloc, "{\"a\":100000,\"b\":100000,\"p\":\"", 7),
             Workload::FewChains => pair_of(alloc, 100_000),
             Workload::ManyChains => {
-                let number = place.saturating_mul(4).saturating_add(u64::from(lane));
+                let number = position.saturating_mul(4).saturating_add(u64::from(lane));
                 pair_of(alloc, 100_000 + number % 900_000)
             }
         }

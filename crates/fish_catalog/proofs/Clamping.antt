@@ -47,7 +47,7 @@ module _ {A B : Type 0} (f : A → B) where
       mapped_all P Q g xs (λ j e within. h (suc j) e (omega arith)) k d (omega arith)
 
 module _ {A : Type 0} where
-  -- one more of a list that is mapped in place
+  -- one more of a list that is mapped in position
   pub mapped_next : (xs : List A) (g : A → A) (i : ℕ) (d : A) → i < length xs
       → set (map g (take i xs) ++ drop i xs) i (g (get_or (map g (take i xs) ++ drop i xs) i d))
       ≡ map g (take (suc i) xs) ++ drop (suc i) xs

@@ -47,7 +47,7 @@ below_next rows def n row xs ys h there id (inl added) =
       rise = λ i j x y at_i at_j less. elim (push_cases xs new j y at_j) [
         | inl old_j ↦ elim (push_cases xs new i x at_i) [
           | inl old_i ↦ h.rise i j x y old_i old_j less
-          | inr e ↦ (let inside = slice_get_within xs j y old_j in let place = e.0 in absurd (omega arith))
+          | inr e ↦ (let inside = slice_get_within xs j y old_j in let position = e.0 in absurd (omega arith))
         ]
         | inr e ↦ elim (push_cases xs new i x at_i) [
           | inl old_i ↦ omega (arith, (h.sound i x old_i).1, ap (λ (z : Interval). z.id) e.1, id)

@@ -32,7 +32,7 @@ from_front (suc n) [] k row h = absurd cc
 from_front (suc n) (x ∷ rows) zero row h = h
 from_front (suc n) (x ∷ rows) (suc k) row h = from_front n rows k row h
 
--- and what stands in front of a place stands in the list's front
+-- and what stands in front of a position stands in the list's front
 in_front : (n : ℕ) (rows : List CatRow) (k : ℕ) (row : CatRow) → k < n → slice_get rows k ≡ Some row
     → slice_get (take n rows) k ≡ Some row
 in_front zero rows k row less h = absurd (omega arith)
@@ -64,7 +64,7 @@ apart_alone rows n row apart at active k other there other_active same =
     let size = length-take n rows in
     omega arith
 
--- what holds of each row by its place holds of all
+-- what holds of each row by its position holds of all
 pub all_rows : (rows : List CatRow) → ((k : ℕ) → k < length rows → (row : CatRow) → slice_get rows k ≡ Some row → IsRow row)
     → All IsRow rows
 all_rows rows each k d less = each k less _ (slice_get-get_or rows k d less)

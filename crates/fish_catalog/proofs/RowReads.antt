@@ -36,7 +36,7 @@ pub byte_of_word : (b : List ℕ) (i j k : ℕ) → j < 8 → 8 * i + j ≡ k �
 byte_of_word b i j k few at =
     get_or-take 8 (drop (8 * i) b) j 0 few ∙ get_or-drop (8 * i) b j 0 ∙ ap (λ n. get_or b n 0) at
 
--- a run of words, as the images of their places
+-- a run of words, as the images of their positions
 words_run : (ws : List ℕ) (a n : ℕ) → a + n ≤ length ws →
     take n (drop a ws) ≡ map (slice_index ws) (range_with_len a n)
 words_run ws a n room =

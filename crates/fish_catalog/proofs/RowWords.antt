@@ -89,17 +89,17 @@ pub word_of_name : (row : CatRow) (k : ℕ) → 3 ≤ k → k < 7 → row_word r
 unfolding row_word
 word_of_name row k low few =
     let i : ℕ = k - 3 in
-    let place : k ≡ suc (suc (suc i)) = omega arith in
-    ap (row_word row) place ∙ chosen_first (dec_lt i 4) (word_at row.name i) (word_at row.def (i - 4)) (omega arith)
+    let position : k ≡ suc (suc (suc i)) = omega arith in
+    ap (row_word row) position ∙ chosen_first (dec_lt i 4) (word_at row.name i) (word_at row.def (i - 4)) (omega arith)
 
 -- a word of the text
 pub word_of_text : (row : CatRow) (k : ℕ) → 7 ≤ k → row_word row k ≡ word_at row.def (k - 7)
 unfolding row_word
 word_of_text row k low =
     let i : ℕ = k - 3 in
-    let place : k ≡ suc (suc (suc i)) = omega arith in
+    let position : k ≡ suc (suc (suc i)) = omega arith in
     let same : i - 4 ≡ k - 7 = omega arith in
-    ap (row_word row) place
+    ap (row_word row) position
     ∙ chosen_second (dec_lt i 4) (word_at row.name i) (word_at row.def (i - 4)) (λ less. omega arith)
     ∙ ap (word_at row.def) same
 
@@ -131,7 +131,7 @@ active_back row h =
     omega (arith, h.short_name, h.short_text, bit_small (is_active row)) in
     ap (λ n. n == 1) bit ∙ bit_back (is_active row)
 
--- counted from a place on, or from 0
+-- counted from a position on, or from 0
 at_0 : (f : ℕ → ℕ) (a i : ℕ) → f (a + i - a) ≡ f (0 + i)
 at_0 f a i = let same : a + i - a ≡ 0 + i = omega arith in ap f same
 

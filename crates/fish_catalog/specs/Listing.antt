@@ -14,7 +14,7 @@ use Rattle.fish_catalog.specs.declared.row.CatRow.{CatRow}
 abbrev pub is_on : Listed → Bool
 is_on l = l.active
 
--- a row of the catalogue without the places where its index begins and ends
+-- a row of the catalogue without the positions where its index begins and ends
 abbrev pub listed_of : CatRow → Listed
 listed_of row = record { id = row.id; name = row.name; def = row.def; active = is_active row }
 

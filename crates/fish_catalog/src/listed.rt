@@ -2,7 +2,7 @@
 
 use fish_value::Bytes;
 
-/// A definition as a version of the registry has it: without the places where its index begins and
+/// A definition as a version of the registry has it: without the positions where its index begins and
 /// ends.
 #[derive(Debug, Drop)]
 pub struct Listed {

@@ -30,8 +30,8 @@ fn are_listed(rows: &[CatRow]) -> bool
 fn have_ids(rows: &[CatRow]) -> bool
     ensures { IsTrue result ↔ HaveIds rows.now }
 {
-    for (place, row) in rows.iter().enumerate() {
-        if usize::from(row.id) != place {
+    for (position, row) in rows.iter().enumerate() {
+        if usize::from(row.id) != position {
             return false;
         }
     }
@@ -49,8 +49,8 @@ pub fn count_active(rows: &[CatRow]) -> usize
 fn are_apart(rows: &[CatRow]) -> bool
     ensures { IsTrue result ↔ AreApart rows.now }
 {
-    for (place, row) in rows.iter().enumerate() {
-        if row.is_active() && !is_alone(&rows[..place], row) {
+    for (position, row) in rows.iter().enumerate() {
+        if row.is_active() && !is_alone(&rows[..position], row) {
             return false;
         }
     }

@@ -25,8 +25,8 @@ pub fn row_words(row: &CatRow) -> [u64; ROW_WORDS]
 {
     read_texts(row);
     let mut words = [0; ROW_WORDS];
-    for (place, word) in words.iter_mut().enumerate() {
-        *word = word_of(row, place);
+    for (position, word) in words.iter_mut().enumerate() {
+        *word = word_of(row, position);
     }
     words
 }
@@ -41,17 +41,17 @@ fn read_texts(row: &CatRow)
 }
 
 /// One word of a row.
-fn word_of(row: &CatRow, place: usize) -> u64
+fn word_of(row: &CatRow, position: usize) -> u64
     requires row { IsWritable row.now }
-    requires place { place < 39 }
-    ensures { result ≡ row_word row.now place }
+    requires position { position < 39 }
+    ensures { result ≡ row_word row.now position }
 {
-    match place {
+    match position {
         0 => word_of_bound(row.from),
         1 => word_of_bound(row.to),
         2 => word_of_sizes(row),
-        3..=6 => word_of_bytes(row.name.as_bytes(), place - 3),
-        _ => word_of_bytes(row.def.as_bytes(), place - 7),
+        3..=6 => word_of_bytes(row.name.as_bytes(), position - 3),
+        _ => word_of_bytes(row.def.as_bytes(), position - 7),
     }
 }
 
@@ -76,11 +76,11 @@ fn word_of_sizes(row: &CatRow) -> u64
 }
 
 /// The word of eight bytes, with zero bytes behind the end.
-fn word_of_bytes(bytes: &[u8], place: usize) -> u64
-    requires { place < 39 }
-    ensures { result ≡ word_at bytes.now place }
+fn word_of_bytes(bytes: &[u8], position: usize) -> u64
+    requires { position < 39 }
+    ensures { result ≡ word_at bytes.now position }
 {
-    let first = 8 * place;
+    let first = 8 * position;
     u64::from_le_bytes([
         byte_at(bytes, first),
         byte_at(bytes, first + 1),
@@ -93,11 +93,11 @@ fn word_of_bytes(bytes: &[u8], place: usize) -> u64
     ])
 }
 
-/// The byte at a place, or 0 behind the end.
-fn byte_at(bytes: &[u8], place: usize) -> u8
-    ensures { result ≡ slice_index bytes.now place }
+/// The byte at a position, or 0 behind the end.
+fn byte_at(bytes: &[u8], position: usize) -> u8
+    ensures { result ≡ slice_index bytes.now position }
 {
-    bytes.get(place).copied().unwrap_or(0)
+    bytes.get(position).copied().unwrap_or(0)
 }
 
 /// Whether a row was active as its words were made, by its third word.

@@ -9,7 +9,7 @@ use Rattle.fish_layout.specs.Pages.{page_of}
 use Rattle.fish_image.specs.Stands.{words_in, words_of}
 use Rattle.fish_image.proofs.Agreement.{agrees_first, agrees_number, agrees_within, front_whole, goes}
 use Rattle.fish_rule.specs.declared.view.Key.{Key}
-use Rattle.fish_slots.specs.Places.{lines_at}
+use Rattle.fish_slots.specs.Offsets.{lines_at}
 use Rattle.fish_slots.specs.Slots.{line_count, lines_of}
 use Rattle.fish_cold.specs.Carries.{CarriesTable, IsCarried, IsEntryAnswer, IsEntryOf, IsEntryRead, IsPriorRecord}
 use Rattle.fish_catalog.specs.declared.entry.Entry.{Entry}

@@ -6,7 +6,7 @@ use Rattle.byteorder.specs.Endian.{IsRead, little_number}
 use Rattle.std.specs.Prelude.{min}
 use Rattle.fish_image.specs.Slot.{number}
 use Rattle.fish_image.specs.Stands.{words_of}
-use Rattle.fish_slots.specs.Places.{lines_at}
+use Rattle.fish_slots.specs.Offsets.{lines_at}
 use Rattle.fish_cold.specs.Pages.{lines_below, log_words, page_size, page_words}
 
 -- so many words

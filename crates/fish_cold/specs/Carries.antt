@@ -7,7 +7,7 @@ use Rattle.fish_catalog.specs.declared.entry.Entry.TheVariants.{Stored, Void}
 use Rattle.fish_catalog.specs.declared.row.CatRow.{CatRow}
 use Rattle.fish_image.specs.Log.{Agrees, IsRecordAt, StandsFor, region, region_lines, values_under}
 use Rattle.fish_image.specs.Reached.{Reached, head_of}
-use Rattle.fish_image.specs.Reading.{IsTold}
+use Rattle.fish_image.specs.Reading.{IsBodyOf}
 use Rattle.fish_image.specs.Stands.{words_in}
 use Rattle.fish_layout.specs.declared.parts.BodyParts.{BodyParts}
 use Rattle.fish_rule.specs.Parts.{first_head}
@@ -28,7 +28,7 @@ pub record IsPrior (image : List ℕ) (n : ℕ) (end : Reached) : Type 0 where
   pub body : List ℕ
   pub lines : List ℕ
   pub has : HasCommit body lines image
-  pub told : IsTold commit body
+  pub told : IsBodyOf commit body
   pub log : List Entry
   pub stands : StandsFor commit (words_in lines) log
   pub few : n ≤ commit.count

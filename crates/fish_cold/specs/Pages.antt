@@ -1,7 +1,7 @@
 -- The words of the log in a store file, page by page.
 use Rattle.std.specs.Prelude.{ℕ, ◌+◌, ◌-◌, ◌*◌, ◌/◌, List, drop, length, min}
 use Rattle.fish_image.specs.Stands.{words_of}
-use Rattle.fish_slots.specs.Places.{lines_at}
+use Rattle.fish_slots.specs.Offsets.{lines_at}
 
 -- so many words of the log from one on, as a file has them
 abbrev pub log_words : List ℕ → ℕ → ℕ → List ℕ

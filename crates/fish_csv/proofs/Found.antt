@@ -1,4 +1,4 @@
--- What a search for bytes says of the bytes up to the place that it found.
+-- What a search for bytes says of the bytes up to the position that it found.
 use Rattle.std.specs.Prelude.{None}
 use Rattle.std.proofs.Common.{◌≡◌, ◌==◌, ◌<◌, ◌≤◌, ◌++◌, ◌∷◌, [], ℕ, List, Bool, Some, zero, suc, refl, ap, true, false}
 use Rattle.std.proofs.Common.{length, take, drop, arith}
@@ -21,7 +21,7 @@ none-below test [] (suc n) none h = absurd (omega arith)
 none-below test (c ∷ b) (suc n) none h =
     rw (not-true (test c) (none 0 (omega arith))) (none-below test b n (λ k lt. none (suc k) (omega arith)) (omega arith))
 
--- up to the place that was found, and in the whole where none was
+-- up to the position that was found, and in the whole where none was
 pub none-before : (test : ℕ → Bool) (b : List ℕ) (n : ℕ) → IsFirstByte test b (Some n) → list_any test (take n b) ≡ false
 none-before test b n found = none-below test b n (λ k lt. found.0.before k (omega arith) lt) (omega (arith, found.0.high))
 

@@ -16,7 +16,7 @@ use Rattle.fish_csv.specs.Machine.{row_from}
 use Rattle.fish_csv.specs.Reading.{rows_in}
 use Rattle.fish_csv.specs.Rows.{kept, payload_of, stored_text}
 use Rattle.fish_csv.specs.Turns.{IsStored, TakesRow, ends_line, is_mark}
-use Rattle.fish_csv.specs.declared.machine.Place.TheVariants as place
+use Rattle.fish_csv.specs.declared.machine.Position.TheVariants as position
 use Rattle.fish_csv.proofs.Records.{rows-end, rows-next}
 use Rattle.fish_csv.proofs.Steps.{either, neither, plain-comma, plain-other, row-other}
 use Rattle.csv.proofs.RoundTrip.{start-same}
@@ -165,7 +165,7 @@ line-run fields field (c ∷ x) tail e ends =
 
 -- a line in front of which a row begins, with what ends it
 line-first : (c : ℕ) (x tail : List ℕ) → list_any is_mark (c ∷ x) ≡ false → ends_line tail ≡ true
-    → row_from place.Row [] [] ((c ∷ x) ++ tail) ≡ after-line (parts_of (c ∷ x)) tail
+    → row_from position.Row [] [] ((c ∷ x) ++ tail) ≡ after-line (parts_of (c ∷ x)) tail
 line-first c x tail e ends =
     let last = neither (c == 34 || c == 13) (c == 10) (neither (is_mark c) (list_any is_mark x) e).0 in
     let first = neither (c == 34) (c == 13) last.0 in

@@ -10,9 +10,9 @@ use Rattle.csv.specs.Reading.{default_config, records_from, records_next}
 use Rattle.csv.specs.declared.parser.State.{State}
 use Rattle.csv.specs.declared.parser.State.TheVariants as st
 use Rattle.fish_csv.specs.Machine.{Ends, IsBetween, row_from, state_of}
-use Rattle.fish_csv.specs.declared.machine.Place.{Place}
+use Rattle.fish_csv.specs.declared.machine.Position.{Position}
 use Rattle.fish_csv.specs.Reading.{rows_in}
-use Rattle.fish_csv.specs.declared.machine.Place.TheVariants as place
+use Rattle.fish_csv.specs.declared.machine.Position.TheVariants as position
 use Rattle.fish_csv.proofs.Inside.{inside-ends, inside-leaves, is_inside}
 use Rattle.fish_csv.proofs.Steps.{row-end, row-other}
 
@@ -43,7 +43,7 @@ begun s fields field (c ∷ rest) h =
 
 -- a byte that ends no line begins a row
 pub row-there : (c : ℕ) (xs : List ℕ) → (c == 13 || c == 10) ≡ false
-    → (q : Read) × (row_from place.Row [] [] (c ∷ xs) ≡ Some q) × IsBetween q.1 × (length q.2 < length (c ∷ xs))
+    → (q : Read) × (row_from position.Row [] [] (c ∷ xs) ≡ Some q) × IsBetween q.1 × (length q.2 < length (c ∷ xs))
 row-there c xs e =
     let found = begun st.StartField [] [] (c ∷ xs) refl in
     (found.0, row-other c [] [] xs e ∙ found.1, found.2, omega (arith, found.3))
@@ -57,11 +57,11 @@ IsNext-more : (c : ℕ) (xs : List ℕ) (o : Option Read) → IsNext xs o → Is
 IsNext-more c xs None h = tt
 IsNext-more c xs (Some q) h = (h.0, omega (arith, h.1))
 
-pub next-row : (xs : List ℕ) → IsNext xs (row_from place.Row [] [] xs)
+pub next-row : (xs : List ℕ) → IsNext xs (row_from position.Row [] [] xs)
 unfolding next_record
 next-row [] = tt
 next-row (c ∷ xs) = elim (cases_Bool (c == 13 || c == 10)) [
-  | inl ends ↦ rw (row-end c [] [] xs ends) (IsNext-more c xs (row_from place.Row [] [] xs) (next-row xs))
+  | inl ends ↦ rw (row-end c [] [] xs ends) (IsNext-more c xs (row_from position.Row [] [] xs) (next-row xs))
   | inr begins ↦ (let found = row-there c xs begins in rw found.1 (found.2, found.3))
 ]
 
@@ -107,23 +107,23 @@ rows-left zero s xs h a = absurd (omega arith)
 rows-left (suc n) s xs h a = rw (between-same s xs h) (enough (suc n) (length xs + 1) st.StartRecord xs (inl refl) a (omega arith))
 
 -- the first row of a text and those behind it
-pub rows-next : (xs : List ℕ) → rows_in xs ≡ records_next (λ s ys. rows_in ys) (row_from place.Row [] [] xs)
+pub rows-next : (xs : List ℕ) → rows_in xs ≡ records_next (λ s ys. rows_in ys) (row_from position.Row [] [] xs)
 unfolding records_from rows_in
 rows-next xs = rw (add-one (length xs))
-    (next-alike (records_from default_config (length xs)) (λ s ys. rows_in ys) xs (row_from place.Row [] [] xs)
+    (next-alike (records_from default_config (length xs)) (λ s ys. rows_in ys) xs (row_from position.Row [] [] xs)
     (next-row xs) (λ s ys h lt. rows-left (length xs) s ys h lt))
 
 -- a text with no first row has no rows
-pub rows-none : (xs : List ℕ) → row_from place.Row [] [] xs ≡ None → rows_in xs ≡ []
+pub rows-none : (xs : List ℕ) → row_from position.Row [] [] xs ≡ None → rows_in xs ≡ []
 rows-none xs e = rows-next xs ∙ rw e refl
 
 -- a text with a first row has that row and those behind it, in a shorter text
-pub rows-more : (xs : List ℕ) (fields : List (List ℕ)) (s : State) (rest : List ℕ) → row_from place.Row [] [] xs ≡ Some (fields, s, rest)
+pub rows-more : (xs : List ℕ) (fields : List (List ℕ)) (s : State) (rest : List ℕ) → row_from position.Row [] [] xs ≡ Some (fields, s, rest)
     → (rows_in xs ≡ fields ∷ rows_in rest) × (length rest < length xs)
 rows-more xs fields s rest e = (rows-next xs ∙ rw e refl, (rw e at (next-row xs)).1)
 
 -- texts with the same first row have the same rows
-pub rows-alike : (xs ys : List ℕ) → row_from place.Row [] [] xs ≡ row_from place.Row [] [] ys → rows_in xs ≡ rows_in ys
+pub rows-alike : (xs ys : List ℕ) → row_from position.Row [] [] xs ≡ row_from position.Row [] [] ys → rows_in xs ≡ rows_in ys
 rows-alike xs ys e = rows-next xs ∙ rw e (sym (rows-next ys))
 
 -- a line end in front counts nowhere
@@ -143,21 +143,21 @@ rows-there c xs e none =
     cc (sym none ∙ some)
 
 -- a run of bytes that join the field
-run-taken : (at : Place) (fields : List (List ℕ)) (field rest : List ℕ) (n : ℕ) → Runs default_config (state_of at) (take n rest)
+run-taken : (at : Position) (fields : List (List ℕ)) (field rest : List ℕ) (n : ℕ) → Runs default_config (state_of at) (take n rest)
     → row_from at fields field rest ≡ row_from at fields (field ++ take n rest) (drop n rest)
 run-taken at fields field rest n runs =
     ap (λ t. row_from at fields field t) (sym (take-append-drop n rest))
     ∙ run-copies default_config (state_of at) fields field (take n rest) (drop n rest) runs
 
 -- a turn's run, as the code names its parts
-pub turn-run : (b : List ℕ) (at : Place) (fields : List (List ℕ)) (field rest run behind after : List ℕ) (n : ℕ)
-    → row_from place.Row [] [] b ≡ row_from at fields field rest → Runs default_config (state_of at) (take n rest)
+pub turn-run : (b : List ℕ) (at : Position) (fields : List (List ℕ)) (field rest run behind after : List ℕ) (n : ℕ)
+    → row_from position.Row [] [] b ≡ row_from at fields field rest → Runs default_config (state_of at) (take n rest)
     → run ≡ take n rest → behind ≡ drop n rest → after ≡ field ++ run
-    → row_from place.Row [] [] b ≡ row_from at fields after behind
+    → row_from position.Row [] [] b ≡ row_from at fields after behind
 turn-run b at fields field rest run behind after n same runs e f g = same ∙ run-taken at fields field rest n runs ∙ rw (g, e, f) refl
 
 -- the end of the text, as the code names its parts
-pub turn-end : (b : List ℕ) (at : Place) (fields : List (List ℕ)) (field behind : List ℕ) (after : List (List ℕ)) (found : Bool)
-    → row_from place.Row [] [] b ≡ row_from at fields field behind → behind ≡ [] → Ends at fields field found after
-    → row_from place.Row [] [] b ≡ (if found then Some (after, st.StartRecord, []) else None)
+pub turn-end : (b : List ℕ) (at : Position) (fields : List (List ℕ)) (field behind : List ℕ) (after : List (List ℕ)) (found : Bool)
+    → row_from position.Row [] [] b ≡ row_from at fields field behind → behind ≡ [] → Ends at fields field found after
+    → row_from position.Row [] [] b ≡ (if found then Some (after, st.StartRecord, []) else None)
 turn-end b at fields field behind after found same e ends = same ∙ rw e ends

@@ -1,4 +1,4 @@
--- One byte of a row, as `csv` takes it at each place.
+-- One byte of a row, as `csv` takes it at each position.
 use Rattle.std.specs.Prelude.{◌||◌, ◌⊎◌, Option, None, Result, Ok, Err, IfOk}
 use Rattle.std.proofs.Common.{◌≡◌, ◌≢◌, ◌==◌, ◌++◌, ◌∷◌, ◌∙◌, [], ℕ, List, Bool, Some, refl, true, false, inl, inr}
 use Rattle.std.proofs.lemmas.Bool.{eqb-true, ne_eqb}
@@ -8,8 +8,8 @@ use Rattle.csv.specs.declared.parser.State.{State}
 use Rattle.csv.specs.declared.parser.State.TheVariants as st
 use Rattle.csv.proofs.RoundTrip.{after-quote-same, record-same, start-same}
 use Rattle.fish_csv.specs.Machine.{Advances, IsBetween, row_from}
-use Rattle.fish_csv.specs.declared.machine.Place.{Place}
-use Rattle.fish_csv.specs.declared.machine.Place.TheVariants as place
+use Rattle.fish_csv.specs.declared.machine.Position.{Position}
+use Rattle.fish_csv.specs.declared.machine.Position.TheVariants as position
 
 -- neither of two tests holds where their choice doesn't
 pub neither : (a b : Bool) → (a || b) ≡ false → (a ≡ false) × (b ≡ false)
@@ -94,8 +94,8 @@ row-other c fields field rest e =
     let q = neither (c == 13) (c == 10) e in
     record-same fields field c rest q.0 q.1
 
--- what one byte does at a place it does at each place that takes it alike
-pub Advances-as : (at to : Place) (c : ℕ) (fields : List (List ℕ)) (field : List ℕ) (o : Option Place)
+-- what one byte does at a position it does at each position that takes it alike
+pub Advances-as : (at to : Position) (c : ℕ) (fields : List (List ℕ)) (field : List ℕ) (o : Option Position)
     (after : List (List ℕ)) (next : List ℕ)
     → ((rest : List ℕ) → row_from at fields field (c ∷ rest) ≡ row_from to fields field (c ∷ rest))
     → Advances to c fields field o after next → Advances at c fields field o after next
@@ -103,7 +103,7 @@ Advances-as at to c fields field None after next same h = λ rest. let x = h res
 Advances-as at to c fields field (Some p) after next same h = λ rest. same rest ∙ h rest
 
 -- the same of a call's answer
-pub IfOk-as : {E : Type 0} (r : Result (Option Place) E) (at to : Place) (c : ℕ) (fields : List (List ℕ))
+pub IfOk-as : {E : Type 0} (r : Result (Option Position) E) (at to : Position) (c : ℕ) (fields : List (List ℕ))
     (field : List ℕ) (after : List (List ℕ)) (next : List ℕ)
     → ((rest : List ℕ) → row_from at fields field (c ∷ rest) ≡ row_from to fields field (c ∷ rest))
     → IfOk r (λ o. Advances to c fields field o after next) → IfOk r (λ o. Advances at c fields field o after next)
@@ -111,15 +111,15 @@ IfOk-as (Ok o) at to c fields field after next same h = Advances-as at to c fiel
 IfOk-as (Err e) at to c fields field after next same h = tt
 
 -- in front of a row the end of the text ends none, elsewhere it ends one
-pub end-row : (fields : List (List ℕ)) (field : List ℕ) → row_from place.Row fields field [] ≡ None
+pub end-row : (fields : List (List ℕ)) (field : List ℕ) → row_from position.Row fields field [] ≡ None
 unfolding next_record
 end-row fields field = refl
 
-pub end-other : (at : Place) (fields : List (List ℕ)) (field : List ℕ) → at ≢ place.Row
+pub end-other : (at : Position) (fields : List (List ℕ)) (field : List ℕ) → at ≢ position.Row
     → row_from at fields field [] ≡ Some (fields ++ (field ∷ []), st.StartRecord, [])
 unfolding next_record
-end-other place.Row fields field n = absurd (n refl)
-end-other place.Field fields field n = refl
-end-other place.Plain fields field n = refl
-end-other place.Quoted fields field n = refl
-end-other place.Closed fields field n = refl
+end-other position.Row fields field n = absurd (n refl)
+end-other position.Field fields field n = refl
+end-other position.Plain fields field n = refl
+end-other position.Quoted fields field n = refl
+end-other position.Closed fields field n = refl

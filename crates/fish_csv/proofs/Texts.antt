@@ -22,13 +22,13 @@ use Rattle.fish_csv.proofs.Records.{rows-next}
 use Rattle.fish_csv.proofs.Steps.{either, row-end, row-other}
 use Rattle.fish_csv.specs.Machine.{row_from}
 use Rattle.fish_csv.specs.Reading.{only, rows_in}
-use Rattle.fish_csv.specs.declared.machine.Place.TheVariants as place
+use Rattle.fish_csv.specs.declared.machine.Position.TheVariants as position
 
 both : (a b : Bool) → (a && b) ≡ true → (a ≡ true) × (b ≡ true)
 both true b h = (refl, h)
 both false b h = cc h
 
--- the parts round an ASCII byte, by its place
+-- the parts round an ASCII byte, by its position
 take-front : (p rest : List ℕ) (c : ℕ) → take (length p) (p ++ (c ∷ rest)) ≡ p
 take-front [] rest c = refl
 take-front (x ∷ p) rest c = ap (λ t. x ∷ t) (take-front p rest c)
@@ -140,7 +140,7 @@ end-small c e = elim (either (c == 13) (c == 10) e) [
 ]
 
 -- the same from in front of a row
-first-texts : (xs : List ℕ) (q : Read) → IsUtf8 xs → row_from place.Row [] [] xs ≡ Some q → AreTexts q.0
+first-texts : (xs : List ℕ) (q : Read) → IsUtf8 xs → row_from position.Row [] [] xs ≡ Some q → AreTexts q.0
 unfolding next_record
 first-texts [] q text e = cc e
 first-texts (c ∷ xs) q text e = elim (cases_Bool (c == 13 || c == 10)) [

@@ -24,7 +24,7 @@ escaped-more before middle after run rest behind total e f g h =
     ((run ++ (34 ∷ 34 ∷ [])) ++ escaped default_writer behind) = simp append_assoc in
     left ∙ same ∙ sym right ∙ h
 
--- a field that a row has stands at a place of the row, and one that it doesn't have stands behind it
+-- a field that a row has stands at a position of the row, and one that it doesn't have stands behind it
 pub field-below : (fields : List (List ℕ)) (i : ℕ) (text : List ℕ) → Some text ≡ field_at fields i → i < length fields
 unfolding field_at
 field-below [] i text e = cc e
@@ -66,27 +66,27 @@ blank-no (x ∷ []) (inl many) = absurd (omega arith)
 blank-no (x ∷ []) (inr some) = rw (append-nil (field_text default_writer x)) at some
 blank-no (x ∷ y ∷ ys) e = refl
 
--- the body of a row is written where the row has no field at the place
-all-written : (fields : List (List ℕ)) (place : ℕ) (out : List ℕ) → None ≡ field_at fields place
-    → out ≡ row_body default_writer (take place fields) → out ≡ row_body default_writer fields
-all-written fields place out none e = e ∙ ap (row_body default_writer) (take_all place fields (field-past fields place none))
+-- the body of a row is written where the row has no field at the position
+all-written : (fields : List (List ℕ)) (position : ℕ) (out : List ℕ) → None ≡ field_at fields position
+    → out ≡ row_body default_writer (take position fields) → out ≡ row_body default_writer fields
+all-written fields position out none e = e ∙ ap (row_body default_writer) (take_all position fields (field-past fields position none))
 
 -- a row that shows no byte is written as two quotes, another as its body
-pub written-blank : (fields : List (List ℕ)) (place : ℕ) (out after : List ℕ) → None ≡ field_at fields place
-    → place ≤ length fields → out ≡ row_body default_writer (take place fields)
-    → place < 2 → (length out == 0) ≡ true → after ≡ out ++ (34 ∷ 34 ∷ []) → after ≡ stored_text fields
-written-blank fields place out after none within e few empty f =
-    let body = all-written fields place out none e in
-    let past = field-past fields place none in
+pub written-blank : (fields : List (List ℕ)) (position : ℕ) (out after : List ℕ) → None ≡ field_at fields position
+    → position ≤ length fields → out ≡ row_body default_writer (take position fields)
+    → position < 2 → (length out == 0) ≡ true → after ≡ out ++ (34 ∷ 34 ∷ []) → after ≡ stored_text fields
+written-blank fields position out after none within e few empty f =
+    let body = all-written fields position out none e in
+    let past = field-past fields position none in
     let blank = blank-yes fields (omega arith) (rw body at empty) in
     let quotes : blank_quotes fields ≡ 34 ∷ 34 ∷ [] = rw blank refl in
     f ∙ rw body (ap (λ t. row_body default_writer fields ++ t) (sym quotes)) ∙ sym (stored-is fields)
 
-pub written-whole : (fields : List (List ℕ)) (place : ℕ) (out : List ℕ) → None ≡ field_at fields place
-    → place ≤ length fields → out ≡ row_body default_writer (take place fields)
-    → (2 ≤ place) ⊎ ((length out == 0) ≡ false) → out ≡ stored_text fields
-written-whole fields place out none within e shows =
-    let body = all-written fields place out none e in
+pub written-whole : (fields : List (List ℕ)) (position : ℕ) (out : List ℕ) → None ≡ field_at fields position
+    → position ≤ length fields → out ≡ row_body default_writer (take position fields)
+    → (2 ≤ position) ⊎ ((length out == 0) ≡ false) → out ≡ stored_text fields
+written-whole fields position out none within e shows =
+    let body = all-written fields position out none e in
     let quotes : blank_quotes fields ≡ [] =
     rw (blank-no fields (elim shows [ inl many ↦ inl (omega arith) | inr some ↦ inr (rw body at some) ])) refl in
     body ∙ sym (append-nil (row_body default_writer fields))

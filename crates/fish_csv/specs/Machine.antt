@@ -4,33 +4,33 @@ use Rattle.csv.specs.Machine.{Read, next_record}
 use Rattle.csv.specs.Reading.{default_config}
 use Rattle.csv.specs.declared.parser.State.{State}
 use Rattle.csv.specs.declared.parser.State.TheVariants as st
-use Rattle.fish_csv.specs.declared.machine.Place.{Place}
-use Rattle.fish_csv.specs.declared.machine.Place.TheVariants as place
+use Rattle.fish_csv.specs.declared.machine.Position.{Position}
+use Rattle.fish_csv.specs.declared.machine.Position.TheVariants as position
 
--- the state of `csv` at a place
-abbrev pub state_of : Place → State
-state_of place.Row = st.StartRecord
-state_of place.Field = st.StartField
-state_of place.Plain = st.InField
-state_of place.Quoted = st.InQuoted
-state_of place.Closed = st.AfterQuote
+-- the state of `csv` at a position
+abbrev pub state_of : Position → State
+state_of position.Row = st.StartRecord
+state_of position.Field = st.StartField
+state_of position.Plain = st.InField
+state_of position.Quoted = st.InQuoted
+state_of position.Closed = st.AfterQuote
 
 -- the next row of what is left of a text, with the fields and the bytes of the field that were read of it
-abbrev pub row_from : Place → List (List ℕ) → List ℕ → List ℕ → Option Read
+abbrev pub row_from : Position → List (List ℕ) → List ℕ → List ℕ → Option Read
 row_from at fields field b = next_record default_config (state_of at) fields field b
 
 -- a row has ended and no other has begun
 abbrev pub IsBetween : State → Type 0
 IsBetween s = (s ≡ st.StartRecord) ⊎ (s ≡ st.AfterCr)
 
--- whatever bytes come behind it, the byte c leads from this place and these fields to another, or ends the row
-abbrev pub Advances : Place → ℕ → List (List ℕ) → List ℕ → Option Place → List (List ℕ) → List ℕ → Type 0
+-- whatever bytes come behind it, the byte c leads from this position and these fields to another, or ends the row
+abbrev pub Advances : Position → ℕ → List (List ℕ) → List ℕ → Option Position → List (List ℕ) → List ℕ → Type 0
 Advances at c fields field None after next =
     (rest : List ℕ) → (s : State) × IsBetween s × (row_from at fields field (c ∷ rest) ≡ Some (after, s, rest))
 Advances at c fields field (Some to) after next =
     (rest : List ℕ) → row_from at fields field (c ∷ rest) ≡ row_from to after next rest
 
 -- where the text ends, the row ends with these fields, or there is none
-abbrev pub Ends : Place → List (List ℕ) → List ℕ → Bool → List (List ℕ) → Type 0
+abbrev pub Ends : Position → List (List ℕ) → List ℕ → Bool → List (List ℕ) → Type 0
 Ends at fields field found after =
     row_from at fields field [] ≡ (if found then Some (after, st.StartRecord, []) else None)

@@ -28,17 +28,17 @@ row_reading b = if is_utf8 b then only (rows_in (strip_bom b)) else None
 unfoldable pub row_of : List ℕ → Option (List (List ℕ))
 row_of b = if nat_le (length b) longest_payload then row_reading b else None
 
--- the place, from 0, that a number from 1 on stands for
-abbrev pub place_of : ℤ → Option ℕ
-place_of (pos zero) = None
-place_of (pos (suc n)) = Some n
-place_of (negsuc n) = None
+-- the position, from 0, that a number from 1 on stands for
+abbrev pub position_of : ℤ → Option ℕ
+position_of (pos zero) = None
+position_of (pos (suc n)) = Some n
+position_of (negsuc n) = None
 
--- the place of the column that a name is, `$` and a number
+-- the position of the column that a name is, `$` and a number
 abbrev pub column_of : List ℕ → Option ℕ
-column_of name = if slice_index name 0 == 36 then option_and_then place_of (int_of (drop 1 name)) else None
+column_of name = if slice_index name 0 == 36 then option_and_then position_of (int_of (drop 1 name)) else None
 
--- the place of the column that a path of one name is; a longer path is none
+-- the position of the column that a path of one name is; a longer path is none
 abbrev pub column_at : List (List ℕ) → Option ℕ
 column_at [] = None
 column_at (name ∷ []) = column_of name

@@ -5,7 +5,7 @@ ghost use Rattle.std.specs.List.{list_all};
 ghost use Rattle.std.specs.Str.{is_utf8};
 ghost use Rattle.csv.specs.Records.{fields_of};
 ghost use Rattle.fish_value.specs.Seen.{field_seen};
-ghost use Rattle.fish_csv.specs.Reading.{column_at, column_of, field_in, field_of, place_of};
+ghost use Rattle.fish_csv.specs.Reading.{column_at, column_of, field_in, field_of, position_of};
 
 use crate::bytes::first_and_rest;
 use csv::ByteRecord;
@@ -16,16 +16,16 @@ pub(crate) fn field_at<'r>(row: &'r ByteRecord, path: &Path) -> FieldView<'r>
     requires { list_all is_utf8 (fields_of row.now) ≡ true }
     ensures { field_seen result ≡ field_in path.now (fields_of row.now) }
 {
-    let Some(place) = find_column(path) else {
+    let Some(position) = find_column(path) else {
         return FieldView::Missing;
     };
-    let Some(text) = row.get(place) else {
+    let Some(text) = row.get(position) else {
         return FieldView::Missing;
     };
     to_field(text)
 }
 
-/// The place, from 0, of the column that a path names.
+/// The position, from 0, of the column that a path names.
 fn find_column(path: &Path) -> Option<usize>
     ensures { result ≡ column_at path.now }
 {
@@ -44,12 +44,12 @@ fn column_named(name: &[u8]) -> Option<usize>
     if first != b'$' {
         return None;
     }
-    to_place(read_int(digits)?)
+    to_position(read_int(digits)?)
 }
 
-/// The place that a number from 1 on stands for.
-fn to_place(number: i64) -> Option<usize>
-    ensures { result ≡ place_of number }
+/// The position that a number from 1 on stands for.
+fn to_position(number: i64) -> Option<usize>
+    ensures { result ≡ position_of number }
 {
     if number < 1 {
         return None;

@@ -15,7 +15,7 @@ use std::alloc::AllocError;
 
 /// Where the reading of a row stands.
 #[derive(Clone, Copy, Debug, PartialEq, Eq)]
-pub(crate) enum Place {
+pub(crate) enum Position {
     /// In front of a row.
     Row,
     /// In front of a field that is not the first.
@@ -40,61 +40,61 @@ pub(crate) fn read_row<'b>(
 {
     row.clear();
     field.clear();
-    let mut place = Place::Row;
+    let mut position = Position::Row;
     let mut rest = b;
     loop {
-        let (run, behind) = rest.split_at(run_len(place, rest));
+        let (run, behind) = rest.split_at(run_len(position, rest));
         field.extend_from_slice(run)?;
         let Some((c, more)) = first_and_rest(behind) else {
-            let found = finish(place, row, field)?;
+            let found = finish(position, row, field)?;
             if !found {
                 return Ok(None);
             }
             return Ok(Some(behind));
         };
-        let Some(next) = advance(place, c, row, field)? else {
+        let Some(next) = advance(position, c, row, field)? else {
             return Ok(Some(more));
         };
-        place = next;
+        position = next;
         rest = more;
     }
 }
 
 /// How many bytes from here only join the field.
-fn run_len(place: Place, b: &[u8]) -> usize
+fn run_len(position: Position, b: &[u8]) -> usize
     ensures within { result ≤ length b.now }
-    ensures runs { Runs default_config (state_of place) (take result b.now) }
+    ensures runs { Runs default_config (state_of position) (take result b.now) }
 {
-    match place {
-        Place::Plain => memchr3(b',', b'\r', b'\n', b).unwrap_or(b.len()),
-        Place::Quoted => memchr(b'"', b).unwrap_or(b.len()),
+    match position {
+        Position::Plain => memchr3(b',', b'\r', b'\n', b).unwrap_or(b.len()),
+        Position::Quoted => memchr(b'"', b).unwrap_or(b.len()),
         _ => 0,
     }
 }
 
 /// Takes one byte. `None` says that it ended the row.
 fn advance(
-    place: Place,
+    position: Position,
     c: u8,
     row: &mut ByteRecord,
     field: &mut Vec<u8>,
-) -> Result<Option<Place>, AllocError>
+) -> Result<Option<Position>, AllocError>
     requires { partial_of row.old ≡ [] }
     ensures goes { IfOk result (λ next.
-        Advances place c (fields_of row.old) field.old.items next (fields_of row.new) field.new.items) }
+        Advances position c (fields_of row.old) field.old.items next (fields_of row.new) field.new.items) }
     ensures whole { OnOk result (partial_of row.new ≡ []) }
 {
-    match place {
-        Place::Row => {
+    match position {
+        Position::Row => {
             if is_line_end(c) {
-                return Ok(Some(Place::Row));
+                return Ok(Some(Position::Row));
             }
             advance_field(c, row, field)
         }
-        Place::Field => advance_field(c, row, field),
-        Place::Plain => advance_plain(c, row, field),
-        Place::Quoted => advance_quoted(c, field),
-        Place::Closed => {
+        Position::Field => advance_field(c, row, field),
+        Position::Plain => advance_plain(c, row, field),
+        Position::Quoted => advance_quoted(c, field),
+        Position::Closed => {
             if c == b'"' {
                 return advance_doubled(field);
             }
@@ -108,37 +108,37 @@ fn advance_field(
     c: u8,
     row: &mut ByteRecord,
     field: &mut Vec<u8>,
-) -> Result<Option<Place>, AllocError>
+) -> Result<Option<Position>, AllocError>
     requires { partial_of row.old ≡ [] }
     ensures goes { IfOk result (λ next.
-        Advances Place.Field c (fields_of row.old) field.old.items next (fields_of row.new) field.new.items) }
+        Advances Position.Field c (fields_of row.old) field.old.items next (fields_of row.new) field.new.items) }
     ensures whole { OnOk result (partial_of row.new ≡ []) }
 {
     if c == b'"' {
-        return Ok(Some(Place::Quoted));
+        return Ok(Some(Position::Quoted));
     }
     advance_plain(c, row, field)
 }
 
 /// The same between quotes.
-fn advance_quoted(c: u8, field: &mut Vec<u8>) -> Result<Option<Place>, AllocError>
+fn advance_quoted(c: u8, field: &mut Vec<u8>) -> Result<Option<Position>, AllocError>
     ensures { (fields : List (List ℕ)) → IfOk result (λ next.
-        Advances Place.Quoted c fields field.old.items next fields field.new.items) }
+        Advances Position.Quoted c fields field.old.items next fields field.new.items) }
 {
     if c == b'"' {
-        return Ok(Some(Place::Closed));
+        return Ok(Some(Position::Closed));
     }
     field.push(c)?;
-    Ok(Some(Place::Quoted))
+    Ok(Some(Position::Quoted))
 }
 
 /// The same for the second of two quotes, which stands for one.
-fn advance_doubled(field: &mut Vec<u8>) -> Result<Option<Place>, AllocError>
+fn advance_doubled(field: &mut Vec<u8>) -> Result<Option<Position>, AllocError>
     ensures { (fields : List (List ℕ)) → IfOk result (λ next.
-        Advances Place.Closed 34 fields field.old.items next fields field.new.items) }
+        Advances Position.Closed 34 fields field.old.items next fields field.new.items) }
 {
     field.push(b'"')?;
-    Ok(Some(Place::Quoted))
+    Ok(Some(Position::Quoted))
 }
 
 /// The same in a field, outside quotes.
@@ -146,22 +146,22 @@ fn advance_plain(
     c: u8,
     row: &mut ByteRecord,
     field: &mut Vec<u8>,
-) -> Result<Option<Place>, AllocError>
+) -> Result<Option<Position>, AllocError>
     requires { partial_of row.old ≡ [] }
     ensures goes { IfOk result (λ next.
-        Advances Place.Plain c (fields_of row.old) field.old.items next (fields_of row.new) field.new.items) }
+        Advances Position.Plain c (fields_of row.old) field.old.items next (fields_of row.new) field.new.items) }
     ensures whole { OnOk result (partial_of row.new ≡ []) }
 {
     if c == b',' {
         end_field(row, field)?;
-        return Ok(Some(Place::Field));
+        return Ok(Some(Position::Field));
     }
     if is_line_end(c) {
         end_field(row, field)?;
         return Ok(None);
     }
     field.push(c)?;
-    Ok(Some(Place::Plain))
+    Ok(Some(Position::Plain))
 }
 
 /// Puts the field at hand behind the others.
@@ -177,12 +177,12 @@ fn end_field(row: &mut ByteRecord, field: &mut Vec<u8>) -> Result<(), AllocError
 }
 
 /// Takes the end of the text, and answers whether a row ended there.
-fn finish(place: Place, row: &mut ByteRecord, field: &mut Vec<u8>) -> Result<bool, AllocError>
+fn finish(position: Position, row: &mut ByteRecord, field: &mut Vec<u8>) -> Result<bool, AllocError>
     requires { partial_of row.old ≡ [] }
-    ensures { IfOk result (λ found. Ends place (fields_of row.old) field.old.items found (fields_of row.new)) }
+    ensures { IfOk result (λ found. Ends position (fields_of row.old) field.old.items found (fields_of row.new)) }
 {
-    match place {
-        Place::Row => Ok(false),
+    match position {
+        Position::Row => Ok(false),
         _ => {
             end_field(row, field)?;
             Ok(true)

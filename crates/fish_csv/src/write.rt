@@ -14,23 +14,23 @@ pub(crate) fn write_row(row: &ByteRecord, out: &mut Vec<u8>) -> Result<(), Alloc
     ensures { OnOk result (out.new.items ≡ stored_text (fields_of row.now)) }
 {
     out.clear();
-    let mut place = 0;
-    while let Some(field) = row.get(place) {
-        write_separator(place, out)?;
+    let mut position = 0;
+    while let Some(field) = row.get(position) {
+        write_separator(position, out)?;
         write_field(field, out)?;
-        place += 1;
+        position += 1;
     }
-    if place < 2 && out.as_slice().is_empty() {
+    if position < 2 && out.as_slice().is_empty() {
         out.extend_from_slice(b"\"\"")?;
     }
     Ok(())
 }
 
-/// Writes what stands in front of the field at a place.
-fn write_separator(place: usize, out: &mut Vec<u8>) -> Result<(), AllocError>
-    ensures { OnOk result (out.new.items ≡ out.old.items ++ next_sep default_writer place) }
+/// Writes what stands in front of the field at a position.
+fn write_separator(position: usize, out: &mut Vec<u8>) -> Result<(), AllocError>
+    ensures { OnOk result (out.new.items ≡ out.old.items ++ next_sep default_writer position) }
 {
-    if place == 0 {
+    if position == 0 {
         return Ok(());
     }
     out.push(b',')?;

@@ -6,8 +6,8 @@ use Rattle.std.specs.Prelude.{◌≡◌, ℕ, ◌+◌, ◌-◌, min, List, ◌++
 use Rattle.fish_disk.specs.Crash.{Torn}
 
 -- content that isn't told
-abbrev pub untold : Option (List ℕ)
-untold = None
+abbrev pub no_content : Option (List ℕ)
+no_content = None
 
 -- the n bytes from place p on, as far as there are so many
 abbrev pub part : ℕ → ℕ → List ℕ → List ℕ

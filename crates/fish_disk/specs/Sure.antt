@@ -12,8 +12,8 @@ abbrev pub kept_of : SureDisk → List ℕ
 kept_of disk = disk.bytes.items
 
 -- all its bytes, as long as nothing of them was dropped
-abbrev pub told_of : SureDisk → Option (List ℕ)
-told_of disk = if disk.told then Some disk.bytes.items else None
+abbrev pub content_in : SureDisk → Option (List ℕ)
+content_in disk = if disk.told then Some disk.bytes.items else None
 
 -- bytes with a piece put over those from `at` on, as far as they fit the room. A piece that begins
 -- behind the end is dropped

@@ -5,7 +5,7 @@
 
 ghost use Rattle.std.specs.Prelude.{◌≡◌, ◌≤◌, Some, length, IfOk, IfSome};
 ghost use Rattle.fish_outside.specs.Causes.{HasCause};
-ghost use Rattle.fish_disk.specs.Content.{untold};
+ghost use Rattle.fish_disk.specs.Content.{no_content};
 
 use crate::disk::Disk;
 use fish_outside::Failed;
@@ -53,13 +53,13 @@ impl<R: Files<File = File> + Clone + Drop + Send> Disk for FileDisk<R> {
     ghost use Rattle.std.specs.Prelude.{is_some, true};
     ghost use Rattle.std.proofs.Common.{ap};
 
-    ghost content = { λ _. untold };
+    ghost content = { λ _. no_content };
 
-    ghost images = { λ _ c. untold ≡ Some c };
+    ghost images = { λ _ c. no_content ≡ Some c };
 
     ghost moment = { λ _. 0 };
 
-    ghost since = { λ _ _ c. untold ≡ Some c };
+    ghost since = { λ _ _ c. no_content ≡ Some c };
 
     ghost keeps_past = { true };
 
@@ -161,8 +161,8 @@ fn read_all(file: &File, at: u64, buf: &mut [u8]) -> Option<usize>
 {
     let mut count = 0;
     while count < buf.len() {
-        let place = at.checked_add(count as u64)?;
-        let more = read_some(file, place, &mut buf[count..])?;
+        let offset = at.checked_add(count as u64)?;
+        let more = read_some(file, offset, &mut buf[count..])?;
         if more == 0 {
             break;
         }

@@ -2,7 +2,7 @@
 
 ghost use Rattle.std.specs.Prelude.{◌≡◌, ◌≤◌, ◌+◌, ◌-◌, ◌++◌, ◌↔◌, [], Some, length, min, take, vec_capacity, option_map, IfOk, IfSome, IsTrue, OnOk};
 ghost use Rattle.fish_outside.specs.Causes.{HasCause};
-ghost use Rattle.fish_outside.specs.Room.{told_within};
+ghost use Rattle.fish_outside.specs.Room.{content_within};
 ghost use Rattle.fish_disk.specs.Content.{Gave, StillReads, Wrote, put_at};
 ghost use Rattle.fish_disk.specs.Crash.{KeepsPast, LeavesOnly, TornFrom};
 
@@ -23,12 +23,12 @@ pub struct SureDisk {
 }
 
 impl SureDisk {
-    ghost use Rattle.fish_disk.specs.Sure.{kept_of, room_of, told_of};
+    ghost use Rattle.fish_disk.specs.Sure.{kept_of, room_of, content_in};
 
     /// An empty disk with room for so many bytes, for which it takes the memory.
     pub fn new(alloc: Global, room: u64) -> Result<SureDisk, AllocError>
         ensures room { IfOk result (λ disk. room_of disk ≡ room) }
-        ensures told { IfOk result (λ disk. told_of disk ≡ Some []) }
+        ensures content { IfOk result (λ disk. content_in disk ≡ Some []) }
     {
         Ok(SureDisk {
             bytes: Vec::with_capacity(alloc, room as usize)?,
@@ -40,7 +40,7 @@ impl SureDisk {
     /// Its bytes, as far as they fit the room.
     pub fn as_bytes(&self) -> &[u8]
         ensures kept { result.now ≡ kept_of self.now }
-        ensures told { IfSome (told_of self.now) (λ all. result.now ≡ all) }
+        ensures content { IfSome (content_in self.now) (λ all. result.now ≡ all) }
     {
         self.bytes.as_slice()
     }
@@ -90,15 +90,15 @@ fn extend_within(bytes: &mut Vec<u8>, room: usize, piece: &[u8]) -> bool
 impl Disk for SureDisk {
     ghost use Rattle.std.specs.Prelude.{false, is_some};
     ghost use Rattle.std.proofs.Common.{ap};
-    ghost use Rattle.fish_disk.specs.Sure.{kept_of, kept_with, room_of, told_of};
+    ghost use Rattle.fish_disk.specs.Sure.{kept_of, kept_with, room_of, content_in};
 
-    ghost content = { told_of };
+    ghost content = { content_in };
 
-    ghost images = { λ disk c. told_of disk ≡ Some c };
+    ghost images = { λ disk c. content_in disk ≡ Some c };
 
     ghost moment = { λ _. 0 };
 
-    ghost since = { λ disk _ c. told_of disk ≡ Some c };
+    ghost since = { λ disk _ c. content_in disk ≡ Some c };
 
     ghost keeps_past = { false };
 
@@ -119,16 +119,16 @@ impl Disk for SureDisk {
     }
 
     fn write_at(&mut self, at: u64, piece: &[u8]) -> Result<(), Failed>
-        requires { IfSome (told_of self.old) (λ c. at ≤ length c) }
-        ensures content { Wrote (told_of self.old) (told_of self.new) at piece.now result }
-        ensures crash { LeavesOnly (λ disk c. told_of disk ≡ Some c) (λ disk _ c. told_of disk ≡ Some c) (λ _. 0)
-            self.old self.new (TornFrom (λ c. told_of self.old ≡ Some c) at (length piece.now)) }
+        requires { IfSome (content_in self.old) (λ c. at ≤ length c) }
+        ensures content { Wrote (content_in self.old) (content_in self.new) at piece.now result }
+        ensures crash { LeavesOnly (λ disk c. content_in disk ≡ Some c) (λ disk _ c. content_in disk ≡ Some c) (λ _. 0)
+            self.old self.new (TornFrom (λ c. content_in self.old ≡ Some c) at (length piece.now)) }
         ensures one { 0 ≤ 0 + 1 }
-        ensures past { KeepsPast false (λ disk _ c. told_of disk ≡ Some c) (λ _. 0) self.old self.new }
+        ensures past { KeepsPast false (λ disk _ c. content_in disk ≡ Some c) (λ _. 0) self.old self.new }
         ensures cause { HasCause 0 0 result }
 
-        ensures told { told_of self.new
-            ≡ told_within (room_of self.old) (option_map (put_at at piece.now) (told_of self.old)) }
+        ensures content { content_in self.new
+            ≡ content_within (room_of self.old) (option_map (put_at at piece.now) (content_in self.old)) }
         ensures kept { kept_of self.new ≡ kept_with (room_of self.old) at piece.now (kept_of self.old) }
         ensures room { room_of self.new ≡ room_of self.old }
     {

@@ -1,4 +1,4 @@
--- The end of one definition, by its place.
+-- The end of one definition, by its position.
 use Rattle.std.proofs.Common.{◌≡◌, ℕ, ◌+◌, ◌<◌, ◌≤◌, zero, suc, List, [], ◌∷◌, length, set, get_or, sym, refl, ap, ◌∙◌}
 use Rattle.std.proofs.Common.{arith, Some, slice_get}
 use Rattle.std.proofs.Math.Decide.{ℕ_discrete}
@@ -35,7 +35,7 @@ end_past (suc k) n (l ∷ ls) less h =
     (λ j. choose_second (ℕ_discrete l.id (n + suc k)) (ended l) l (λ q. let a = h.0 in omega arith) j
     ∷ (ap (λ (z : ℕ). ended_at z ls) e ∙ end_past k (suc n) ls (omega arith) h.1) j)
 
--- the one at its place ends
+-- the one at its position ends
 end_there : (k n : ℕ) (ls : List Listed) (d : Listed) → k < length ls → AreFrom n ls
     → set ls k (ended (get_or ls k d)) ≡ ended_at (n + k) ls
 end_there k n [] d less h = absurd (omega arith)
@@ -55,7 +55,7 @@ module _ (ls : List Listed) (listing : IsListing ls) (id : ℕ) where
   behind : 0 + id ≡ id
   behind = omega arith
 
-  -- the one with an id below the length ends at its place
+  -- the one with an id below the length ends at its position
   pub ended_here : (d : Listed) → id < length ls → set ls id (ended (get_or ls id d)) ≡ ended_at id ls
   ended_here d less = end_there id 0 ls d less numbered ∙ ap (λ (z : ℕ). ended_at z ls) behind
 

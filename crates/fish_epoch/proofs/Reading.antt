@@ -111,43 +111,43 @@ first_known v id less = record {
 -- ---- the words of a row
 
 -- one word more of the row is read
-pub words_more : (v u : View) (id place x : ℕ) (ws : List ℕ) → length ws ≡ 39 → place < 39 → u ≡ after_load_registry v (row_at id place) x
+pub words_more : (v u : View) (id position x : ℕ) (ws : List ℕ) → length ws ≡ 39 → position < 39 → u ≡ after_load_registry v (row_at id position) x
     → ((row : CatRow) → slice_get v.about.rows.value id ≡ Some row
-    → Rattle.fish_catalog.specs.Words.IsWritable row × (x ≡ row_word row place))
-    → HasRowWords v id place (slice_index ws) → HasRowWords u id (suc place) (slice_index (slice_set ws place x))
-words_more v u id place x ws wide room is row h = record {
-  among = λ i from upto. read_ i from upto (ℕ_discrete i place);
+    → Rattle.fish_catalog.specs.Words.IsWritable row × (x ≡ row_word row position))
+    → HasRowWords v id position (slice_index ws) → HasRowWords u id (suc position) (slice_index (slice_set ws position x))
+words_more v u id position x ws wide room is row h = record {
+  among = λ i from upto. read_ i from upto (ℕ_discrete i position);
   first = λ r there i from upto. firsts r
-      (ap (λ (z : View). slice_get z.about.rows.value id) (sym is) ∙ there) i from upto (ℕ_discrete i place);
+      (ap (λ (z : View). slice_get z.about.rows.value id) (sym is) ∙ there) i from upto (ℕ_discrete i position);
 }
   where
-    here : slice_index (slice_set ws place x) place ≡ x
-    here = get_or-set_same ws place x 0 (omega arith)
+    here : slice_index (slice_set ws position x) position ≡ x
+    here = get_or-set_same ws position x 0 (omega arith)
 
-    else_ : (i : ℕ) → i ≢ place → slice_index (slice_set ws place x) i ≡ slice_index ws i
-    else_ i ne = get_or-set_other ws place i x 0 ne
+    else_ : (i : ℕ) → i ≢ position → slice_index (slice_set ws position x) i ≡ slice_index ws i
+    else_ i ne = get_or-set_other ws position i x 0 ne
 
-    newest : Among (record { index = row_at id place; value = x }) u.learned.words
-    newest = subst (λ (z : View). Among (record { index = row_at id place; value = x }) z.learned.words) (sym is) (inl refl)
+    newest : Among (record { index = row_at id position; value = x }) u.learned.words
+    newest = subst (λ (z : View). Among (record { index = row_at id position; value = x }) z.learned.words) (sym is) (inl refl)
 
     older : (y : RegistryWord) → Among y v.learned.words → Among y u.learned.words
     older y m = subst (λ (z : View). Among y z.learned.words) (sym is) (inr m)
 
-    read_ : (i : ℕ) → 2 ≤ i → i < suc place → Dec (i ≡ place)
-        → Among (record { index = row_at id i; value = slice_index (slice_set ws place x) i }) u.learned.words
+    read_ : (i : ℕ) → 2 ≤ i → i < suc position → Dec (i ≡ position)
+        → Among (record { index = row_at id i; value = slice_index (slice_set ws position x) i }) u.learned.words
     read_ i from upto (yes e) =
-        subst (λ (z : ℕ). Among (record { index = row_at id z; value = slice_index (slice_set ws place x) z })
+        subst (λ (z : ℕ). Among (record { index = row_at id z; value = slice_index (slice_set ws position x) z })
         u.learned.words) (sym e)
-        (subst (λ (z : ℕ). Among (record { index = row_at id place; value = z }) u.learned.words) (sym here) newest)
+        (subst (λ (z : ℕ). Among (record { index = row_at id position; value = z }) u.learned.words) (sym here) newest)
     read_ i from upto (no ne) =
         subst (λ (z : ℕ). Among (record { index = row_at id i; value = z }) u.learned.words) (sym (else_ i ne))
         (older _ (h.among i from (omega arith)))
 
-    firsts : (r : CatRow) → slice_get v.about.rows.value id ≡ Some r → (i : ℕ) → 2 ≤ i → i < suc place → Dec (i ≡ place)
-        → Rattle.fish_catalog.specs.Words.IsWritable r × (slice_index (slice_set ws place x) i ≡ row_word r i)
+    firsts : (r : CatRow) → slice_get v.about.rows.value id ≡ Some r → (i : ℕ) → 2 ≤ i → i < suc position → Dec (i ≡ position)
+        → Rattle.fish_catalog.specs.Words.IsWritable r × (slice_index (slice_set ws position x) i ≡ row_word r i)
     firsts r there i from upto (yes e) =
         let t = row r there in
-        (t.0, ap (slice_index (slice_set ws place x)) e ∙ here ∙ t.1 ∙ ap (row_word r) (sym e))
+        (t.0, ap (slice_index (slice_set ws position x)) e ∙ here ∙ t.1 ∙ ap (row_word r) (sym e))
     firsts r there i from upto (no ne) =
         let t = h.first r there i from (omega arith) in (t.0, else_ i ne ∙ t.1)
 
@@ -166,7 +166,7 @@ row_read u id f l words is g read = is ∙ listed_same f (row_in g id) id true (
 
 -- ---- the rows of the start
 
--- each row of the start has its place as its id
+-- each row of the start has its position as its id
 start_ids : (v : View) → Stands v → (id : ℕ) (row : CatRow) → slice_get v.about.rows.value id ≡ Some row → row.id ≡ id
 start_ids v s id row there =
     (s.rule.registry.versions.listings 0 (omega arith)).ids id (listed_of row)

@@ -17,7 +17,7 @@ pub record OnlyReads (v u : View) : Type 0 where
   pub found : u.learned.found ≡ v.learned.found
   pub loads : u.clock.loads ≡ v.clock.loads
 
--- the words of a row from place 2 up to a place were read, and a row of the start has its own there
+-- the words of a row from 2 up to a position were read, and a row of the start has its own there
 pub record HasRowWords (v : View) (id upto : ℕ) (f : ℕ → ℕ) : Type 0 where
   pub among : (i : ℕ) → 2 ≤ i → i < upto → Among (record { index = row_at id i; value = f i }) v.learned.words
   pub first : (row : CatRow) → slice_get v.about.rows.value id ≡ Some row → (i : ℕ) → 2 ≤ i → i < upto

@@ -105,9 +105,9 @@ fn end_row(rows: &mut [Listed], id: u16)
     requires { IsListing rows.old }
     ensures { rows.new ≡ ended_at id rows.old }
 {
-    let place = usize::from(id);
-    if place < rows.len() {
-        let row = &mut rows[place];
+    let position = usize::from(id);
+    if position < rows.len() {
+        let row = &mut rows[position];
         row.active = false;
     }
 }
@@ -121,8 +121,8 @@ fn read_words(log: &Log, pass: &mut Pass, id: u64) -> [u64; ROW_WORDS]
     ensures words { HasRowWords (view pass.new) id 39 (slice_index result) }
 {
     let mut words = [0; ROW_WORDS];
-    for place in 2..ROW_WORDS {
-        words[place] = load_row(log, pass, id, place as u64);
+    for position in 2..ROW_WORDS {
+        words[position] = load_row(log, pass, id, position as u64);
     }
     words
 }

@@ -10,7 +10,7 @@ use Rattle.fish_lanes.specs.declared.work.Work.{Work}
 use Rattle.fish_lanes.specs.declared.work.Work.TheVariants as work
 use Rattle.fish_lines.specs.declared.resuming.Begin.{Begin}
 use Rattle.fish_lines.specs.declared.resuming.Begin.TheVariants.{After}
-use Rattle.fish_outside.specs.Told.{Files}
+use Rattle.fish_outside.specs.Content.{Files}
 use Rattle.fish_script.specs.declared.script.Statement.{Statement}
 use Rattle.fish_script.specs.declared.script.Statement.TheVariants as does
 use Rattle.fish_value.specs.declared.field.Form.{Form}

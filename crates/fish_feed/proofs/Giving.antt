@@ -15,7 +15,7 @@ use Rattle.fish_feed.specs.declared.queue.Todo.TheVariants as todo
 use Rattle.fish_lanes.specs.declared.lane.Lane.{Lane}
 use Rattle.fish_lanes.specs.declared.work.Work.{Work}
 use Rattle.fish_outside.specs.Causes.{Rose}
-use Rattle.fish_outside.specs.Told.{Files, StillTold}
+use Rattle.fish_outside.specs.Content.{Files, SameFiles}
 use Rattle.fish_outside.specs.declared.fault.FeedRefusal.{FeedRefusal}
 use Rattle.fish_outside.specs.declared.fault.FeedRefusal.TheVariants.{Failed}
 use Rattle.fish_script.specs.declared.script.Statement.{Statement}
@@ -61,11 +61,11 @@ down_both (suc a) b x y h k =
     record { down = omega (one, more, arith); falls = λ some. omega (one, more, arith) }
 
 module _ {F : Type 0} (left : F → Option (List ℕ)) where
-  queue_since : (old new : Option Files) → StillTold old new → (ss : List Statement) (given : List Work) (q : Queue F)
+  queue_since : (old new : Option Files) → SameFiles old new → (ss : List Statement) (given : List Work) (q : Queue F)
       → IsQueue old left ss given q → IsQueue new left ss given q
   queue_since old new still ss given q h = queue_later left old new still ss given q.current q.todos.items h
 
-  end_since : (old new : Option Files) → StillTold old new → (ss : List Statement) (given : List Work) (q : Queue F)
+  end_since : (old new : Option Files) → SameFiles old new → (ss : List Statement) (given : List Work) (q : Queue F)
       → MayEnd old left ss given q → MayEnd new left ss given q
   end_since old new still ss given q h = (h.0, by h.1)
     where
@@ -79,7 +79,7 @@ module _ {F : Type 0} (left : F → Option (List ℕ)) where
       → MayEnd told left ss given q
   queue_may told ss given q h = ([], inl (subst (λ (z : List Work). IsQueue told left ss z q) (sym (append-nil given)) h))
 
-  module _ (old mid new : Option Files) (first : StillTold old mid) (then : StillTold mid new) (q q' : Queue F) (qs qs' : List (Queue F))
+  module _ (old mid new : Option Files) (first : SameFiles old mid) (then : SameFiles mid new) (q q' : Queue F) (qs qs' : List (Queue F))
     where
       -- the first lane was given works, and the others were
       pub given_all : (y : Lane) (ys : List Lane)
@@ -114,7 +114,7 @@ module _ {F : Type 0} (left : F → Option (List ℕ)) where
       )
 
   -- the first failed
-  pub failed_first : (old new : Option Files) → StillTold old new → (q q' : Queue F) (qs : List (Queue F))
+  pub failed_first : (old new : Option Files) → SameFiles old new → (q q' : Queue F) (qs : List (Queue F))
       → ((ss : List Statement) (given : List Work) → IsQueue old left ss given q → MayEnd new left ss given q')
       → (texts : List (List Statement)) (given : List (List Work)) → Triples (IsQueue old left) texts given (q ∷ qs)
       → Triples (MayEnd new left) texts given (q' ∷ qs)
@@ -128,7 +128,7 @@ module _ {F : Type 0} (left : F → Option (List ℕ)) where
   )
 
   -- the first was closed, and the others were
-  pub closed_all : (old mid new : Option Files) → StillTold old mid → StillTold mid new → (q : Queue F) (qs : List (Queue F))
+  pub closed_all : (old mid new : Option Files) → SameFiles old mid → SameFiles mid new → (q : Queue F) (qs : List (Queue F))
       → ((ss : List Statement) (given : List Work) → MayEnd old left ss given q → AreFirstOf mid ss given)
       → ((texts : List (List Statement)) (given : List (List Work)) → Triples (MayEnd mid left) texts given qs
       → Pairs (AreFirstOf new) texts given)
@@ -145,7 +145,7 @@ module _ {F : Type 0} (left : F → Option (List ℕ)) where
       )
 
   -- works may follow, where the feed went back of what was open
-  pub first_of_end : (old new : Option Files) → StillTold old new → (ss : List Statement) (given : List Work) (q : Queue F)
+  pub first_of_end : (old new : Option Files) → SameFiles old new → (ss : List Statement) (given : List Work) (q : Queue F)
       (c : Option (OpenFile F)) → q.current ≡ c → IfSome c (λ o. IsSome new → IsSome (left o.feed)) → MayEnd old left ss given q
       → AreFirstOf new ss given
   first_of_end old new still ss given q c is feed h = by h.1

@@ -3,7 +3,7 @@ use Rattle.std.proofs.Common.{◌≡◌, ℕ, ◌<◌, ◌≤◌, zero, suc, Lis
 use Rattle.std.proofs.Common.{append-nil, Option, Some, None, slice_get}
 use Rattle.std.proofs.lemmas.List.{take_all}
 use Rattle.std.proofs.lemmas.Option.{slice_get_read}
-use Rattle.fish_outside.specs.Told.{IsAtEnd, Took}
+use Rattle.fish_outside.specs.Content.{IsAtEnd, Took}
 use Rattle.fish_feed.specs.Reading.{ReadsUpTo}
 use Rattle.fish_feed.specs.Works.{Pairs}
 
@@ -32,7 +32,7 @@ module _ {A B : Type 0} (R : A → B → Type 0) where
   pairs_length (w ∷ xs) [] h = elim h [ ]
   pairs_length (w ∷ xs) (z ∷ ys) h = ap suc (pairs_length xs ys h.1)
 
-  -- what stands at a place stands beside another
+  -- what stands at a position stands beside another
   pub pairs_at : (xs : List A) (ys : List B) (i : ℕ) (y : B) → Pairs R xs ys → slice_get ys i ≡ Some y
       → (x : A) × (slice_get xs i ≡ Some x) × R x y
   pairs_at [] [] i y h at = absurd cc
@@ -60,11 +60,11 @@ pairs_both R S T f (x ∷ xs) [] zs h k = elim h [ ]
 pairs_both R S T f (x ∷ xs) (y ∷ ys) [] h k = elim k [ ]
 pairs_both R S T f (x ∷ xs) (y ∷ ys) (z ∷ zs) h k = (f x y z h.0 k.0, pairs_both R S T f xs ys zs h.1 k.1)
 
--- an element that was read is at its place
+-- an element that was read is at its position
 pub get_at : {A : Type 0} (xs : List A) (i : ℕ) (x : A) → i < length xs → x ≡ get_or xs i x → slice_get xs i ≡ Some x
 get_at xs i x less is = slice_get_read xs (length xs) i x refl less is
 
--- what is so of each place is so with one more behind
+-- what is so of each position is so with one more behind
 pub at_push : {A : Type 0} (P : ℕ → A → Type 0) (xs : List A) (x : A) → ((i : ℕ) (y : A) → slice_get xs i ≡ Some y → P i y)
     → P (length xs) x → (i : ℕ) (y : A) → slice_get (xs ++ x ∷ []) i ≡ Some y → P i y
 at_push P [] x h one zero y at = subst (P 0) (let e : x ≡ y = cc in e) one

@@ -6,7 +6,7 @@ use Rattle.fish_feed.specs.Queues.{HasQueue, IsDue, IsQueue}
 use Rattle.fish_feed.specs.Works.{Pairs}
 use Rattle.fish_feed.specs.declared.queue.Queue.{Queue}
 use Rattle.fish_feed.specs.declared.queue.Todo.{Todo}
-use Rattle.fish_outside.specs.Told.{Files, StillTold}
+use Rattle.fish_outside.specs.Content.{Files, SameFiles}
 use Rattle.fish_script.specs.Script.{AreFree, is_control}
 use Rattle.fish_script.specs.declared.script.Statement.{Statement}
 
@@ -14,7 +14,7 @@ abbrev pub AreOpened : {F : Type 0} → Option Files → (F → Option (List ℕ
 AreOpened told left texts queues = Pairs (λ ss q. IsQueue told left ss [] q) texts queues
 
 module _ {F : Type 0} (left : F → Option (List ℕ)) where
-  pub opened_later : (old new : Option Files) → StillTold old new → (texts : List (List Statement)) (queues : List (Queue F))
+  pub opened_later : (old new : Option Files) → SameFiles old new → (texts : List (List Statement)) (queues : List (Queue F))
       → AreOpened old left texts queues → AreOpened new left texts queues
   opened_later old new still [] [] h = tt
   opened_later old new still [] (q ∷ queues) h = elim h [ ]

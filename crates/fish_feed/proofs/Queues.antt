@@ -18,7 +18,7 @@ use Rattle.fish_lanes.specs.declared.work.Work.{Work}
 use Rattle.fish_lanes.specs.declared.work.Work.TheVariants as work
 use Rattle.fish_lines.specs.declared.resuming.Begin.{Begin}
 use Rattle.fish_lines.specs.declared.resuming.Begin.TheVariants.{Start}
-use Rattle.fish_outside.specs.Told.{Files, StillTold, Took}
+use Rattle.fish_outside.specs.Content.{Files, SameFiles, Took}
 use Rattle.fish_value.specs.Limits.{longest_file}
 use Rattle.fish_script.specs.declared.script.Statement.{Statement}
 use Rattle.fish_script.specs.declared.script.Statement.TheVariants as does
@@ -26,7 +26,7 @@ use Rattle.fish_script.specs.declared.script.Statement.TheVariants as does
 -- ---- statements that were done
 
 -- what was done over files that were told was over those that still are
-done_later : (old new : Option Files) → StillTold old new → (s : Statement) (ws : List Work) → IsDone old s ws → IsDone new s ws
+done_later : (old new : Option Files) → SameFiles old new → (s : Statement) (ws : List Work) → IsDone old s ws → IsDone new s ws
 done_later old new still (does.Register name def) ws h = h
 done_later old new still (does.Deregister name) ws h = h
 done_later old new still (does.Ingest form header name) ws h =
@@ -35,7 +35,7 @@ done_later old new still (does.Scan name value from to way) ws h = h
 done_later old new still (does.Explain name value from to way) ws h = h
 done_later old new still does.Checkpoint ws h = h
 
-pub dones_later : (old new : Option Files) → StillTold old new → (ss : List Statement) (ws : List Work) → AreDone old ss ws
+pub dones_later : (old new : Option Files) → SameFiles old new → (ss : List Statement) (ws : List Work) → AreDone old ss ws
     → AreDone new ss ws
 dones_later old new still [] ws h = h
 dones_later old new still (s ∷ ss) ws h =
@@ -67,7 +67,7 @@ work_done told does.Checkpoint w h = (w, refl, h)
 module _ {F : Type 0} (left : F → Option (List ℕ)) where
   -- ---- a file
 
-  open_later : (old new : Option Files) → StillTold old new → (s : Statement) (given : List Work) (o : OpenFile F)
+  open_later : (old new : Option Files) → SameFiles old new → (s : Statement) (given : List Work) (o : OpenFile F)
       → IsOpen old left s given o → IsOpen new left s given o
   open_later old new still s given o h = record {
     header = h.header;
@@ -114,7 +114,7 @@ module _ {F : Type 0} (left : F → Option (List ℕ)) where
       by None k = tt
       by (Some files) k = by_left files (left o.feed) (left u.feed) p.took k
 
-  module _ (told new : Option Files) (still : StillTold told new) (s : Statement) (given : List Work) (o : OpenFile F)
+  module _ (told new : Option Files) (still : SameFiles told new) (s : Statement) (given : List Work) (o : OpenFile F)
       (h : IsOpen told left s given o) where
     -- given some last works, where the file is known to have these bytes
     ends_with : (rest bytes : List ℕ) (w : Work) → bytes ≡ take longest_read rest → w ≡ work.Ingest o.form o.begin o.name bytes
@@ -139,7 +139,7 @@ module _ {F : Type 0} (left : F → Option (List ℕ)) where
     file_has : (files : Files) → new ≡ Some files → (l : List ℕ) → left o.feed ≡ Some l
         → files o.name ≡ Some (h.before ++ (o.rest ++ l))
     file_has files new_is l left_is =
-        let was : told ≡ Some files = subst (λ (z : Option Files). StillTold told z) new_is still in
+        let was : told ≡ Some files = subst (λ (z : Option Files). SameFiles told z) new_is still in
         let file = subst (λ (z : Option Files). IfSome z (λ f. IfSome (left o.feed) (λ k. f o.name ≡ Some (h.before ++ (o.rest ++ k)))))
         was h.file in
         subst (λ (z : Option (List ℕ)). IfSome z (λ k. files o.name ≡ Some (h.before ++ (o.rest ++ k)))) left_is file
@@ -184,12 +184,12 @@ module _ {F : Type 0} (left : F → Option (List ℕ)) where
 
   -- ---- statements that are to be given
 
-  pub due_later : (old new : Option Files) → StillTold old new → (s : Statement) (t : Todo F) → IsDue old left s t → IsDue new left s t
+  pub due_later : (old new : Option Files) → SameFiles old new → (s : Statement) (t : Todo F) → IsDue old left s t → IsDue new left s t
   due_later old new still s (todo.Work w) h = h
   due_later old new still s (todo.File o) h =
       (open_later old new still s [] o h.0, told_later old new (λ files. IsSome (left o.feed)) still h.1)
 
-  pub dues_later : (old new : Option Files) → StillTold old new → (ss : List Statement) (todos : List (Todo F))
+  pub dues_later : (old new : Option Files) → SameFiles old new → (ss : List Statement) (todos : List (Todo F))
       → Pairs (IsDue old left) ss todos → Pairs (IsDue new left) ss todos
   dues_later old new still [] [] h = tt
   dues_later old new still [] (t ∷ todos) h = elim h [ ]
@@ -197,16 +197,16 @@ module _ {F : Type 0} (left : F → Option (List ℕ)) where
   dues_later old new still (s ∷ ss) (t ∷ todos) h = (due_later old new still s t h.0, dues_later old new still ss todos h.1)
 
   -- some works do it
-  due_end : (old new : Option Files) → StillTold old new → (s : Statement) (t : Todo F) → IsDue old left s t
+  due_end : (old new : Option Files) → SameFiles old new → (s : Statement) (t : Todo F) → IsDue old left s t
       → (ws : List Work) × IsDone new s ws
   due_end old new still s (todo.Work w) h = (w ∷ [], work_done new s w h)
   due_end old new still s (todo.File o) h = open_end old new still s [] o h.0 (told_now new still)
     where
-      told_now : (n : Option Files) → StillTold old n → IsSome n → IsSome (left o.feed)
+      told_now : (n : Option Files) → SameFiles old n → IsSome n → IsSome (left o.feed)
       told_now None still_ bad = absurd cc
       told_now (Some files) still_ some = subst (λ (z : Option Files). IfSome z (λ _. IsSome (left o.feed))) still_ h.1
 
-  dues_end : (old new : Option Files) → StillTold old new → (ss : List Statement) (todos : List (Todo F))
+  dues_end : (old new : Option Files) → SameFiles old new → (ss : List Statement) (todos : List (Todo F))
       → Pairs (IsDue old left) ss todos → (ws : List Work) × AreDone new ss ws
   dues_end old new still [] [] h = ([], refl)
   dues_end old new still [] (t ∷ todos) h = elim h [ ]
@@ -218,14 +218,14 @@ module _ {F : Type 0} (left : F → Option (List ℕ)) where
 
   -- ---- a queue
 
-  goes_later : (old new : Option Files) → StillTold old new → (c : Option (OpenFile F)) (ss : List Statement) (given : List Work)
+  goes_later : (old new : Option Files) → SameFiles old new → (c : Option (OpenFile F)) (ss : List Statement) (given : List Work)
       (todos : List (Todo F)) → GoesOn old left c ss given todos → GoesOn new left c ss given todos
   goes_later old new still None ss given todos h = (h.0, dues_later old new still ss todos h.1)
   goes_later old new still (Some o) [] given todos h = elim h [ ]
   goes_later old new still (Some o) (s ∷ ss) given todos h =
       (open_later old new still s given o h.0, dues_later old new still ss todos h.1)
 
-  pub queue_later : (old new : Option Files) → StillTold old new → (ss : List Statement) (given : List Work) (c : Option (OpenFile F))
+  pub queue_later : (old new : Option Files) → SameFiles old new → (ss : List Statement) (given : List Work) (c : Option (OpenFile F))
       (todos : List (Todo F)) → HasQueue old left ss given c todos → HasQueue new left ss given c todos
   queue_later old new still ss given c todos h = record {
     done = h.done;
@@ -297,7 +297,7 @@ module _ {F : Type 0} (left : F → Option (List ℕ)) where
         by [] goes = elim goes [ ]
         by (s ∷ next) goes = (open_part told s h.then o w u goes.0 p, goes.1)
 
-    module _ (new : Option Files) (still : StillTold told new) where
+    module _ (new : Option Files) (still : SameFiles told new) where
       -- all that was left of it was given
       pub queue_rest : (o u : OpenFile F) (w : Work) (todos : List (Todo F)) → HasQueue told left ss given (Some o) todos
           → IsRestOf left o w u → (IsSome new → IsSome (left u.feed)) → HasQueue new left ss (given ++ w ∷ []) None todos

@@ -11,9 +11,9 @@ use Rattle.fish_feed.specs.declared.part.OpenFile.{OpenFile}
 use Rattle.fish_feed.specs.declared.part.Part.{Part}
 use Rattle.fish_lanes.specs.declared.work.Work.{Work}
 use Rattle.fish_lanes.specs.declared.work.Work.TheVariants as work
-use Rattle.fish_outside.proofs.ToldLemmas.{Took_trans}
+use Rattle.fish_outside.proofs.ContentLemmas.{Took_trans}
 use Rattle.fish_outside.specs.Causes.{Rose}
-use Rattle.fish_outside.specs.Told.{IsAtEnd, Took}
+use Rattle.fish_outside.specs.Content.{IsAtEnd, Took}
 use Rattle.fish_value.specs.declared.field.Form.{Form}
 
 -- as many as there are of the front

@@ -10,7 +10,7 @@ use Rattle.fish_lanes.specs.declared.work.Work.TheVariants as work
 use Rattle.fish_lines.specs.declared.resuming.Begin.{Begin}
 use Rattle.fish_lines.specs.declared.resuming.Begin.TheVariants.{After}
 use Rattle.fish_outside.specs.Causes.{Rose}
-use Rattle.fish_outside.specs.Told.{Took}
+use Rattle.fish_outside.specs.Content.{Took}
 use Rattle.fish_value.specs.Limits.{longest_file}
 use Rattle.fish_value.specs.declared.field.Form.{Form}
 use Rattle.fish_value.specs.declared.field.Form.TheVariants.{Json}

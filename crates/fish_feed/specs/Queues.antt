@@ -15,7 +15,7 @@ use Rattle.fish_lanes.specs.Running.{IsShared}
 use Rattle.fish_lanes.specs.declared.lane.Lane.{Lane}
 use Rattle.fish_lanes.specs.declared.work.Work.{Work}
 use Rattle.fish_lines.specs.declared.resuming.Begin.TheVariants.{Start}
-use Rattle.fish_outside.specs.Told.{Files}
+use Rattle.fish_outside.specs.Content.{Files}
 use Rattle.fish_script.specs.Runnable.{AreRunnable}
 use Rattle.fish_script.specs.Script.{AreFree}
 use Rattle.fish_script.specs.declared.script.Statement.{Statement}

@@ -1,7 +1,7 @@
 -- What a read of a file up to so many bytes gives.
 use Rattle.std.specs.Prelude.{◌≡◌, ℕ, ◌≤◌, List, length, take, Option, Some, IfSome, Result, IsErrOf}
 use Rattle.fish_outside.specs.Causes.{Rose}
-use Rattle.fish_outside.specs.Told.{Files, Took}
+use Rattle.fish_outside.specs.Content.{Files, Took}
 use Rattle.fish_outside.specs.declared.fault.FeedRefusal.{FeedRefusal}
 use Rattle.fish_outside.specs.declared.fault.FeedRefusal.TheVariants.{Failed}
 

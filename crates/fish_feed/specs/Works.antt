@@ -6,7 +6,7 @@ use Rattle.fish_lang.specs.declared.definition.Def.{Def}
 use Rattle.fish_lanes.specs.declared.work.Work.{Work}
 use Rattle.fish_lanes.specs.declared.work.Work.TheVariants as work
 use Rattle.fish_lines.specs.declared.resuming.Begin.TheVariants.{After, Start}
-use Rattle.fish_outside.specs.Told.{Files}
+use Rattle.fish_outside.specs.Content.{Files}
 use Rattle.fish_scan.specs.declared.ask.Ask.{Ask}
 use Rattle.fish_scan.specs.declared.ask.How.{How}
 use Rattle.fish_scan.specs.declared.ask.How.TheVariants as how
@@ -19,7 +19,7 @@ use Rattle.fish_value.specs.declared.value.Value.{Value}
 
 -- ---- lists side by side
 
--- the two lists are as long, and R holds of each two at one place
+-- the two lists are as long, and R holds of each two at one position
 abbrev pub Pairs : {A B : Type 0} → (A → B → Type 0) → List A → List B → Type 0
 Pairs R [] [] = Unit {0}
 Pairs R [] (y ∷ ys) = ⊥

@@ -5,7 +5,7 @@ ghost use Rattle.fish_feed.specs.Queues.{AllFree, AllRunnable, AreFit, HasNoFile
 ghost use Rattle.fish_feed.specs.Reading.{HasReadCause};
 ghost use Rattle.fish_feed.specs.Works.{IsWorkOf, Pairs, ask_of, how_of};
 ghost use Rattle.fish_lang.specs.Definition.{definition_of};
-ghost use Rattle.fish_outside.specs.Told.{StillTold};
+ghost use Rattle.fish_outside.specs.Content.{SameFiles};
 ghost use Rattle.fish_registry.specs.Refusing.{IsSaid};
 ghost use Rattle.fish_script.specs.Runnable.{AreRunnable, IsRunnable};
 ghost use Rattle.fish_script.specs.Script.{AreFree, is_control};
@@ -35,7 +35,7 @@ where
     ensures queues { IfOk result (λ queues. Pairs (λ ss q. IsQueue (H.files host.new) H.Feed.left ss [] q) texts.now
         queues.items) }
     ensures fit { IfOk result (λ queues. AreFit H.Feed.faults true queues.items) }
-    ensures told { StillTold (H.files host.old) (H.files host.new) }
+    ensures content { SameFiles (H.files host.old) (H.files host.new) }
     ensures cause { HasReadCause (H.faults host.old) (H.faults host.new) result }
 {
     let mut queues = Vec::new(alloc);
@@ -70,7 +70,7 @@ where
     ensures queue { IfOk result (IsQueue (H.files host.new) H.Feed.left statements.now []) }
     ensures fit { IfOk result (λ q. (first : Bool) → (first ≡ false → AreFree statements.now)
         → IsFit H.Feed.faults first q) }
-    ensures told { StillTold (H.files host.old) (H.files host.new) }
+    ensures content { SameFiles (H.files host.old) (H.files host.new) }
     ensures cause { HasReadCause (H.faults host.old) (H.faults host.new) result }
 {
     let mut todos = VecDeque::new(alloc);
@@ -108,7 +108,7 @@ where
     ensures due { IfOk result (IsDue (H.files host.new) H.Feed.left statement.now) }
     ensures fit { IfOk result (λ t. (first : Bool) → (first ≡ false → is_control statement.now ≡ false)
         → IsFitTodo H.Feed.faults first t) }
-    ensures told { StillTold (H.files host.old) (H.files host.new) }
+    ensures content { SameFiles (H.files host.old) (H.files host.new) }
     ensures cause { HasReadCause (H.faults host.old) (H.faults host.new) result }
 {
     match statement {

@@ -3,7 +3,7 @@
 ghost use Rattle.std.specs.Prelude.{◌≡◌, ◌+◌, ◌<◌, ◌≤◌, ◌^◌, ◌++◌, [], length, vec_len};
 ghost use Rattle.std.specs.Prelude.{IfOk, IfSome, IsErrOf};
 ghost use Rattle.fish_outside.specs.declared.fault.FeedRefusal.TheVariants as refusal;
-ghost use Rattle.fish_outside.specs.Told.{IsAtEnd, StillTold, Took};
+ghost use Rattle.fish_outside.specs.Content.{IsAtEnd, SameFiles, Took};
 ghost use Rattle.fish_feed.specs.Reading.{HasReadCause, ReadsFile, ReadsUpTo, TookAtMost};
 
 use fish_outside::{FeedRefusal, Host, Source};
@@ -23,7 +23,7 @@ pub fn read_file<H: Host>(
     requires { most < 2 ^ 63 }
     ensures file { IfOk result (λ bytes. IfSome (H.files host.new) (λ files. ReadsFile most name.now files bytes)) }
     ensures within { IfOk result (λ bytes. length bytes ≤ most) }
-    ensures told { StillTold (H.files host.old) (H.files host.new) }
+    ensures content { SameFiles (H.files host.old) (H.files host.new) }
 
     ensures cause { HasReadCause (H.faults host.old) (H.faults host.new) result }
 {

@@ -6,7 +6,7 @@ ghost use Rattle.fish_feed.specs.Parts.{EndsLine, HasNoEnd, longest_read};
 ghost use Rattle.fish_feed.specs.OpenFiles.{CanRead, GivesPart, HasRead, IsCutOff, IsFull, IsStuck, IsUnread};
 ghost use Rattle.fish_lanes.specs.declared.work.Work.TheVariants as work;
 ghost use Rattle.fish_outside.specs.Causes.{Rose, counted_on};
-ghost use Rattle.fish_outside.specs.Told.{IsAtEnd, StillTold};
+ghost use Rattle.fish_outside.specs.Content.{IsAtEnd, SameFiles};
 ghost use Rattle.fish_outside.specs.declared.fault.FeedRefusal.TheVariants as refusal;
 
 use crate::file::{CHUNK, read_more, zeros};
@@ -88,7 +88,7 @@ pub fn read_part<F: Source>(
     requires most { most ≤ longest_read }
     ensures part { IfOk result (λ p. GivesPart F.left file.old p file.new) }
     ensures can { OnOk result (CanRead F.faults file.new) }
-    ensures told { IsSome (F.left file.new.feed) → IsSome (F.left file.old.feed) }
+    ensures content { IsSome (F.left file.new.feed) → IsSome (F.left file.old.feed) }
     ensures cause { IsErrOf result refusal.Failed → Rose 0 (F.faults file.new.feed) }
 {
     if let Some(part) = read_until(alloc, file, most)? {
@@ -117,7 +117,7 @@ fn read_until<F: Source>(
     ensures full { IfOk result (λ found. found ≡ None → IsFull wanted file.new
         × IsStuck file.new.form file.new.room file.new.rest) }
     ensures can { OnOk result (CanRead F.faults file.new) }
-    ensures told { IsSome (F.left file.new.feed) → IsSome (F.left file.old.feed) }
+    ensures content { IsSome (F.left file.new.feed) → IsSome (F.left file.old.feed) }
     ensures cause { IsErrOf result refusal.Failed → Rose 0 (F.faults file.new.feed) }
 {
     if read_ahead(alloc, file, wanted)? {
@@ -144,7 +144,7 @@ fn read_ahead<F: Source>(
         × (length file.new.rest < wanted)) }
     ensures full { IfOk result (λ end. end ≡ false → IsFull wanted file.new) }
     ensures can { OnOk result (CanRead F.faults file.new) }
-    ensures told { IsSome (F.left file.new.feed) → IsSome (F.left file.old.feed) }
+    ensures content { IsSome (F.left file.new.feed) → IsSome (F.left file.old.feed) }
     ensures cause { IsErrOf result refusal.Failed → Rose 0 (F.faults file.new.feed) }
 {
     if file.failed {
@@ -232,7 +232,7 @@ fn rest_of<F: Source>(alloc: Global, file: &mut OpenFile<F>) -> Result<Work, All
 pub fn close_file<H: Host>(host: &mut H, file: OpenFile<H::Feed>)
 where
     H::Feed: Drop,
-    ensures told { StillTold (H.files host.old) (H.files host.new) }
+    ensures content { SameFiles (H.files host.old) (H.files host.new) }
     ensures feed { IsSome (H.files host.new) → IsSome (H.Feed.left file.feed) }
     ensures faults { H.faults host.new ≡ counted_on (H.faults host.old) (H.Feed.faults file.feed) }
 {

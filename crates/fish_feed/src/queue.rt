@@ -11,7 +11,7 @@ ghost use Rattle.fish_feed.specs.Queues.{both, left_of, left_of_all, works_of};
 ghost use Rattle.fish_feed.specs.Reading.{HasReadCause};
 ghost use Rattle.fish_feed.specs.Works.{AreAnew, AreDone, AreFirstOf, IsAnew, Pairs, Triples};
 ghost use Rattle.fish_lanes.specs.declared.work.Work.{Work as Does};
-ghost use Rattle.fish_outside.specs.Told.{Files, StillTold};
+ghost use Rattle.fish_outside.specs.Content.{Files, SameFiles};
 ghost use Rattle.fish_script.specs.declared.script.Statement.{Statement};
 
 use crate::part::{AT_ONCE, OpenFile, Part, close_file, read_part};
@@ -60,7 +60,7 @@ where
     ensures fit { (first : Bool) → AreFit H.Feed.faults first queues.old
         → AreFit H.Feed.faults first queues.new × LanesMayDo first lanes.new }
     ensures less { OnOk result (GoesDown (left_of_all queues.old) (left_of_all queues.new)) }
-    ensures told { StillTold (H.files host.old) (H.files host.new) }
+    ensures content { SameFiles (H.files host.old) (H.files host.new) }
     ensures cause { HasReadCause (H.faults host.old) (H.faults host.new) result }
 {
     let Some((queue, other_queues)) = queues.split_first_mut() else {
@@ -96,7 +96,7 @@ where
     ensures fit { (first : Bool) → IsFit H.Feed.faults first queue.old
         → IsFit H.Feed.faults first queue.new × MayDoAll first lane.new.works }
     ensures less { OnOk result (GoesDown (left_of queue.old) (left_of queue.new)) }
-    ensures told { StillTold (H.files host.old) (H.files host.new) }
+    ensures content { SameFiles (H.files host.old) (H.files host.new) }
     ensures cause { HasReadCause (H.faults host.old) (H.faults host.new) result }
 {
     let mut most = AT_ONCE;
@@ -152,7 +152,7 @@ where
         × (queue.old.current ≡ None → AreAnew (option_to_list w))) }
     ensures some { IfOk result (λ w. IfSome w (λ _. left_of queue.new < left_of queue.old)) }
     ensures none { IfOk result (λ w. w ≡ None → (left_of queue.old ≡ 0) × (left_of queue.new ≡ 0)) }
-    ensures told { StillTold (H.files host.old) (H.files host.new) }
+    ensures content { SameFiles (H.files host.old) (H.files host.new) }
     ensures cause { HasReadCause (H.faults host.old) (H.faults host.new) result }
 {
     if let Some(work) = open_next(queue) {
@@ -211,7 +211,7 @@ where
     ensures work { IfOk result (λ w. ((first : Bool) → MayDo first w)
         × (IfSome queue.old.current (λ o. IsBegun o → ⊥) → IsAnew w)) }
     ensures less { IfOk result (λ _. left_of queue.new < left_of queue.old) }
-    ensures told { StillTold (H.files host.old) (H.files host.new) }
+    ensures content { SameFiles (H.files host.old) (H.files host.new) }
     ensures cause { HasReadCause (H.faults host.old) (H.faults host.new) result }
 {
     let Some(mut file) = queue.current.take() else {
@@ -255,7 +255,7 @@ where
     ensures first { (texts : List (List Statement)) (given : List (List Does))
         → Triples (MayEnd (H.files host.old) H.Feed.left) texts given queues.old
         → Pairs (AreFirstOf (H.files host.new)) texts given }
-    ensures told { StillTold (H.files host.old) (H.files host.new) }
+    ensures content { SameFiles (H.files host.old) (H.files host.new) }
     ensures later { H.faults host.old ≤ H.faults host.new }
 {
     let Some((queue, others)) = queues.split_first_mut() else {
@@ -272,7 +272,7 @@ where
     ensures first { (ss : List Statement) (given : List Does)
         → MayEnd (H.files host.old) H.Feed.left ss given queue.old
         → AreFirstOf (H.files host.new) ss given }
-    ensures told { StillTold (H.files host.old) (H.files host.new) }
+    ensures content { SameFiles (H.files host.old) (H.files host.new) }
     ensures later { H.faults host.old ≤ H.faults host.new }
 {
     match queue.current.take() {

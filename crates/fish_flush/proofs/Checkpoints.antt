@@ -17,7 +17,7 @@ use Rattle.fish_rule.proofs.laws.Clocks.{loaded_within, later_self}
 use Rattle.fish_rule.proofs.laws.Learning.{learns_both, learns_self}
 use Rattle.fish_rule.specs.Clocks.{IsLater}
 use Rattle.fish_rule.specs.LoadSteps.{IsAlone}
-use Rattle.fish_rule.specs.Logs.{AreTold, Extends}
+use Rattle.fish_rule.specs.Logs.{AreKnown, Extends}
 use Rattle.fish_flush.specs.declared.drafting.Draft.{Draft}
 use Rattle.fish_flush.proofs.Committed.{told_later}
 use Rattle.fish_rule.specs.declared.table.Shape.{Shape}
@@ -147,7 +147,7 @@ may_save images v m u end s f d rows c old to settles rises settled counted on h
       rest = h.rest;
       bits = h.bits;
       grown = h.grown;
-      told = subst (λ (k : ℕ). AreTold u k (drop k old)) (sym number)
+      told = subst (λ (k : ℕ). AreKnown u k (drop k old)) (sym number)
           (told_later v u v.about.number (drop v.about.number old) learns h.told);
     }
 

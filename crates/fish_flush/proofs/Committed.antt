@@ -19,16 +19,16 @@ use Rattle.fish_flush.proofs.Growing.{grown_self}
 use Rattle.fish_image.proofs.Spelling.{told_word}
 use Rattle.fish_image.specs.Log.{Agrees, FollowsIn}
 use Rattle.fish_image.specs.Reached.{Reached}
-use Rattle.fish_image.specs.Reading.{IsTold}
+use Rattle.fish_image.specs.Reading.{IsBodyOf}
 use Rattle.fish_image.specs.Slot.{number}
 use Rattle.fish_image.specs.Stands.{IsLog, Stands}
-use Rattle.fish_rule.proofs.laws.Alone.{tells_later}
-use Rattle.fish_rule.specs.Logs.{AreTold, Learns, Tells}
+use Rattle.fish_rule.proofs.laws.Alone.{knows_as_later}
+use Rattle.fish_rule.specs.Logs.{AreKnown, Learns, KnowsAs}
 use Rattle.fish_rule.specs.declared.table.Shape.{Shape}
 use Rattle.fish_rule.specs.declared.view.Key.{Key}
 use Rattle.fish_rule.specs.declared.view.View.{View}
 use Rattle.fish_slots.specs.Commits.{HasCommit, Rests, next_turn, turn_of}
-use Rattle.fish_slots.specs.Places.{lines_at}
+use Rattle.fish_slots.specs.Offsets.{lines_at}
 use Rattle.fish_slots.specs.Slots.{line_count}
 
 -- ---- entries
@@ -57,32 +57,32 @@ committed_length f c body lines log h =
     ap (λ (l : List Entry). length l) (sym h.is.stands.entries) ∙ agrees_entries c _ c.count h.is.stands.end h.is.stands.agrees
 
 -- entries that are told, one behind the other
-pub told_both : (u : View) (base : ℕ) (xs ys : List Entry) → AreTold u base xs → AreTold u (base + length xs) ys → AreTold u base (xs ++ ys)
+pub told_both : (u : View) (base : ℕ) (xs ys : List Entry) → AreKnown u base xs → AreKnown u (base + length xs) ys → AreKnown u base (xs ++ ys)
 told_both u base [] ys first second i e at =
     let same : base + length (let none : List Entry = [] in none) + i ≡ base + i = omega arith in
-    subst (λ (n : ℕ). Tells u n e) same (second i e at)
+    subst (λ (n : ℕ). KnowsAs u n e) same (second i e at)
 told_both u base (x ∷ xs) ys first second zero e at = first zero e at
 told_both u base (x ∷ xs) ys first second (suc i) e at =
     let up : base + 1 + i ≡ base + suc i = omega arith in
     let size : base + length (x ∷ xs) ≡ base + 1 + length xs = omega arith in
-    subst (λ (n : ℕ). Tells u n e) up
+    subst (λ (n : ℕ). KnowsAs u n e) up
     (told_both u (base + 1) xs ys
-    (λ j d there. (let over : base + suc j ≡ base + 1 + j = omega arith in subst (λ (n : ℕ). Tells u n d) over (first (suc j) d there)))
-    (subst (λ (n : ℕ). AreTold u n ys) size second) i e at)
+    (λ j d there. (let over : base + suc j ≡ base + 1 + j = omega arith in subst (λ (n : ℕ). KnowsAs u n d) over (first (suc j) d there)))
+    (subst (λ (n : ℕ). AreKnown u n ys) size second) i e at)
 
 -- entries that a pass knows it knows later too
-pub told_later : (v u : View) (base : ℕ) (xs : List Entry) → Learns v u → AreTold v base xs → AreTold u base xs
-told_later v u base xs learns told i e at = tells_later v u (base + i) e learns (told i e at)
+pub told_later : (v u : View) (base : ℕ) (xs : List Entry) → Learns v u → AreKnown v base xs → AreKnown u base xs
+told_later v u base xs learns told i e at = knows_as_later v u (base + i) e learns (told i e at)
 
 -- ---- bodies
 
 -- the lines and the turn that a body tells
-pub body_lines : (c : Commit) (b : List ℕ) → IsTold c b → line_count b ≡ c.lines
+pub body_lines : (c : Commit) (b : List ℕ) → IsBodyOf c b → line_count b ≡ c.lines
 unfolding line_count number
 body_lines c b h = told_word c b h 5 (omega arith)
 
 -- a body's second word is the turn of its commit
-body_turn : (c : Commit) (b : List ℕ) → IsTold c b → turn_of b ≡ c.turn
+body_turn : (c : Commit) (b : List ℕ) → IsBodyOf c b → turn_of b ≡ c.turn
 unfolding turn_of number
 body_turn c b h = told_word c b h 1 (omega arith)
 
@@ -144,7 +144,7 @@ module _ (images : List ℕ → Type 0) (f : Flusher) (v u : View) (s : Shape) (
       }
 
   -- what the draft adds
-  pub draft_more : (more : List Entry) × AreTold u f.count more × (length more + f.count ≡ to)
+  pub draft_more : (more : List Entry) × AreKnown u f.count more × (length more + f.count ≡ to)
       × IsCommitted (flusher_after f d) (commit_of (flusher_after f d) s rows) d.body (at.lines ++ lines) (old ++ more)
   draft_more = drafts.read c at.body at.lines old at.committed bits grown
 
@@ -190,7 +190,7 @@ module _ (images : List ℕ → Type 0) (f : Flusher) (v u : View) (s : Shape) (
       record {
         more = m.0;
         next = commit_of (flusher_after f d) s rows;
-        told = subst (λ (n : ℕ). AreTold u n m.0) (sym counted) m.1;
+        told = subst (λ (n : ℕ). AreKnown u n m.0) (sym counted) m.1;
         rows_are = refl;
         count = omega arith;
         leaves = leaves_more im since moment x y (EitherCommit at.body at.lines d.body (at.lines ++ lines)) _ either_stands leaves;
@@ -200,7 +200,7 @@ module _ (images : List ℕ → Type 0) (f : Flusher) (v u : View) (s : Shape) (
 
   -- and once it is committed, the file carries it
   pub draft_carries : (images' : List ℕ → Type 0) → Learns v u → v.about.number ≤ f.count → to ≤ u.learned.settled
-      → AreTold v v.about.number (drop v.about.number old)
+      → AreKnown v v.about.number (drop v.about.number old)
       → ((i : List ℕ) → images' i → Rests (1 - f.slot) d.body (at.lines ++ lines) i)
       → ((i : List ℕ) → images' i → lines_at + 32 * d.line ≤ length i)
       → (length (old ++ draft_more.0) ≡ to)
@@ -235,9 +235,9 @@ module _ (images : List ℕ → Type 0) (f : Flusher) (v u : View) (s : Shape) (
           from = omega arith;
           settled = omega arith;
           line = subst (λ (n : ℕ). Rattle.fish_flush.specs.Reading.IsLineAt u n d.line) (sym count) drafts.line;
-          told = subst (AreTold u base) (sym cut)
+          told = subst (AreKnown u base) (sym cut)
               (told_both u base (drop base old) m.0
-              (subst (λ (n : ℕ). AreTold u n (drop n old)) same (told_later v u v.about.number (drop v.about.number old) learns told))
-              (subst (λ (n : ℕ). AreTold u n m.0) place m.1));
+              (subst (λ (n : ℕ). AreKnown u n (drop n old)) same (told_later v u v.about.number (drop v.about.number old) learns told))
+              (subst (λ (n : ℕ). AreKnown u n m.0) place m.1));
         },
       )

@@ -26,7 +26,7 @@ use Rattle.fish_flush.proofs.Words.{length-words_of, words_both}
 use Rattle.fish_image.specs.Commits.{HasBoundaries, IsBoundary, IsWithin}
 use Rattle.fish_image.specs.Log.{Agrees}
 use Rattle.fish_image.specs.Progress.{AreHeads}
-use Rattle.fish_image.specs.Reading.{IsTold}
+use Rattle.fish_image.specs.Reading.{IsBodyOf}
 use Rattle.fish_image.specs.Stands.{words_in}
 use Rattle.fish_flush.proofs.RuleFacts.{few_numbers, starts_above}
 use Rattle.fish_lang.specs.Definition.{Definition}
@@ -68,7 +68,7 @@ commits_read f c d body lines old h bits grown catalog =
 
 -- and what was copied behind it makes it a commit of more
 pub commits_more : (f g : Flusher) (c d : Commit) (body lines body' lines' more_words : List ℕ) (old more : List Entry)
-    → IsCommitted f c body lines old → IsTold d body' → words_in lines' ≡ more_words → f.line ≤ d.lines
+    → IsCommitted f c body lines old → IsBodyOf d body' → words_in lines' ≡ more_words → f.line ≤ d.lines
     → length lines' ≡ 32 * (d.lines - f.line) → d.turn ≡ g.turn → d.count ≡ g.count → d.lines ≡ g.line
     → IsReadTo d (words_in lines ++ more_words) (old ++ more) d.count d.lines g.heads.items g.page g.starts.items
     → IsCommitted g d body' (lines ++ lines') (old ++ more)

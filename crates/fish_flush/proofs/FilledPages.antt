@@ -13,7 +13,7 @@ use Rattle.fish_flush.specs.Rows.{HoldsRows}
 use Rattle.fish_flush.specs.declared.batch.Batch.{Batch}
 use Rattle.fish_image.specs.Stands.{words_in}
 use Rattle.fish_rule.proofs.laws.Alone.{told_more}
-use Rattle.fish_rule.specs.Logs.{AreTold, Extends, Tells}
+use Rattle.fish_rule.specs.Logs.{AreKnown, Extends, KnowsAs}
 use Rattle.fish_rule.specs.declared.view.View.{View}
 
 -- regions from a number on up to another were copied: of their lines the first are these, and the others are pending
@@ -29,11 +29,11 @@ pub record AreFilled (v u : View) (end from to n : ℕ) (a b : Batch) (lines : L
   pub fits : 32 * (b.line - b.written) ≤ buffer_bytes
   pub read : (c : Commit) (w : List ℕ) (old : List Entry) → HoldsRows v c.rows
       → IsReadTo c w old from a.line a.heads.items a.page a.starts.items
-      → (more : List Entry) × AreTold u from more × (length more + from ≡ n)
+      → (more : List Entry) × AreKnown u from more × (length more + from ≡ n)
       × IsReadTo c (w ++ words_in (lines ++ pending b)) (old ++ more) n b.line b.heads.items b.page b.starts.items
 
 -- nothing is told of no entry
-none_told : (v : View) (n : ℕ) → AreTold v n []
+none_told : (v : View) (n : ℕ) → AreKnown v n []
 none_told v n i e at = absurd (some-ne-none e (sym at))
 
 -- no line is pending where all are written
@@ -110,7 +110,7 @@ filled_more v u x end from to n a b d lines first more h one =
           let place : from + length r.0 ≡ n = omega arith in
           let longer = length-append r.0 (next.0 ∷ []) in (
             r.0 ++ next.0 ∷ [],
-            told_more u x from r.0 next.0 more.learns r.1 (subst (λ (z : ℕ). Tells x z next.0) (sym place) next.1),
+            told_more u x from r.0 next.0 more.learns r.1 (subst (λ (z : ℕ). KnowsAs x z next.0) (sym place) next.1),
             omega arith,
             subst (λ (z : List ℕ × List Entry). IsReadTo c z.0 z.1 (n + 1) d.line d.heads.items d.page d.starts.items)
                 (λ i. (both i, append_assoc old r.0 (next.0 ∷ []) i)) next.2,

@@ -22,7 +22,7 @@ use Rattle.fish_registry.specs.declared.outcome.Poll.TheVariants as poll
 use Rattle.fish_registry.specs.declared.registrar.Registrar.{Registrar}
 use Rattle.fish_rule.proofs.laws.Intervals.{longer_at}
 use Rattle.fish_rule.proofs.laws.Versions.{drafted_here}
-use Rattle.fish_rule.specs.Logs.{AreTold}
+use Rattle.fish_rule.specs.Logs.{AreKnown}
 use Rattle.fish_rule.specs.Registry.{main_word, row_at}
 use Rattle.fish_rule.specs.Table.{boundaries_of, first_view}
 use Rattle.fish_rule.specs.declared.view.Key.{Key}
@@ -49,7 +49,7 @@ first_carries images f s k rows rest number line =
       from = omega arith;
       settled = omega arith;
       line = inl (sym count ∙ sym number, sym lines ∙ sym line);
-      told = subst (AreTold (first_view k) k.number) (sym (drop-nil k.number)) (λ i e there. absurd (some-ne-none e (sym there)));
+      told = subst (AreKnown (first_view k) k.number) (sym (drop-nil k.number)) (λ i e there. absurd (some-ne-none e (sym there)));
     }
 
 -- all that is asked of the view stays known
@@ -67,7 +67,7 @@ carries_on images f v u s old new c log h learns grown =
       from = omega arith;
       settled = omega arith;
       line = line_later v u f.count f.line learns h.line;
-      told = subst (λ (n : ℕ). AreTold u n (drop n log)) (sym number)
+      told = subst (λ (n : ℕ). AreKnown u n (drop n log)) (sym number)
           (told_later v u v.about.number (drop v.about.number log) learns h.told);
     }
 

@@ -11,7 +11,7 @@ use Rattle.fish_flush.specs.declared.batch.Batch.{Batch}
 use Rattle.fish_layout.specs.Pages.{page_of}
 use Rattle.fish_rule.specs.Logs.{Extends}
 use Rattle.fish_rule.specs.declared.view.View.{View}
-use Rattle.fish_slots.specs.Places.{lines_at}
+use Rattle.fish_slots.specs.Offsets.{lines_at}
 
 module _ {D : Type 0} (content : D → Option (List ℕ)) (images : D → List ℕ → Type 0) (since : D → ℕ → List ℕ → Type 0)
     (moment faults : D → ℕ) (x : D) (v : View) (end from to : ℕ) (a : Batch) where

@@ -28,7 +28,7 @@ use Rattle.fish_rule.specs.Regions.{code}
 use Rattle.fish_rule.proofs.laws.Alone.{seen_here}
 use Rattle.fish_rule.specs.Facts.{IsFound}
 use Rattle.fish_rule.specs.LoadSteps.{after_look_at, kind_told}
-use Rattle.fish_rule.specs.Logs.{HasWords, Learns, Tells}
+use Rattle.fish_rule.specs.Logs.{HasWords, Learns, KnowsAs}
 use Rattle.fish_rule.specs.Table.{Sees, Stands}
 use Rattle.fish_rule.specs.Views.{Among}
 use Rattle.fish_rule.specs.World.{high, low}
@@ -185,7 +185,7 @@ module _ (v : View) (s : Stands v) (f : Found) (among : Among f v.learned.found)
   -- so one entry more was read
   pub read_more : (c : Commit) (w : List ℕ) (old : List Entry) (n line page : ℕ) (starts : List PageStart) → HoldsRows v c.rows
       → f.number ≡ n → f.line ≡ line → IsReadTo c w old n line heads page starts
-      → (e : Entry) × Tells v n e × IsReadTo c (w ++ out) (old ++ e ∷ []) (n + 1) (line + f.lines) heads' (page_of line + 1)
+      → (e : Entry) × KnowsAs v n e × IsReadTo c (w ++ out) (old ++ e ∷ []) (n + 1) (line + f.lines) heads' (page_of line + 1)
       (starts_after page n line starts)
   read_more c w old n line page starts holds number line_is read =
       let at : Reached = read.end in
@@ -209,7 +209,7 @@ module _ (v : View) (s : Stands v) (f : Found) (among : Among f v.learned.found)
       let grown : Agrees d (w ++ out) (suc n) t.t = (at, before, follows) in
       let up : suc n ≡ n + 1 = omega arith in (
         t.e,
-        subst (λ (z : ℕ). Tells v z t.e) number t.told,
+        subst (λ (z : ℕ). KnowsAs v z t.e) number t.told,
         record {
           end = t.t;
           agrees = subst (λ (z : ℕ). Agrees d (w ++ out) z t.t) up grown;

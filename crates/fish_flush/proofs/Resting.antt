@@ -16,7 +16,7 @@ use Rattle.fish_image.specs.Stands.{Stands}
 use Rattle.fish_rule.specs.declared.view.View.{View}
 use Rattle.fish_slots.proofs.Commits.{rests_commit}
 use Rattle.fish_slots.specs.Commits.{HasCommit, Rests}
-use Rattle.fish_slots.specs.Places.{lines_at}
+use Rattle.fish_slots.specs.Offsets.{lines_at}
 use Rattle.fish_slots.specs.Slots.{GatesAreSynced, line_count}
 use Rattle.fish_flush.proofs.Committed.{body_lines, still_goes}
 

@@ -25,7 +25,7 @@ use Rattle.fish_rule.specs.declared.table.Shape.{Shape}
 use Rattle.fish_rule.specs.declared.view.View.{View}
 use Rattle.fish_slots.proofs.Commits.{rests_commit}
 use Rattle.fish_slots.specs.Commits.{Rests}
-use Rattle.fish_slots.specs.Places.{lines_at}
+use Rattle.fish_slots.specs.Offsets.{lines_at}
 
 module _ {D : Type 0} (content : D → Option (List ℕ)) (images : D → List ℕ → Type 0) (since : D → ℕ → List ℕ → Type 0)
     (moment : D → ℕ) (as_read : (z : D) (c : List ℕ) → content z ≡ Some c → images z c) (x y : D) (m u : View) (end : ℕ) (s : Shape)

@@ -35,11 +35,11 @@ use Rattle.fish_layout.specs.declared.parts.KeyPart.{KeyPart}
 use Rattle.fish_flush.proofs.RuleFacts.{head_plain, kind_inside, void_begins}
 use Rattle.fish_rule.proofs.laws.Regions.{kind-inside, region_found, word_known}
 use Rattle.fish_rule.proofs.laws.Lists.{all_among}
-use Rattle.fish_rule.proofs.laws.Alone.{tells_void}
-use Rattle.fish_rule.proofs.laws.Entries.{body_read, tells_entry}
+use Rattle.fish_rule.proofs.laws.Alone.{knows_void}
+use Rattle.fish_rule.proofs.laws.Entries.{body_read, knows_entry}
 use Rattle.fish_rule.specs.Facts.{IsFound, IsKnown}
 use Rattle.fish_rule.specs.Keys.{IsKeyedOf}
-use Rattle.fish_rule.specs.Logs.{HasWords, Tells}
+use Rattle.fish_rule.specs.Logs.{HasWords, KnowsAs}
 use Rattle.fish_rule.specs.Registry.{AreActiveAt}
 use Rattle.fish_rule.specs.Regions.{Holds, kind_of, kind_within, void_body}
 use Rattle.fish_rule.specs.Rule.{Rule}
@@ -123,7 +123,7 @@ pub record IsNextRegion (c : Commit) (s : Reached) (u : View) (n lines : ℕ) (r
   pub e : Entry
   pub t : Reached
   pub follows : FollowsIn c s lines r t
-  pub told : Tells u n e
+  pub told : KnowsAs u n e
   pub entries : t.entries ≡ s.entries ++ e ∷ []
   pub line : t.line ≡ s.line + lines
   pub heads_are : AreHeads (length heads) t.places heads'
@@ -226,7 +226,7 @@ module _ {v : View} (w : World) (rule : Rule v.about w) (seat : ℕ) (at : get_e
             },
             refl,
           );
-          told = tells_void v f among is_void;
+          told = knows_void v f among is_void;
           entries = refl;
           line = refl;
           heads_are = are;
@@ -299,7 +299,7 @@ module _ {v : View} (w : World) (rule : Rule v.about w) (seat : ℕ) (at : get_e
             },
             refl,
           );
-          told = tells_entry v f words among is_stored has p.lane p.form p.payload
+          told = knows_entry v f words among is_stored has p.lane p.form p.payload
               (λ b hb. ap (λ (z : BodyParts). z.lane) (same ∙ ap unlinked (one_record q b words record_words.1 hb)))
               (λ b hb. ap (λ (z : BodyParts). z.form) (same ∙ ap unlinked (one_record q b words record_words.1 hb)))
               (λ b hb. ap (λ (z : BodyParts). z.payload) (same ∙ ap unlinked (one_record q b words record_words.1 hb)));

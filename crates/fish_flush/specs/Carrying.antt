@@ -11,11 +11,11 @@ use Rattle.fish_flush.specs.Reading.{EndsWithin, IsLineAt}
 use Rattle.fish_flush.specs.Rows.{HaveGrown, HoldsRows}
 use Rattle.fish_flush.specs.declared.drafting.Draft.{Draft}
 use Rattle.fish_flush.specs.declared.flusher.Flusher.{Flusher}
-use Rattle.fish_image.specs.Reading.{IsTold}
+use Rattle.fish_image.specs.Reading.{IsBodyOf}
 use Rattle.fish_image.specs.Stands.{Stands}
 use Rattle.fish_rule.specs.Clocks.{IsLater}
 use Rattle.fish_rule.specs.LoadSteps.{IsAlone}
-use Rattle.fish_rule.specs.Logs.{AreTold, Learns}
+use Rattle.fish_rule.specs.Logs.{AreKnown, Learns}
 use Rattle.fish_rule.specs.Start.{IsShape}
 use Rattle.fish_rule.specs.World.{high, low}
 use Rattle.fish_rule.specs.declared.table.Shape.{Shape}
@@ -34,7 +34,7 @@ pub record Carries (images : List ℕ → Type 0) (f : Flusher) (v : View) (s : 
   pub from : v.about.number ≤ f.count
   pub settled : f.count ≤ v.learned.settled
   pub line : IsLineAt v f.count f.line
-  pub told : AreTold v v.about.number (drop v.about.number log)
+  pub told : AreKnown v v.about.number (drop v.about.number log)
 
 -- ---- drafts
 
@@ -64,7 +64,7 @@ flusher_after f d =
 
 -- the draft has the body of the next commit, up to a number and the line at which it begins, and its batch goes on from the last one
 pub record Drafts (u : View) (end : ℕ) (s : Shape) (f : Flusher) (rows : List CatRow) (to : ℕ) (d : Draft) : Type 0 where
-  pub told : IsTold (commit_of (flusher_after f d) s rows) d.body
+  pub told : IsBodyOf (commit_of (flusher_after f d) s rows) d.body
   pub turn : d.turn ≡ (f.turn + 1) % 3
   pub count : d.count ≡ to
   pub line : IsLineAt u to d.line
@@ -73,7 +73,7 @@ pub record Drafts (u : View) (end : ℕ) (s : Shape) (f : Flusher) (rows : List 
 
 -- the draft with these lines is a commit of all that the last one has, and of the entries after it up to a number
 pub record IsDrafted (u : View) (s : Shape) (f : Flusher) (rows : List CatRow) (to : ℕ) (d : Draft) (lines : List ℕ) : Type 0 where
-  pub told : IsTold (commit_of (flusher_after f d) s rows) d.body
+  pub told : IsBodyOf (commit_of (flusher_after f d) s rows) d.body
   pub turn : d.turn ≡ (f.turn + 1) % 3
   pub count : d.count ≡ to
   pub line : IsLineAt u to d.line
@@ -81,7 +81,7 @@ pub record IsDrafted (u : View) (s : Shape) (f : Flusher) (rows : List CatRow) (
   pub size : length lines ≡ 32 * (d.line - f.line)
   pub read : (c : Commit) (body before : List ℕ) (old : List Entry) → IsCommitted f c body before old
       → c.bucket_bits ≡ s.bucket_bits → HaveGrown c.count c.rows rows
-      → (more : List Entry) × AreTold u f.count more × (length more + f.count ≡ to)
+      → (more : List Entry) × AreKnown u f.count more × (length more + f.count ≡ to)
       × IsCommitted (flusher_after f d) (commit_of (flusher_after f d) s rows) d.body (before ++ lines) (old ++ more)
 
 -- the draft may be committed: it is one of the log up to a number that is settled, after the log that every image stands for
@@ -94,7 +94,7 @@ pub record MaySave (images : List ℕ → Type 0) (v : View) (end : ℕ) (s : Sh
   pub rest : IsAtRest images f c log
   pub bits : c.bucket_bits ≡ s.bucket_bits
   pub grown : HaveGrown c.count c.rows rows
-  pub told : AreTold v v.about.number (drop v.about.number log)
+  pub told : AreKnown v v.about.number (drop v.about.number log)
 
 -- ---- checkpoints
 
@@ -143,7 +143,7 @@ pub record LeavesEither {D : Type 0} (images : D → List ℕ → Type 0) (since
     (old new : D) (u : View) (rows : List CatRow) (c : Commit) (log : List Entry) (lines : List ℕ) : Type 0 where
   pub more : List Entry
   pub next : Commit
-  pub told : AreTold u c.count more
+  pub told : AreKnown u c.count more
   pub rows_are : next.rows ≡ rows
   pub count : next.count ≡ c.count + length more
   pub leaves : LeavesOnly images since moment old new (λ i. Stands c i log ⊎ Stands next i (log ++ more))

@@ -10,7 +10,7 @@ use Rattle.fish_flush.specs.declared.batch.Batch.{Batch}
 use Rattle.fish_flush.specs.declared.flusher.Flusher.{Flusher}
 use Rattle.fish_image.specs.Stands.{words_in}
 use Rattle.fish_layout.specs.Pages.{page_of}
-use Rattle.fish_rule.specs.Logs.{AreTold, HasWords, Tells}
+use Rattle.fish_rule.specs.Logs.{AreKnown, HasWords, KnowsAs}
 use Rattle.fish_rule.specs.Views.{Among}
 use Rattle.fish_rule.specs.declared.view.Found.{Found}
 use Rattle.fish_rule.specs.declared.view.Kind.TheVariants.{Mark}
@@ -68,7 +68,7 @@ pub record HasAdded (v u : View) (end n : ℕ) (a b : Batch) : Type 0 where
   pub whole : length (pending a) ≡ 32 * (a.line - a.written)
   pub read : (c : Commit) (w : List ℕ) (old : List Entry) → HoldsRows v c.rows
       → IsReadTo c (w ++ words_in (pending a)) old n a.line a.heads.items a.page a.starts.items
-      → (e : Entry) × Tells u n e
+      → (e : Entry) × KnowsAs u n e
       × IsReadTo c (w ++ words_in (pending b)) (old ++ e ∷ []) (n + 1) b.line b.heads.items b.page b.starts.items
 
 -- the batch goes on from a number, nothing is pending, and it has room for all up to another, which begins at its end
@@ -97,5 +97,5 @@ pub record HasCopied (v u : View) (from to : ℕ) (a b : Batch) (lines : List �
   pub heads : length b.heads.items ≡ length a.heads.items
   pub read : (c : Commit) (w : List ℕ) (old : List Entry) → HoldsRows v c.rows
       → IsReadTo c w old from a.line a.heads.items a.page a.starts.items
-      → (more : List Entry) × AreTold u from more × (length more + from ≡ to)
+      → (more : List Entry) × AreKnown u from more × (length more + from ≡ to)
       × IsReadTo c (w ++ words_in lines) (old ++ more) to b.line b.heads.items b.page b.starts.items

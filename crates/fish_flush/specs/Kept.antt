@@ -11,7 +11,7 @@ use Rattle.fish_catalog.specs.PageStarts.{page_after}
 use Rattle.fish_image.specs.Stands.{IsLog}
 use Rattle.fish_rule.specs.declared.table.Shape.{Shape}
 use Rattle.fish_slots.specs.Commits.{Rests}
-use Rattle.fish_slots.specs.Places.{lines_at}
+use Rattle.fish_slots.specs.Offsets.{lines_at}
 
 -- the commit of a store without a record
 abbrev pub first_commit : Shape → Commit

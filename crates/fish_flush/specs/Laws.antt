@@ -16,7 +16,7 @@ use Rattle.fish_image.specs.Reached.{Reached}
 use Rattle.fish_lang.specs.declared.definition.Def.{Def}
 use Rattle.fish_registry.specs.Changing.{Changes}
 use Rattle.fish_registry.specs.Knowing.{Knows}
-use Rattle.fish_registry.specs.Refusing.{HasBegun, PollTells}
+use Rattle.fish_registry.specs.Refusing.{HasBegun, PollSays}
 use Rattle.fish_registry.specs.declared.outcome.Poll.{Poll}
 use Rattle.fish_registry.specs.declared.registrar.Registrar.{Registrar}
 use Rattle.fish_rule.specs.Logs.{Learns}
@@ -62,7 +62,7 @@ GrownBegins = (n : ℕ) (old : List CatRow) (v u : View) (r s : Registrar) (name
 -- so does a look at the lanes, by a pass that has counted those entries
 abbrev pub GrownPolls : Type 0
 GrownPolls = (n : ℕ) (old : List CatRow) (v u : View) (r s : Registrar) (answer : Poll)
-    → HaveGrown n old r.catalog → n ≤ v.learned.count → Changes v u → PollTells v r u s answer → HaveGrown n old s.catalog
+    → HaveGrown n old r.catalog → n ≤ v.learned.count → Changes v u → PollSays v r u s answer → HaveGrown n old s.catalog
 
 -- so does an end, wherever it is
 abbrev pub GrownEnds : Type 0

@@ -3,7 +3,7 @@ use Rattle.std.specs.Prelude.{◌≡◌, ◌⊎◌, ℕ, ◌+◌, ◌-◌, ◌*�
 use Rattle.fish_disk.specs.Content.{part}
 use Rattle.fish_disk.specs.Crash.{Torn}
 use Rattle.fish_slots.specs.Commits.{HasCommit, Rests, next_turn, turn_of}
-use Rattle.fish_slots.specs.Places.{lines_at}
+use Rattle.fish_slots.specs.Offsets.{lines_at}
 use Rattle.fish_slots.specs.Slots.{IsOpen, body_of, line_count, lines_of}
 
 -- at most so many pages of 32,768 lines do the lines from one up to another touch

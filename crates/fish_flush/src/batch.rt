@@ -9,7 +9,7 @@ ghost use Rattle.fish_catalog.specs.declared.commit.Commit.{Commit};
 ghost use Rattle.fish_catalog.specs.declared.entry.Entry.{Entry};
 ghost use Rattle.fish_image.specs.Stands.{words_in};
 ghost use Rattle.fish_layout.specs.Pages.{page_of};
-ghost use Rattle.fish_rule.specs.Logs.{Extends, Tells};
+ghost use Rattle.fish_rule.specs.Logs.{Extends, KnowsAs};
 ghost use Rattle.fish_rule.specs.Passes.{IsPassOf, view};
 ghost use Rattle.fish_flush.specs.Filling.{Begins, HasAdded, HasRoom};
 ghost use Rattle.fish_flush.specs.Reading.{IsLineAt};

@@ -4,8 +4,8 @@ ghost use Rattle.std.specs.Prelude.{◌≡◌, ◌≤◌, ◌+◌, ◌*◌, [], 
 ghost use Rattle.fish_disk.specs.Crash.{LeavesOnly};
 ghost use Rattle.fish_outside.specs.Causes.{HasCause};
 ghost use Rattle.fish_image.specs.Progress.{AreHeads};
-ghost use Rattle.fish_image.specs.Reading.{IsTold};
-ghost use Rattle.fish_slots.specs.Places.{body_bytes, lines_at};
+ghost use Rattle.fish_image.specs.Reading.{IsBodyOf};
+ghost use Rattle.fish_slots.specs.Offsets.{body_bytes, lines_at};
 ghost use Rattle.fish_slots.specs.Slots.{GatesAreSynced, IsAlone, body_of};
 ghost use Rattle.fish_rule.specs.Start.{IsShape};
 ghost use Rattle.fish_flush.specs.Kept.{IsAtRest, first_commit};
@@ -71,7 +71,7 @@ fn no_heads(alloc: Global, buckets: usize) -> Result<Vec<u64>, AllocError>
 /// The body of the first commit.
 fn first_body(alloc: Global, shape: Shape) -> Result<Bytes, AllocError>
     requires { IsShape shape }
-    ensures { IfOk result (IsTold (first_commit shape)) }
+    ensures { IfOk result (IsBodyOf (first_commit shape)) }
 {
     let commit = Commit {
         format: NEWEST_FORMAT,

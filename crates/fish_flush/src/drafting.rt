@@ -1,7 +1,7 @@
 //! What a commit writes, in memory: its body, and room for its regions.
 
 ghost use Rattle.std.specs.Prelude.{◌≡◌, ◌≤◌, ◌+◌, ◌*◌, ℕ, List, IfOk};
-ghost use Rattle.fish_image.specs.Reading.{IsTold};
+ghost use Rattle.fish_image.specs.Reading.{IsBodyOf};
 ghost use Rattle.fish_rule.specs.Logs.{Extends};
 ghost use Rattle.fish_rule.specs.Passes.{IsPassOf, view};
 ghost use Rattle.fish_flush.specs.Carrying.{Drafts, MayDraft};

@@ -4,7 +4,7 @@ ghost use Rattle.std.specs.Prelude.{◌≡◌, ◌≤◌, ◌+◌, ◌++◌, ℕ
 ghost use Rattle.fish_outside.specs.Causes.{HasCause};
 ghost use Rattle.fish_disk.specs.Crash.{LeavesOnly};
 ghost use Rattle.fish_slots.specs.Commits.{Rests};
-ghost use Rattle.fish_slots.specs.Places.{body_bytes, gate_at};
+ghost use Rattle.fish_slots.specs.Offsets.{body_bytes, gate_at};
 ghost use Rattle.fish_slots.specs.Slots.{GatesAreSynced};
 ghost use Rattle.fish_flush.specs.Going.{ComesFrom};
 ghost use Rattle.fish_flush.specs.Writing.{AreSealed, EitherCommit, GrowsBy};

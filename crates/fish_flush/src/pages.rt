@@ -6,7 +6,7 @@ ghost use Rattle.fish_disk.specs.Content.{HasWritten};
 ghost use Rattle.fish_disk.specs.Crash.{LeavesOnly, TornFrom};
 ghost use Rattle.fish_rule.specs.Logs.{Extends};
 ghost use Rattle.fish_rule.specs.Passes.{IsPassOf, view};
-ghost use Rattle.fish_slots.specs.Places.{lines_at};
+ghost use Rattle.fish_slots.specs.Offsets.{lines_at};
 ghost use Rattle.fish_flush.specs.Filling.{HasCopied, IsReady, pending};
 ghost use Rattle.fish_flush.specs.Reading.{EndsWithin};
 ghost use Rattle.fish_flush.specs.Writing.{HasPut, pages_between};

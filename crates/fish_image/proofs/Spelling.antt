@@ -14,7 +14,7 @@ use Rattle.fish_catalog.proofs.RowReads.{canonical_short}
 use Rattle.fish_catalog.specs.declared.commit.Commit.{Commit}
 use Rattle.fish_catalog.specs.declared.row.CatRow.{CatRow}
 use Rattle.fish_image.specs.Commits.{HasBoundaries, HasTexts, IsBoundary}
-use Rattle.fish_image.specs.Reading.{AreRowsOf, IsRowOf, IsSpellable, IsTold}
+use Rattle.fish_image.specs.Reading.{AreRowsOf, IsRowOf, IsSpellable, IsBodyOf}
 use Rattle.fish_image.specs.Slot.{boundary_word, boundary_words, bytes_behind, head_words, number, padded, row_bytes}
 use Rattle.fish_image.specs.Slot.{slot_bytes, word, zeros}
 
@@ -52,7 +52,7 @@ length-words (n ∷ ns) =
     let rest = length-words ns in
     omega arith
 
--- the word at a place
+-- the word at a position
 pub words_at : (ns : List ℕ) (k : ℕ) (rest : List ℕ) → k < length ns → All (λ n. n < 2 ^ 64) ns →
     number (drop (8 * k) (flat_map word ns ++ rest)) ≡ get_or ns k 0
 words_at [] k rest less small = absurd (omega arith)
@@ -164,7 +164,7 @@ gone o some none = absurd (cc (subst IsSome none some))
 
 -- ---- several rows
 
--- a list in front of a place, what stands there, and the rest
+-- a list in front of a position, what stands there, and the rest
 pub parted : {A : Type 0} (xs : List A) (n : ℕ) → n < length xs →
     (x : A) × (slice_get xs n ≡ Some x) × (drop n xs ≡ x ∷ drop (n + 1) xs) × (take (n + 1) xs ≡ take n xs ++ x ∷ [])
 parted [] n less = absurd (omega arith)
@@ -208,7 +208,7 @@ next_row {rows} {more} n left h less is =
 
 -- ---- a slot that tells a commit
 
-module _ (c : Commit) (b : List ℕ) (h : IsTold c b) where
+module _ (c : Commit) (b : List ℕ) (h : IsBodyOf c b) where
   -- the bytes in two parts
   told_parts : b ≡ flat_map word (head_words c) ++ (flat_map row_bytes c.rows ++ zeros (bytes_behind (length c.rows)))
   told_parts = h.bytes ∙ slot_parts c

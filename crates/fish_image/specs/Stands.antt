@@ -3,7 +3,7 @@ use Rattle.std.specs.Prelude.{ℕ, zero, suc, ◌/◌, List, [], ◌∷◌, drop
 use Rattle.fish_catalog.specs.declared.commit.Commit.{Commit}
 use Rattle.fish_catalog.specs.declared.entry.Entry.{Entry}
 use Rattle.fish_image.specs.Log.{StandsFor}
-use Rattle.fish_image.specs.Reading.{IsTold}
+use Rattle.fish_image.specs.Reading.{IsBodyOf}
 use Rattle.fish_image.specs.Slot.{number}
 use Rattle.fish_slots.specs.Commits.{HasCommit}
 
@@ -18,7 +18,7 @@ words_in bytes = words_of (length bytes / 8) bytes
 
 -- a body and lines tell this commit and this log
 pub record IsLog (c : Commit) (body lines : List ℕ) (log : List Entry) : Type 0 where
-  pub told : IsTold c body
+  pub told : IsBodyOf c body
   pub stands : StandsFor c (words_in lines) log
 
 -- the image stands for a log: the slot that counts tells the commit, and the lines that it counts spell the log

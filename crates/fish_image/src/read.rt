@@ -8,7 +8,7 @@ ghost use Rattle.fish_catalog.specs.declared.commit.Commit.{Commit};
 ghost use Rattle.fish_catalog.specs.declared.row.CatRow.{CatRow};
 ghost use Rattle.fish_image.specs.Commits.{IsBoundary};
 ghost use Rattle.fish_image.specs.Slot.{boundary_word, number};
-ghost use Rattle.fish_image.specs.Reading.{AreRowsOf, IsRowOf, IsTold};
+ghost use Rattle.fish_image.specs.Reading.{AreRowsOf, IsRowOf, IsBodyOf};
 
 use crate::slot::{DIGIT, ROW_BYTES, SLOT_BYTES, has_format, is_within, slot_body};
 use byteorder::{ByteOrder, LittleEndian};
@@ -18,8 +18,8 @@ use std::alloc::{AllocError, Global};
 
 /// The commit that a slot's body tells, or none where its bytes tell none.
 pub fn read_slot(alloc: Global, b: &[u8]) -> Result<Option<Commit>, AllocError>
-    ensures found { IfOk result (λ o. IfSome o (λ c. IsTold c b.now)) }
-    ensures only { IfOk result (λ o. (c : Commit) → IsTold c b.now → o ≡ Some c) }
+    ensures found { IfOk result (λ o. IfSome o (λ c. IsBodyOf c b.now)) }
+    ensures only { IfOk result (λ o. (c : Commit) → IsBodyOf c b.now → o ≡ Some c) }
 {
     let Some(c) = read_commit(alloc, b)? else {
         return Ok(None);
@@ -39,7 +39,7 @@ pub fn read_slot(alloc: Global, b: &[u8]) -> Result<Option<Commit>, AllocError>
 
 /// Whether bytes are the body of a slot that tells this commit.
 fn is_told(alloc: Global, c: &Commit, b: &[u8]) -> Result<bool, AllocError>
-    ensures { IfOk result (λ told. IsTrue told ↔ IsTold c.now b.now) }
+    ensures { IfOk result (λ told. IsTrue told ↔ IsBodyOf c.now b.now) }
 {
     if !is_within(c) || !has_format(c) {
         return Ok(false);
@@ -50,7 +50,7 @@ fn is_told(alloc: Global, c: &Commit, b: &[u8]) -> Result<bool, AllocError>
 
 /// The one candidate for the commit that a slot's body tells.
 fn read_commit(alloc: Global, b: &[u8]) -> Result<Option<Commit>, AllocError>
-    ensures { IfOk result (λ o. (c : Commit) → IsTold c b.now → o ≡ Some c) }
+    ensures { IfOk result (λ o. (c : Commit) → IsBodyOf c b.now → o ≡ Some c) }
 {
     if b.len() != SLOT_BYTES {
         return Ok(None);
@@ -71,7 +71,7 @@ fn read_commit(alloc: Global, b: &[u8]) -> Result<Option<Commit>, AllocError>
 /// The commit with these rows, whose numbers are the words of a slot's head.
 fn commit_of(b: &[u8], rows: Catalog) -> Commit
     requires { 64 ≤ length b.now }
-    ensures { (c : Commit) → IsTold c b.now → rows ≡ c.rows → result ≡ c }
+    ensures { (c : Commit) → IsBodyOf c b.now → rows ≡ c.rows → result ≡ c }
 {
     Commit {
         format: (word_at(b, 0) / DIGIT % 16) as u8,
@@ -84,13 +84,13 @@ fn commit_of(b: &[u8], rows: Catalog) -> Commit
     }
 }
 
-/// The word at a place of bytes.
+/// The word at a position of bytes.
 #[tactic(auto, unfolding(crate::specs::Slot::number))]
-fn word_at(b: &[u8], place: usize) -> u64
-    requires { 8 * place + 8 ≤ length b.now }
-    ensures { result ≡ number (drop (8 * place) b.now) }
+fn word_at(b: &[u8], position: usize) -> u64
+    requires { 8 * position + 8 ≤ length b.now }
+    ensures { result ≡ number (drop (8 * position) b.now) }
 {
-    LittleEndian::read_u64(&b[8 * place..])
+    LittleEndian::read_u64(&b[8 * position..])
 }
 
 /// So many rows from the front of bytes, or none where the bytes can be none.

@@ -5,7 +5,7 @@ ghost use Rattle.std.specs.List.{flat_map};
 ghost use Rattle.fish_catalog.specs.Limits.{newest_format};
 ghost use Rattle.fish_catalog.specs.Rows.{IsCatalog};
 ghost use Rattle.fish_image.specs.Commits.{HasBoundaries, HasTexts, IsBoundary, IsCommit, IsOfFormat, IsWithin};
-ghost use Rattle.fish_image.specs.Reading.{IsTold};
+ghost use Rattle.fish_image.specs.Reading.{IsBodyOf};
 ghost use Rattle.fish_image.specs.Slot.{boundary_word, head_words, padded, row_bytes, slot_bytes};
 ghost use Rattle.fish_image.specs.Slot.{word, zeros};
 
@@ -38,7 +38,7 @@ const TEXT_BYTES: usize = 256;
 pub fn slot_body(alloc: Global, c: &Commit) -> Result<Bytes, AllocError>
     requires within { IsWithin c.now }
     requires format { IsOfFormat c.now }
-    ensures told { IfOk result (IsTold c.now) }
+    ensures body { IfOk result (IsBodyOf c.now) }
     ensures size { IfOk result (λ body. length body ≡ 86016) }
 {
     let body = spell(alloc, c)?;

@@ -20,7 +20,7 @@ use Rattle.fish_rule.proofs.laws.Regions.{one_flight}
 use Rattle.fish_rule.proofs.laws.Regions.{published}
 use Rattle.fish_rule.specs.RegistrySteps.{after_retire}
 use Rattle.fish_rule.specs.Facts.{IsRecorded}
-use Rattle.fish_rule.specs.Logs.{Tells}
+use Rattle.fish_rule.specs.Logs.{KnowsAs}
 use Rattle.fish_rule.specs.SpaceSteps.{after_publish_region, flight_kind, own_after, records_after, shut_after}
 use Rattle.fish_rule.specs.Views.{Among}
 use Rattle.fish_rule.specs.World.{body}
@@ -32,10 +32,10 @@ use Rattle.fish_rule.specs.declared.view.View.{View}
 use Rattle.fish_value.specs.declared.field.Form.{Form}
 
 -- an entry with the lane, the form and the payload of the words stands at the number, now and later
-pub tells_recorded : (v : View) (n : ℕ) (stored words : List ℕ) (p : BodyParts)
+pub knows_recorded : (v : View) (n : ℕ) (stored words : List ℕ) (p : BodyParts)
     → Among (record { number = n; words = stored }) v.learned.records → IsBody p words
-    → body_of stored ≡ body_of words → p.number ≡ n → Tells v n (entry.Stored p.lane p.form p.payload)
-tells_recorded v n stored words p among made same number u learns w r j at =
+    → body_of stored ≡ body_of words → p.number ≡ n → KnowsAs v n (entry.Stored p.lane p.form p.payload)
+knows_recorded v n stored words p among made same number u learns w r j at =
     let is = all_among (IsRecorded u.about w.count w.dir w.log r.start) (record { number = n; words = stored })
     u.learned.records (r.facts j u at).records (learns.records _ among) in
     let finished = r.space.finished n is.above is.below (published (w.dir n) Stored is.stored) in (
@@ -81,9 +81,9 @@ has_ingested v u w form payload pending s is = subst (HasIngested v form payload
       shut = ap (λ (z : Kind). shut_after z f u.about.end u.shut) kind ∙ s.shut;
       own = ap (λ (z : Kind). own_after z u.lane f.number u.own) kind
           ∙ (λ j. s.own j ++ record { lane = on_lane s.on j; number = number j } ∷ []);
-      entry = subst (λ (z : ℕ × Form × List ℕ). Tells (after_retire p) (number_of pending) (entry.Stored z.0 z.1 z.2))
+      entry = subst (λ (z : ℕ × Form × List ℕ). KnowsAs (after_retire p) (number_of pending) (entry.Stored z.0 z.1 z.2))
           (λ j. (lane j, form_ j, s.are.parts.payload_is j))
-          (tells_recorded (after_retire p) (number_of pending) s.words.flight.words s.words.words
+          (knows_recorded (after_retire p) (number_of pending) s.words.flight.words s.words.words
           (record s.parts { number = number_of pending }) newest s.words.made s.words.same refl);
       fresh = s.fresh;
       counted = s.counted;

@@ -12,7 +12,7 @@ use Rattle.fish_ingest.specs.declared.preparation.Prepared.{Prepared}
 use Rattle.fish_layout.specs.declared.parts.BodyParts.{BodyParts}
 use Rattle.fish_psf.specs.Records.{is_record}
 use Rattle.fish_rule.specs.Clocks.{HasLoaded}
-use Rattle.fish_rule.specs.Logs.{Tells}
+use Rattle.fish_rule.specs.Logs.{KnowsAs}
 use Rattle.fish_rule.specs.Passes.{IsPassOf, view}
 use Rattle.fish_rule.specs.SpaceSteps.{CanPublishRegion, flight_kind}
 use Rattle.fish_rule.specs.Views.{Among}
@@ -85,7 +85,7 @@ pub record HasIngested (v : View) (form : Form) (payload : List ℕ) (number : �
   pub idle : u.flight ≡ None
   pub shut : u.shut ≡ v.shut
   pub own : u.own ≡ v.own ++ record { lane = v.lane; number = number } ∷ []
-  pub entry : Tells u number (entry.Stored v.lane form payload)
+  pub entry : KnowsAs u number (entry.Stored v.lane form payload)
   pub fresh : v.learned.count ≤ number
   pub counted : number < u.learned.count
   pub found : (x : Found) → Among x u.learned.found

@@ -85,8 +85,8 @@ pub fn write_record(log: &Log, pass: &mut Pass, mut prepared: Prepared)
     };
     set_number(&mut prepared.body, region.number as u32);
     fill(log, pass, prepared.body.as_slice());
-    for (place, key) in prepared.keys.as_slice().iter().enumerate() {
+    for (position, key) in prepared.keys.as_slice().iter().enumerate() {
         let bucket = bucket_of(key_hash(key.id, &key.value), buckets(log));
-        link(log, pass, place as u16, bucket as u32);
+        link(log, pass, position as u16, bucket as u32);
     }
 }

@@ -2,10 +2,10 @@
 use Rattle.std.proofs.Common.{◌≡◌, ◌≢◌, ℕ, ◌+◌, ◌≤◌, List, [], ◌∷◌, ◌++◌, take, refl, sym, ap, ◌∙◌, subst, inl, inr, ◌⊎◌}
 use Rattle.std.proofs.Common.{⊎_elim, arith, length-append, append-nil, true, false, Bool}
 use Rattle.fish_lanes.proofs.Claims.{shuts_answers, shuts_more}
-use Rattle.fish_lanes.proofs.Done.{HasTold, item_told}
+use Rattle.fish_lanes.proofs.Done.{HasAnswered, item_told}
 use Rattle.fish_lanes.proofs.Gaining.{full_later, gains_both}
 use Rattle.fish_lanes.proofs.Lists.{all_more, filter_first, filter_last, filter_other, filter_skip}
-use Rattle.fish_lanes.proofs.Items.{TellsAll, behind_is, made_append, shown_in, tells_cut, tells_ended, tells_more}
+use Rattle.fish_lanes.proofs.Items.{SaysAll, behind_is, made_append, shown_in, says_cut, says_ended, says_more}
 use Rattle.fish_lanes.proofs.Publishing.{published_later}
 use Rattle.fish_lanes.proofs.Showing.{full_fit, item_settles, item_shown}
 use Rattle.fish_lanes.specs.within.Doing.{IsFit}
@@ -14,10 +14,10 @@ use Rattle.fish_lanes.specs.within.Gains.{Gains}
 use Rattle.fish_lanes.specs.Records.{LaneRow, contents}
 use Rattle.fish_lanes.specs.within.Running.{HasRun, IsFullItem}
 use Rattle.fish_lanes.specs.Seen.{Shown, settled, shown_by}
-use Rattle.fish_lanes.specs.within.Sizes.{TellsShut}
+use Rattle.fish_lanes.specs.within.Sizes.{SaysShut}
 use Rattle.fish_lanes.specs.Spans.{Span, answers, is_answer, made_by}
 use Rattle.fish_lanes.specs.within.Spans.{IsWithinSpan}
-use Rattle.fish_lanes.specs.Telling.{TellsItem, content_of, count_of}
+use Rattle.fish_lanes.specs.Telling.{SaysItem, content_of, count_of}
 use Rattle.fish_lanes.specs.declared.work.LaneFault.{LaneFault}
 use Rattle.fish_lanes.specs.declared.work.LaneFault.TheVariants as fault
 use Rattle.fish_lanes.specs.declared.work.Work.{Work}
@@ -73,8 +73,8 @@ within_before v u t s learns within =
     }
 
 -- a step that gains nothing and answers nothing
-pub told_on : {Past : Whole → Type 0} (v u t : View) (works : List Work) (items : List Item) → HasTold Past v u works items
-    → Gains u t [] → t.shut ≡ u.shut → HasTold Past v t works items
+pub told_on : {Past : Whole → Type 0} (v u t : View) (works : List Work) (items : List Item) → HasAnswered Past v u works items
+    → Gains u t [] → t.shut ≡ u.shut → HasAnswered Past v t works items
 told_on v u t works items h g same =
     let learns = g.on.learns in
     let version = learns.version in
@@ -83,7 +83,7 @@ told_on v u t works items h g same =
       rows = h.rows ++ [];
       gains = gains_both v u t h.rows [] h.gains g;
       tells = λ past behind s within full w m far.
-          subst (λ (r : List LaneRow). TellsAll w s [] [] r works items) (sym (append-nil h.rows))
+          subst (λ (r : List LaneRow). SaysAll w s [] [] r works items) (sym (append-nil h.rows))
           (up_to_later past u t s.to _ learns (h.tells past behind s (within_before v u t s learns within) full) w m far);
       shown = λ n x m i low. published_later u t n learns
           (h.shown n x m i (let same : t.about.number ≡ u.about.number = ap (λ (z : Key). z.number) learns.about in omega arith));
@@ -96,9 +96,9 @@ told_on v u t works items h g same =
 
 -- one statement more
 pub told_more : {Past : Whole → Type 0} (v u t : View) (works : List Work) (items : List Item) (w : Work) (x : Item) (rows : List LaneRow)
-    → HasTold Past v u works items → Gains u t rows → contents rows ≡ take (count_of x) (content_of w)
-    → IsFit Past u t w x → TellsShut u t (x ∷ []) → u.learned.version + made_by x ≤ t.learned.version
-    → HasTold Past v t (works ++ w ∷ []) (items ++ x ∷ [])
+    → HasAnswered Past v u works items → Gains u t rows → contents rows ≡ take (count_of x) (content_of w)
+    → IsFit Past u t w x → SaysShut u t (x ∷ []) → u.learned.version + made_by x ≤ t.learned.version
+    → HasAnswered Past v t (works ++ w ∷ []) (items ++ x ∷ [])
 told_more {Past} v u t works items w x rows h g first fit shuts version =
     let learns = g.on.learns in
     let settled_more = learns.settled in
@@ -109,9 +109,9 @@ told_more {Past} v u t works items w x rows h g first fit shuts version =
       rows = h.rows ++ rows;
       gains = gains_both v u t h.rows rows h.gains g;
       tells = λ past behind s within full z m far.
-          tells_more z s [] [] h.rows rows works items w x
+          says_more z s [] [] h.rows rows works items w x
           (up_to_later past u t s.to _ learns (h.tells past behind s (within_before v u t s learns within) full) z m far) first
-          (subst (λ (k : Span). TellsItem z k h.rows (shown_in items) w x) (sym (behind_is items s))
+          (subst (λ (k : Span). SaysItem z k h.rows (shown_in items) w x) (sym (behind_is items s))
           (item_told Past v u t works items s h learns within full past behind w x fit z m far));
       shown = λ n s m i low. ⊎_elim
           (λ (k : Among s (shown_in items)). published_later u t n learns (h.shown n s k i (omega arith)))
@@ -156,12 +156,12 @@ fulls_all u (x ∷ items) h = by (is_answer x) refl h (fulls_all u items)
 
 -- all statements are done
 pub run_ended : {Past : Whole → Type 0} (v u : View) (works : List Work) (items : List Item)
-    → HasTold Past v u works (answers items) → HasRun Past v u works items fault.None
+    → HasAnswered Past v u works (answers items) → HasRun Past v u works items fault.None
 run_ended v u works items h = record {
   rows = h.rows;
   gains = h.gains;
   tells = λ past behind s within full w m far.
-      tells_ended w s [] [] h.rows works (answers items) (h.tells past behind s within full w m far);
+      says_ended w s [] [] h.rows works (answers items) (h.tells past behind s within full w m far);
   full = fulls_all u items h.full;
   ended = record { whole = λ _. h.size; cut = λ bad. absurd (bad refl) };
   shuts = λ _. shuts_answers v u items h.shuts;
@@ -170,7 +170,7 @@ run_ended v u works items h = record {
 -- or those up to one of which a part was done
 pub run_cut : {Past : Whole → Type 0} (v u t : View) (works : List Work) (items : List Item) (w : Work) (later : List Work)
     (rows : List LaneRow)
-    (count : ℕ) (why : LaneFault) → why ≢ fault.None → HasTold Past v u works (answers items) → Gains u t rows
+    (count : ℕ) (why : LaneFault) → why ≢ fault.None → HasAnswered Past v u works (answers items) → Gains u t rows
     → contents rows ≡ take count (content_of w) → HasRun Past v t (works ++ w ∷ later) items why
 run_cut v u t works items w later rows count why named h g first =
     let learns = g.on.learns in
@@ -178,7 +178,7 @@ run_cut v u t works items w later rows count why named h g first =
       rows = h.rows ++ rows;
       gains = gains_both v u t h.rows rows h.gains g;
       tells = λ past behind s within full z m far.
-          tells_cut z s [] [] h.rows rows works (answers items) w later count
+          says_cut z s [] [] h.rows rows works (answers items) w later count
           (up_to_later past u t s.to _ learns (h.tells past behind s (within_before v u t s learns within) full) z m far) first;
       full = fulls_later u t items learns.about g.shut (fulls_all u items h.full);
       ended = record {
@@ -192,7 +192,7 @@ run_cut v u t works items w later rows count why named h g first =
 
 -- what is told behind some pasts is told behind each of these
 pub told_fewer : (P Q : Whole → Type 0) (v u : View) (works : List Work) (items : List Item) → ((past : Whole) → Q past → P past)
-    → HasTold P v u works items → HasTold Q v u works items
+    → HasAnswered P v u works items → HasAnswered Q v u works items
 told_fewer P Q v u works items fewer h = record {
   rows = h.rows;
   gains = h.gains;

@@ -14,7 +14,7 @@ use Rattle.fish_lanes.proofs.Publishing.{settled_published}
 use Rattle.fish_lang.specs.Definition.{Definition}
 use Rattle.fish_lanes.specs.within.Doing.{FindsAcross, IsPlannedAt, IsRefusedAt, IsScanned}
 use Rattle.fish_lanes.specs.within.Published.{IsPublished}
-use Rattle.fish_lanes.specs.Scanning.{AreOpen, HasRows, HoldsSeen, IsAskedFor, IsAskedRange, IsRefusedFor, TellsPlan, TellsScan}
+use Rattle.fish_lanes.specs.Scanning.{AreOpen, HasRows, HoldsSeen, IsAskedFor, IsAskedRange, IsRefusedFor, SaysPlan, SaysScan}
 use Rattle.fish_lanes.specs.Spans.{Span}
 use Rattle.fish_lanes.specs.within.Spans.{IsWithinSpan}
 use Rattle.fish_plan.proofs.Inside.{index_inside, piece_within}
@@ -29,7 +29,7 @@ use Rattle.fish_report.specs.declared.item.ScanCause.TheVariants as cause
 use Rattle.fish_rule.proofs.laws.ClosedLogs.{always_closed}
 use Rattle.fish_rule.proofs.laws.Moments.{before_mark}
 use Rattle.fish_rule.proofs.laws.Learning.{learns_both}
-use Rattle.fish_rule.specs.Logs.{IsEntry, Learns, TellsMark}
+use Rattle.fish_rule.specs.Logs.{IsEntry, Learns, KnowsMark}
 use Rattle.fish_rule.specs.Parts.{IsEntryWord}
 use Rattle.fish_rule.specs.Regions.{code}
 use Rattle.fish_rule.specs.Views.{Among}
@@ -123,7 +123,7 @@ module _ (v u : View) (ask : Ask) (from to : ℕ) (opens : List ℕ) (range : Is
   before n above p asked = ⊎_elim
       (λ (e : to ≡ end_of ask.to range.count). let counted = p.counted in let known = range.known in
       let less : n < end_of ask.to range.count = before_end ask.to range.count n (omega arith) asked.below in omega arith)
-      (λ (mark : TellsMark u to × (u.about.number ≤ to)). let base = base_is.0 in
+      (λ (mark : KnowsMark u to × (u.about.number ≤ to)). let base = base_is.0 in
       let here : u.about.number ≡ v.about.number = ap (λ (z : Key). z.number) on.about in
       let first = mark.1 in
       before_mark m.closed.rule to n (omega arith)
@@ -136,7 +136,7 @@ module _ (v u : View) (ask : Ask) (from to : ℕ) (opens : List ℕ) (range : Is
   before_older n below asked = ⊎_elim
       (λ (e : to ≡ end_of ask.to range.count). let counted = range.known in
       let less : n < end_of ask.to range.count = before_end ask.to range.count n (omega arith) asked.below in omega arith)
-      (λ (mark : TellsMark u to × (u.about.number ≤ to)).
+      (λ (mark : KnowsMark u to × (u.about.number ≤ to)).
       let here : u.about.number ≡ v.about.number = ap (λ (z : Key). z.number) on.about in
       let first = mark.1 in omega arith)
       range.stops
@@ -261,18 +261,18 @@ range_published v u ask from to opens n range low above below closed = record {
 -- ---- names
 
 -- the rows of a version are those of the whole
-pub has_rows : (past : Whole) (v u : View) (known : Known) (ask : Ask) (place version : ℕ) (k : Span) → IsWithinSpan v u k
-    → version ≡ version_of known → IsNamed v u known ask place → Sure past u (λ w. HasRows w k version (rows_of known))
-has_rows past v u known ask place version k inside is named w m = record {
+pub has_rows : (past : Whole) (v u : View) (known : Known) (ask : Ask) (position version : ℕ) (k : Span) → IsWithinSpan v u k
+    → version ≡ version_of known → IsNamed v u known ask position → Sure past u (λ w. HasRows w k version (rows_of known))
+has_rows past v u known ask position version k inside is named w m = record {
   least = (let least = named.least in let first = inside.first in omega arith);
   most = (let most = named.read.rows.reached in let last = inside.last in omega arith);
   are = ap w.rows is ∙ sure_rows past u (version_of known) (rows_of known) named.read.rows w m;
 }
 
 -- that version is one that the pass loaded in the call
-pub named_version : (v u : View) (known : Known) (ask : Ask) (version place : ℕ) → version ≡ version_of known
-    → IsNamed v u known ask place → (v.learned.version ≤ version) × (version ≤ u.learned.version)
-named_version v u known ask version place is named =
+pub named_version : (v u : View) (known : Known) (ask : Ask) (version position : ℕ) → version ≡ version_of known
+    → IsNamed v u known ask position → (v.learned.version ≤ version) × (version ≤ u.learned.version)
+named_version v u known ask version position is named =
     (let least = named.least in let most = named.read.rows.reached in (omega arith, omega arith))
 
 -- ---- plans
@@ -284,31 +284,31 @@ plan_full v u rows text way from settled to plan h is =
     subst (λ (z : How). IsPlan v u rows text z from settled to plan) is h
 
 -- a plan of one full piece has none by an index
-pub no_index : (from to place id begin end : ℕ) (b : Bool)
-    → ¬ (slice_get (cond b (Full from to ∷ []) []) place ≡ Some (Index id begin end))
+pub no_index : (from to position id begin end : ℕ) (b : Bool)
+    → ¬ (slice_get (cond b (Full from to ∷ []) []) position ≡ Some (Index id begin end))
 no_index from to zero id begin end true at = cc
 no_index from to (suc n) id begin end true at = cc
-no_index from to place id begin end false at = cc
+no_index from to position id begin end false at = cc
 
 -- a piece by an index is below what is settled, and by one of a row with the text
 cover_indexed : (v u : View) (rows : List Listed) (text : List ℕ) (from settled to : ℕ) (plan : List Piece)
-    → IsCovered v u rows text from settled to plan → (place id begin end : ℕ) → slice_get plan place ≡ Some (Index id begin end)
+    → IsCovered v u rows text from settled to plan → (position id begin end : ℕ) → slice_get plan position ≡ Some (Index id begin end)
     → (end ≤ settled) × ((row : Listed) × (slice_get rows id ≡ Some row) × (row.def ≡ text))
-cover_indexed v u rows text from settled to plan h place id begin end there =
-    let i = index_inside plan from settled to h.intervals h.cover place id begin end there in
+cover_indexed v u rows text from settled to plan h position id begin end there =
+    let i = index_inside plan from settled to h.intervals h.cover position id begin end there in
     let x = h.are.each i.4 (at_among h.intervals i.3 i.4 i.5) in
     (i.1, (x.row, ap (slice_get rows) (sym i.6) ∙ x.there, x.text_is))
 
 plan_indexed : (v u : View) (rows : List Listed) (text : List ℕ) (way : How) (from settled to : ℕ) (plan : List Piece)
-    → IsPlan v u rows text way from settled to plan → (place id begin end : ℕ) → slice_get plan place ≡ Some (Index id begin end)
+    → IsPlan v u rows text way from settled to plan → (position id begin end : ℕ) → slice_get plan position ≡ Some (Index id begin end)
     → (end ≤ settled) × ((row : Listed) × (slice_get rows id ≡ Some row) × (row.def ≡ text))
-plan_indexed v u rows text how.Full from settled to plan h place id begin end there =
-    absurd (no_index from to place id begin end (nat_lt from to) (subst (λ (z : List Piece). slice_get z place
+plan_indexed v u rows text how.Full from settled to plan h position id begin end there =
+    absurd (no_index from to position id begin end (nat_lt from to) (subst (λ (z : List Piece). slice_get z position
     ≡ Some (Index id begin end)) h there))
-plan_indexed v u rows text how.Auto from settled to plan h place id begin end there =
-    cover_indexed v u rows text from settled to plan h place id begin end there
-plan_indexed v u rows text how.Index from settled to plan h place id begin end there =
-    cover_indexed v u rows text from settled to plan h.0 place id begin end there
+plan_indexed v u rows text how.Auto from settled to plan h position id begin end there =
+    cover_indexed v u rows text from settled to plan h position id begin end there
+plan_indexed v u rows text how.Index from settled to plan h position id begin end there =
+    cover_indexed v u rows text from settled to plan h.0 position id begin end there
 
 -- ---- what is told
 
@@ -320,7 +320,7 @@ module _ (v u : View) (ask : Ask) (on : Learns v u) (seen : ℕ → Type 0)
 
   -- a scan
   pub scan_told : (Past : Whole → Type 0) → Past past → (from to : ℕ) (opens : List ℕ) (rows : List Row) (version : ℕ)
-      → IsScanned Past v u ask from to opens rows version → SureUpTo past u k.to (λ w. TellsScan w k seen ask from to opens rows version)
+      → IsScanned Past v u ask from to opens rows version → SureUpTo past u k.to (λ w. SaysScan w k seen ask from to opens rows version)
   scan_told Past behind from to opens rows version s w m far =
       let a = s.answer past behind in
       let e = a.planned in
@@ -331,8 +331,8 @@ module _ (v u : View) (ask : Ask) (on : Learns v u) (seen : ℕ → Type 0)
         def = a.def;
         means = record {
           rows = rows_of s.known;
-          has = has_rows past v u s.known ask e.place version k inside s.version_is e.asked.named w m;
-          place = e.place;
+          has = has_rows past v u s.known ask e.position version k inside s.version_is e.asked.named w m;
+          position = e.position;
           newest = e.asked.named.newest;
           accepted = a.means;
         };
@@ -343,14 +343,14 @@ module _ (v u : View) (ask : Ask) (on : Learns v u) (seen : ℕ → Type 0)
 
   -- a plan
   pub plan_told : (from to : ℕ) (plan : List Piece) (version : ℕ) → IsPlannedAt v u ask from to plan version
-      → Sure past u (λ w. TellsPlan w k seen ask from to plan version)
+      → Sure past u (λ w. SaysPlan w k seen ask from to plan version)
   plan_told from to plan version s w m =
       let e = s.explained.planned in
       record {
         range = asked_range v u k ask from to s.opens inside e.range;
         rows = rows_of s.known;
-        has = has_rows past v u s.known ask e.place version k inside s.version_is e.asked.named w m;
-        place = e.place;
+        has = has_rows past v u s.known ask e.position version k inside s.version_is e.asked.named w m;
+        position = e.position;
         newest = e.asked.named.newest;
         holds = holds_all v u ask from to s.opens e.range on older_counted past w m seen published;
         fill = s.explained.fill;
@@ -366,7 +366,7 @@ module _ (v u : View) (ask : Ask) (on : Learns v u) (seen : ℕ → Type 0)
   gap_told : (from to : ℕ) (known : Known) → IsUncovered v u known ask from to
       → Sure past u (λ w. (from < to) × (to ≤ length w.log) × (first_asked ask ≤ from) × ((end : ℕ) → ask.to ≡ Some end → to ≤ end))
   gap_told from to known h w m =
-      let p = piece_within h.plan h.first h.last h.gap.place (Full from to) h.covered.cover.fill h.gap.gap.there in
+      let p = piece_within h.plan h.first h.last h.gap.position (Full from to) h.covered.cover.fill h.gap.gap.there in
       let some_ = p.1 in
       let above = p.0 in
       let below = p.2 in

@@ -37,7 +37,7 @@ use Rattle.fish_store.proofs.Scanning.{pages_stay}
 use Rattle.fish_store.specs.Sound.{GoesOnHere, IsSoundBehind, MayGoOn, Point, ReadsPages, Stays}
 use Rattle.fish_whole.specs.Whole.{Whole}
 
--- the lane at a place that went on
+-- the lane at a position that went on
 pub gone_at : (log : Log) (given gone : List Lane) → AreGone log given gone → (i : ℕ) (x y : Lane) → slice_get given i ≡ Some x
     → slice_get gone i ≡ Some y → HasGone log x y
 gone_at log given gone went i x y at_x at_y = subst (λ (t : Lane × Lane). HasGone log t.0 t.1)

@@ -5,7 +5,7 @@ use Rattle.std.specs.Prelude.{IfErr, IfOk}
 use Rattle.fish_lanes.proofs.Advancing.{answers_more, answers_same, run_cut, run_ended, told_fewer, told_more, told_on}
 use Rattle.fish_lanes.proofs.Answered.{named_version}
 use Rattle.fish_lanes.proofs.Fitting.{refused_version}
-use Rattle.fish_lanes.proofs.Done.{HasTold, told_self}
+use Rattle.fish_lanes.proofs.Done.{HasAnswered, told_self}
 use Rattle.fish_lanes.proofs.Covering.{bounds_before, bounds_in, bounds_read}
 use Rattle.fish_lanes.proofs.Lists.{all_more}
 use Rattle.fish_lanes.proofs.Pending.{found_on}
@@ -14,17 +14,17 @@ use Rattle.fish_lanes.proofs.Registrations.{after_more, registry_later}
 use Rattle.fish_lanes.proofs.Showing.{fit_answer}
 use Rattle.fish_lanes.proofs.Gaining.{alone_gains}
 use Rattle.fish_lanes.proofs.Single.{fit_closed, fit_single, none_there, only_fewer, only_last, only_later, some_there}
-use Rattle.fish_lanes.specs.within.Controlling.{Does, HasControlled, HasPolled, IsControlled, IsPartControlled, RollsBy, TellsTail}
+use Rattle.fish_lanes.specs.within.Controlling.{Does, HasControlled, HasPolled, IsControlled, IsPartControlled, RollsBy, SaysTail}
 use Rattle.fish_lanes.specs.within.Doing.{GainsFirst, IsFit, IsItem, IsPart}
 use Rattle.fish_lanes.specs.Ending.{HasEnd}
 use Rattle.fish_lanes.specs.within.Gains.{Gains}
 use Rattle.fish_lanes.specs.Pending.{AreFound}
-use Rattle.fish_lanes.specs.Plans.{KnowsRows, TellsPlans}
+use Rattle.fish_lanes.specs.Plans.{KnowsRows, SaysPlans}
 use Rattle.fish_lanes.specs.within.Plans.{AreBoundsIn, PlansAreSoBy}
 use Rattle.fish_lanes.specs.Records.{LaneRow, contents}
 use Rattle.fish_lanes.specs.Registering.{AreSo, InEach, IsSo, KnowsEach, KnowsRegistry, Registry, after, after_all, registry_of, waiting_id}
 use Rattle.fish_lanes.specs.within.Running.{IsFree}
-use Rattle.fish_lanes.specs.Single.{NamesNone, TellsOnly, TellsSingle}
+use Rattle.fish_lanes.specs.Single.{NamesNone, SaysOnly, SaysSingle}
 use Rattle.fish_lanes.specs.Spans.{answers, made_by}
 use Rattle.fish_lanes.specs.Telling.{content_of, count_of}
 use Rattle.fish_lanes.specs.declared.work.LaneFault.{LaneFault}
@@ -125,13 +125,13 @@ plans_on v u t r works items learns h rows from bounds low =
 -- boundary was waited for
 pub record Held (Past : Whole → Type 0) (v : View) (r : Registrar) (u : View) (s : Registrar) (works : List Work) (items : List Item)
     : Type 0 where
-  pub told : HasTold Past v u works (answers items)
+  pub told : HasAnswered Past v u works (answers items)
   pub so : AreSo v.learned.count u.learned.count (registry_of v r) items
   pub is : registry_of u s ≡ after_all (registry_of v r) items
   pub each : KnowsEach u (registry_of v r) items
   pub closed : IsAlone v → AllOf NamesNone items
   pub still : works ≡ [] → r.waiting ≡ None → (u ≡ v) × (s.waiting ≡ None) × (items ≡ [])
-  pub only : (end : ℕ) → HasEnd v end → r.waiting ≡ None → TellsOnly Past v u r.catalog end works items
+  pub only : (end : ℕ) → HasEnd v end → r.waiting ≡ None → SaysOnly Past v u r.catalog end works items
   pub plans : PlansAreSoBy v u (registry_of v r) works items
 
 -- none yet
@@ -152,9 +152,9 @@ held_self {Past} v r outside idle known = record {
 held_item : {Past : Whole → Type 0} (v : View) (r : Registrar) (u : View) (s : Registrar) (t : View) (q : Registrar)
     (works works' : List Work)
     (items : List Item) (x : Item) → Held Past v r u s works items → Learns v u → Learns u t → Does u s t q x
-    → HasTold Past v t works' (answers (items ++ x ∷ [])) → (IsAlone v → NamesNone x)
+    → HasAnswered Past v t works' (answers (items ++ x ∷ [])) → (IsAlone v → NamesNone x)
     → (works' ≡ [] → r.waiting ≡ None → (t ≡ v) × (q.waiting ≡ None) × (items ++ x ∷ [] ≡ []))
-    → ((end : ℕ) → HasEnd v end → r.waiting ≡ None → TellsOnly Past v t r.catalog end works' (items ++ x ∷ []))
+    → ((end : ℕ) → HasEnd v end → r.waiting ≡ None → SaysOnly Past v t r.catalog end works' (items ++ x ∷ []))
     → PlansAreSoBy v t (registry_of v r) works' (items ++ x ∷ []) → Held Past v r t q works' (items ++ x ∷ [])
 held_item v r u s t q works works' items x h before learns does told none still only plans =
     let start = registry_of v r in
@@ -203,9 +203,9 @@ held_polled {Past} v r u s t q works items items' h g same shut idle (inr p) =
     let x = item.Bound p.0 p.1 in
     subst (Held Past v r t q works) (sym p.2)
     (held_item v r u s t q works works items x h h.told.gains.on.learns g.on.learns p.3
-    (subst (HasTold Past v t works) (sym (answers_same items x refl)) (told_on v u t works (answers items) h.told g shut))
+    (subst (HasAnswered Past v t works) (sym (answers_same items x refl)) (told_on v u t works (answers items) h.told g shut))
     (λ alone. tt) (λ none wait. absurd (none_waiting s p.0 (h.still none wait).1 p.3.so.0))
-    (λ end e wait w one. subst (AllOf (TellsSingle Past v t r.catalog end w)) (sym (answers_same items x refl))
+    (λ end e wait w one. subst (AllOf (SaysSingle Past v t r.catalog end w)) (sym (answers_same items x refl))
     (only_later v u t r.catalog end g.on.learns same Past works items (h.only end e wait) w one))
     (λ rows from bounds low. plans_beside (KnowsRows t) (registry_of v r) rows from works items x h.told.size
     (plans_on v u t (registry_of v r) works items g.on.learns h.plans rows from bounds low)))
@@ -219,7 +219,7 @@ held_done {Past} v r u s t q works items w x stood stands began known knows now 
     let made : t.learned.version ≡ u.learned.version + made_by x =
     ap (λ (z : Registry). z.version) c.does.is ∙ after_load_version (registry_of u s) x in
     held_item v r u s t q works (works ++ w ∷ []) items x h h.told.gains.on.learns c.gains.on.learns c.does
-    (subst (HasTold Past v t (works ++ w ∷ [])) (sym (answers_more items x (fit_answer Past u t w x c.fit)))
+    (subst (HasAnswered Past v t (works ++ w ∷ [])) (sym (answers_more items x (fit_answer Past u t w x c.fit)))
     (told_more v u t works (answers items) w x c.rows h.told c.gains c.first c.fit c.shuts (omega arith)))
     (λ alone. c.none (alone_gains v u h.told.rows h.told.gains alone))
     (λ none wait. absurd (some_there works w [] none))
@@ -236,9 +236,9 @@ held_done {Past} v r u s t q works items w x stood stands began known knows now 
       subst (λ (z : Registry). AreBoundsIn t z.rows) registry (bounds_in t q stands now),
       ap (λ (z : Registry). z.version) registry,
     ))
-    (subst (λ (z : View). TellsTail z x) same (c.tail (subst IsAlone (sym same) e.alone)))
+    (subst (λ (z : View). SaysTail z x) same (c.tail (subst IsAlone (sym same) e.alone)))
     (subst (λ (z : View × Work). IsFit Past z.0 t z.1 x) (λ i. (same i, first.1 i)) c.fit) in
-    subst (AllOf (TellsSingle Past v t r.catalog end one)) (sym (answers_more items x (fit_answer Past u t w x c.fit)
+    subst (AllOf (SaysSingle Past v t r.catalog end one)) (sym (answers_more items x (fit_answer Past u t w x c.fit)
     ∙ ap (λ (z : List Item). z ++ x ∷ []) (none_there (answers items) works h.told.size first.0))) (told, tt))
     (λ rows from bounds low.
     let start = registry_of v r in
@@ -247,7 +247,7 @@ held_done {Past} v r u s t q works items w x stood stands began known knows now 
     let known = subst (KnowsRegistry u) (sym h.is) (each_last (KnowsRegistry u) start items h.each) in
     plans_more (KnowsRows t) start rows from works (w ∷ []) items x h.told.size
     (plans_on v u t start works items learns h.plans rows from bounds low)
-    (subst (λ (z : Registry). TellsPlans (KnowsRows t) z.rows rows from w x) h.is
+    (subst (λ (z : Registry). SaysPlans (KnowsRows t) z.rows rows from w x) h.is
     (fit_so u t (registry_of u s) rows from stands learns (bounds_read u s knows) known bounds (omega arith) Past w x c.fit)))
 
 -- ---- the end
@@ -279,7 +279,7 @@ held_cut {Past} v r u s t q works items w later rows count why named h found g f
       so = are_so_wide v.learned.count u.learned.count v.learned.count t.learned.count (registry_of v r) items (omega arith)
           (omega arith) h.so;
       closed = h.closed;
-      only = λ end e wait one is. subst (AllOf (TellsSingle Past v t r.catalog end one))
+      only = λ end e wait one is. subst (AllOf (SaysSingle Past v t r.catalog end one))
           (sym (none_there (answers items) works h.told.size (only_last works w later one is).0)) tt;
       plans = λ rows from bounds low. plans_longer (KnowsRows t) (registry_of v r) rows from works (w ∷ later) items h.told.size
           (plans_on v u t (registry_of v r) works items g.on.learns h.plans rows from bounds low);
@@ -323,13 +323,13 @@ free_so Past u t (work.Ingest form begin name file) x low high r is same free (i
 free_so Past u t (work.Scan ask) x low high r is same free (inl f) =
     let e = f.fits.planned in
     subst (IsSo low high r) (sym f.is) (only_version u t r f.version is same
-    (named_version u t f.fits.known ask f.version e.place f.fits.version_is e.asked.named))
+    (named_version u t f.fits.known ask f.version e.position f.fits.version_is e.asked.named))
 free_so Past u t (work.Scan ask) x low high r is same free (inr f) = subst (IsSo low high r) (sym f.is)
     (only_version u t r f.version is same (refused_version u t ask f.version f.why f.fits))
 free_so Past u t (work.Explain ask) x low high r is same free (inl f) =
     let e = f.fits.explained.planned in
     subst (IsSo low high r) (sym f.is) (only_version u t r f.version is same
-    (named_version u t f.fits.known ask f.version e.place f.fits.version_is e.asked.named))
+    (named_version u t f.fits.known ask f.version e.position f.fits.version_is e.asked.named))
 free_so Past u t (work.Explain ask) x low high r is same free (inr f) = subst (IsSo low high r) (sym f.is)
     (only_version u t r f.version is same (refused_version u t ask f.version f.why f.fits))
 free_so Past u t work.Checkpoint x low high r is same free f = subst (IsSo low high r) (sym f.is) tt
@@ -347,17 +347,17 @@ free_rolls Past u t (work.Explain ask) x free (inl f) = subst (RollsBy u t) (sym
 free_rolls Past u t (work.Explain ask) x free (inr f) = subst (RollsBy u t) (sym f.is) tt
 free_rolls Past u t work.Checkpoint x free f = subst (RollsBy u t) (sym f.is) tt
 
-free_tail : (Past : Whole → Type 0) (u t : View) (w : Work) (x : Item) → IsFree w → IsFit Past u t w x → TellsTail u x
+free_tail : (Past : Whole → Type 0) (u t : View) (w : Work) (x : Item) → IsFree w → IsFit Past u t w x → SaysTail u x
 free_tail Past u t (work.Register name def) x free f = elim free [ ]
 free_tail Past u t (work.Deregister name) x free f = elim free [ ]
-free_tail Past u t (work.Ingest form begin name file) x free (inl f) = subst (TellsTail u) (sym f.is) tt
-free_tail Past u t (work.Ingest form begin name file) x free (inr (inl f)) = subst (TellsTail u) (sym f.is) tt
-free_tail Past u t (work.Ingest form begin name file) x free (inr (inr f)) = subst (TellsTail u) (sym f.is) tt
-free_tail Past u t (work.Scan ask) x free (inl f) = subst (TellsTail u) (sym f.is) tt
-free_tail Past u t (work.Scan ask) x free (inr f) = subst (TellsTail u) (sym f.is) tt
-free_tail Past u t (work.Explain ask) x free (inl f) = subst (TellsTail u) (sym f.is) tt
-free_tail Past u t (work.Explain ask) x free (inr f) = subst (TellsTail u) (sym f.is) tt
-free_tail Past u t work.Checkpoint x free f = subst (TellsTail u) (sym f.is) tt
+free_tail Past u t (work.Ingest form begin name file) x free (inl f) = subst (SaysTail u) (sym f.is) tt
+free_tail Past u t (work.Ingest form begin name file) x free (inr (inl f)) = subst (SaysTail u) (sym f.is) tt
+free_tail Past u t (work.Ingest form begin name file) x free (inr (inr f)) = subst (SaysTail u) (sym f.is) tt
+free_tail Past u t (work.Scan ask) x free (inl f) = subst (SaysTail u) (sym f.is) tt
+free_tail Past u t (work.Scan ask) x free (inr f) = subst (SaysTail u) (sym f.is) tt
+free_tail Past u t (work.Explain ask) x free (inl f) = subst (SaysTail u) (sym f.is) tt
+free_tail Past u t (work.Explain ask) x free (inr f) = subst (SaysTail u) (sym f.is) tt
+free_tail Past u t work.Checkpoint x free f = subst (SaysTail u) (sym f.is) tt
 
 -- so their items do nothing
 pub free_does : (Past : Whole → Type 0) (u t : View) (r : Registrar) (w : Work) (x : Item) → IsFree w → IsFit Past u t w x → Learns u t
@@ -386,7 +386,7 @@ take_nothing_first w = refl
 
 -- one on definitions
 pub control_done : (Past : Whole → Type 0) {E : Type 0} (v : View) (s : Registrar) (t : View) (q : Registrar) (w : Work) (r : Result Item E)
-    → content_of w ≡ [] → Gains v t [] → t.shut ≡ v.shut → (IsAlone v → IfOk r NamesNone) → (IsAlone v → IfOk r (TellsTail v))
+    → content_of w ≡ [] → Gains v t [] → t.shut ≡ v.shut → (IsAlone v → IfOk r NamesNone) → (IsAlone v → IfOk r (SaysTail v))
     → IfOk r (RollsBy v t) → IfOk r (IsFit Past v t w) → IfOk r (Does v s t q) → IfOk r (IsControlled Past v s t q w)
 control_done Past v s t q w (Ok x) none g same names tail rolls fit does = record {
   rows = [];

@@ -10,20 +10,20 @@ use Rattle.fish_lanes.proofs.Moments.{Closes, counted_from, ends_behind, few_beh
 use Rattle.fish_lanes.proofs.Ends.{closes_end, end_knows}
 use Rattle.fish_lanes.proofs.RowLists.{has_above, owned_number, told_later}
 use Rattle.fish_lanes.proofs.Surely.{end_above, entry_before, own_before, will_own, will_rows}
-use Rattle.fish_lanes.specs.Blocks.{AreEnded, AreKept, IsBlockSpan, IsEndedLane, IsMarkItem, NameMarks, StoresByLanes, TellsBlock}
-use Rattle.fish_lanes.specs.within.Blocks.{AreJoined, IsOfLane, IsSeated, IsShutOfLane, TellsFirst, TellsOthers}
+use Rattle.fish_lanes.specs.Blocks.{AreEnded, AreKept, IsBlockSpan, IsEndedLane, IsMarkItem, NameMarks, StoresByLanes, SaysBlock}
+use Rattle.fish_lanes.specs.within.Blocks.{AreJoined, IsOfLane, IsSeated, IsShutOfLane, SaysFirst, SaysOthers}
 use Rattle.fish_lanes.specs.Outcome.{AreVacant}
 use Rattle.fish_lanes.specs.within.Course.{AllBack, AllRan, HasFoundEnd}
 use Rattle.fish_lanes.specs.Ending.{HasEnd}
-use Rattle.fish_lanes.specs.Gains.{IsMarkAt, IsShutTold}
-use Rattle.fish_lanes.specs.within.Gains.{AreTold}
+use Rattle.fish_lanes.specs.Gains.{IsMarkAt, IsShutSaid}
+use Rattle.fish_lanes.specs.within.Gains.{AreKnown}
 use Rattle.fish_lanes.specs.Records.{HasNumber, LaneRow, rows_of_lane}
 use Rattle.fish_lanes.specs.within.Records.{Ascends, owned}
 use Rattle.fish_lanes.specs.Running.{IsEnded}
 use Rattle.fish_lanes.specs.within.Running.{HasDone, IsFullItem}
 use Rattle.fish_lanes.specs.Spans.{IsAnswer, Span}
 use Rattle.fish_lanes.specs.within.Spans.{IsWithinSpan}
-use Rattle.fish_lanes.specs.Telling.{TellsLane}
+use Rattle.fish_lanes.specs.Telling.{SaysLane}
 use Rattle.fish_lanes.specs.declared.block.BlockEnd.{BlockEnd}
 use Rattle.fish_lanes.specs.declared.lane.Lane.{Lane}
 use Rattle.fish_lanes.specs.declared.lane.Seated.{Seated}
@@ -59,11 +59,11 @@ module _ {Past : Whole → Type 0} {log : Log} {v w : View} {r q : Registrar} {f
   sizes : length done ≡ length before
   sizes = run.done_size ∙ run.given_size
 
-  -- the statements of the lane at a place
+  -- the statements of the lane at a position
   pub done_at : (i : ℕ) (y z : Lane) → slice_get run.given i ≡ Some y → slice_get done i ≡ Some z → HasDone Past log y z
   done_at i y z at_y at_z = run.others_did i y z at_y at_z
 
-  -- the lane at a place, at each of the times
+  -- the lane at a position, at each of the times
   pub record Way (i : ℕ) (z : Lane) : Type 0 where
     pub old : Lane
     pub old_at : slice_get before i ≡ Some old
@@ -110,11 +110,11 @@ module _ {Past : Whole → Type 0} {log : Log} {v w : View} {r q : Registrar} {f
   way_about i z p = ap (λ (s : Seated). (view s.pass).about) (sym p.same) ∙ p.seat.about
 
   -- what shut a lane is known for good, where it was at the start
-  way_marks : (i : ℕ) (z : Lane) (p : Way i z) → IsShutTold v → IsShutTold (view p.run_of.after.pass)
+  way_marks : (i : ℕ) (z : Lane) (p : Way i z) → IsShutSaid v → IsShutSaid (view p.run_of.after.pass)
   way_marks i z p t = p.run_of.run.gains.marks (marks_same v (view p.run_of.before.pass)
       (learns_same v (view p.run_of.before.pass) (way_about i z p) (way_learned i z p)) (way_shut i z p) t)
 
-  main_marks : IsShutTold v → IsShutTold w
+  main_marks : IsShutSaid v → IsShutSaid w
   main_marks t = run.first_did.controlled.run.gains.marks
       (marks_same v run.main (learns_same v run.main run.gives.about run.gives.learned) run.gives.shut t)
 
@@ -141,7 +141,7 @@ module _ {Past : Whole → Type 0} {log : Log} {v w : View} {r q : Registrar} {f
   same_works i z p = ap (λ (q : Lane). q.works) p.seat.is
 
   module _ {u : View} {after : List Lane} (returned : AllBack w u done after) where
-    -- the lane at a place before it gave its pass back
+    -- the lane at a position before it gave its pass back
     pub ran_at : (i : ℕ) (y : Lane) → slice_get after i ≡ Some y → (z : Lane) × (slice_get done i ≡ Some z)
     ran_at i y at =
         let less = slice_get_within after i y at in
@@ -225,7 +225,7 @@ module _ {Past : Whole → Type 0} {log : Log} {v w : View} {r q : Registrar} {f
       marks = λ s e. shut_told s (returned.takes.shut s (sym closes.shut ∙ e));
     }
       where
-        known : IsShutTold v
+        known : IsShutSaid v
         known = start.1.marks
 
         above_end : t.about.number ≤ last.to
@@ -241,15 +241,15 @@ module _ {Past : Whole → Type 0} {log : Log} {v w : View} {r q : Registrar} {f
         shut_told : (s : Shut) → (w.shut ≡ Some s) ⊎ IsShutOfLane done (length done) s → Always t (IsMarkAt s.line s.lines)
         shut_told s (inl same) = always_later w t (IsMarkAt s.line s.lines) end_learns (main_marks known s same)
         shut_told s (inr q) =
-            let p = way q.place q.lane q.lane_is in
+            let p = way q.position q.lane q.lane_is in
             let same : q.seat ≡ p.run_of.after = some_once q.seat p.run_of.after (sym q.seat_is ∙ p.run_of.after_is) in
             let learns : Learns (view q.seat.pass) t = learns_both (view q.seat.pass) u t
-            (returned.takes.learned q.place q.lane q.seat q.below q.lane_is q.seat_is) closes.learns in
+            (returned.takes.learned q.position q.lane q.seat q.below q.lane_is q.seat_is) closes.learns in
             always_later (view q.seat.pass) t (IsMarkAt s.line s.lines) learns
-            (subst (λ (z : Seated). IsShutTold (view z.pass)) (sym same) (way_marks q.place q.lane p known) s q.shut_is)
+            (subst (λ (z : Seated). IsShutSaid (view z.pass)) (sym same) (way_marks q.position q.lane p known) s q.shut_is)
 
     -- the refused items name marks
-    marks_items : (s : View) (items : List Item) → Learns s t → IsShutTold s → AllOf (IsFullItem s) items
+    marks_items : (s : View) (items : List Item) → Learns s t → IsShutSaid s → AllOf (IsFullItem s) items
         → AllOf (IsMarkItem t) items
     marks_items s [] learns told h = tt
     marks_items s (x ∷ items) learns told h = (
@@ -319,30 +319,30 @@ module _ {Past : Whole → Type 0} {log : Log} {v w : View} {r q : Registrar} {f
       where
         of_lane : (o : Own) → IsOfLane done (length done) o → Among o v.own ⊎ (v.learned.count ≤ o.number)
         of_lane o q =
-            let p = way q.place q.lane q.lane_is in
-            ⊎_elim (λ (k : Among o v.own × (o.lane ≡ q.place + 2)). inl k.0)
-            (λ (k : HasNumber o.number p.run_of.run.rows × (o.lane ≡ q.place + 2)).
+            let p = way q.position q.lane q.lane_is in
+            ⊎_elim (λ (k : Among o v.own × (o.lane ≡ q.position + 2)). inl k.0)
+            (λ (k : HasNumber o.number p.run_of.run.rows × (o.lane ≡ q.position + 2)).
             let up = has_above o.number _ _ p.run_of.run.rows p.run_of.run.gains.ascends k.0 in
             let same : (view p.run_of.before.pass).learned.count ≡ v.learned.count =
-            ap (λ (z : Learned). z.count) (way_learned q.place q.lane p) in
-            inr (omega arith)) (lane_cases q.place q.lane p q.seat o q.seat_is q.among)
+            ap (λ (z : Learned). z.count) (way_learned q.position q.lane p) in
+            inr (omega arith)) (lane_cases q.position q.lane p q.seat o q.seat_is q.among)
 
     -- what a lane's items tell of its rows they tell of the rows that the whole has of it
-    tells_rows : (past : Whole) (k : Span) (s : View) (number : ℕ) (rows : List LaneRow) (works : List Work) (items : List Item)
+    says_rows : (past : Whole) (k : Span) (s : View) (number : ℕ) (rows : List LaneRow) (works : List Work) (items : List Item)
         → Learns s t → v.about.number ≤ k.from → k.to ≡ last.to → k.from ≤ k.to → k.from ≤ v.learned.count
-        → Ascends v.learned.count rows s.learned.count → AreTold s number rows
+        → Ascends v.learned.count rows s.learned.count → AreKnown s number rows
         → ((o : Own) → Among o t.own → o.lane ≡ number → (o.number < k.from) ⊎ HasNumber o.number rows)
-        → SureUpTo past s k.to (λ y. TellsLane y k rows works items)
-        → Will past t (λ y. TellsLane y k (rows_of_lane y.log k.from k.to number) works items)
-    tells_rows past k s number rows works items learns based is within counted up told all sure y m =
+        → SureUpTo past s k.to (λ y. SaysLane y k rows works items)
+        → Will past t (λ y. SaysLane y k (rows_of_lane y.log k.from k.to number) works items)
+    says_rows past k s number rows works items learns based is within counted up told all sure y m =
         let same : t.about.number ≡ v.about.number = ap (λ (z : Key). z.number) all_learns.about in
         let settled = ended.settled in
         let exact : rows_of_lane y.log k.from k.to number ≡ rows =
         will_rows past t number k.from k.to v.learned.count s.learned.count rows stands (subst (HasEnd t) (sym is) has_end)
         (omega arith) within counted (told_later s t number rows learns told) up all y m in
-        subst (λ (z : List LaneRow). TellsLane y k z works items) (sym exact)
-        (up_to_will past t k.to (λ z. TellsLane z k rows works items) (omega arith)
-        (up_to_later past s t k.to (λ z. TellsLane z k rows works items) learns sure) y m)
+        subst (λ (z : List LaneRow). SaysLane y k z works items) (sym exact)
+        (up_to_will past t k.to (λ z. SaysLane z k rows works items) (omega arith)
+        (up_to_later past s t k.to (λ z. SaysLane z k rows works items) learns sure) y m)
 
     module _ (past : Whole) (behind : Past past) (k : Span) (span : IsBlockSpan v t last.to k) (many : k.lanes ≡ length before + 1)
         (stood : Stands v) where
@@ -393,22 +393,22 @@ module _ {Past : Whole → Type 0} {log : Log} {v w : View} {r q : Registrar} {f
       main_alone : k.lanes ≡ 1 → IsAlone run.main
       main_alone one = subst IsAlone (sym (run.gives.none (omega arith))) span.begins.alone
 
-      tells_first : Will past t (TellsFirst k first')
-      tells_first =
+      says_first : Will past t (SaysFirst k first')
+      says_first =
           let run_first = run.first_did.controlled.run in
           let g = run_first.gains in
           let same : run.main.learned.count ≡ v.learned.count = ap (λ (z : Learned). z.count) run.gives.learned in
-          tells_rows past k w 1 run_first.rows first'.works first'.items end_learns span.begins.above span.ends within counted
+          says_rows past k w 1 run_first.rows first'.works first'.items end_learns span.begins.above span.ends within counted
           (subst (λ (z : ℕ). Ascends z run_first.rows w.learned.count) same g.ascends)
-          (subst (λ (z : ℕ). AreTold w z run_first.rows) run.gives.main g.told)
+          (subst (λ (z : ℕ). AreKnown w z run_first.rows) run.gives.main g.told)
           (λ o n lane. ⊎_elim (λ (h : Among o v.own). inl (own_before v k.from o stood span.begins h))
           (λ (h : (HasNumber o.number run_first.rows × (o.lane ≡ 1)) ⊎ IsOfLane done (length done) o).
           ⊎_elim (λ (i : HasNumber o.number run_first.rows × (o.lane ≡ 1)). inr i.0)
           (λ (i : IsOfLane done (length done) o). absurd (
-          let p = way i.place i.lane i.lane_is in
-          ⊎_elim (λ (j : Among o v.own × (o.lane ≡ i.place + 2)). let e = j.1 in omega arith)
-          (λ (j : HasNumber o.number p.run_of.run.rows × (o.lane ≡ i.place + 2)). let e = j.1 in omega arith)
-          (lane_cases i.place i.lane p i.seat o i.seat_is i.among))) h) (own_cases o n))
+          let p = way i.position i.lane i.lane_is in
+          ⊎_elim (λ (j : Among o v.own × (o.lane ≡ i.position + 2)). let e = j.1 in omega arith)
+          (λ (j : HasNumber o.number p.run_of.run.rows × (o.lane ≡ i.position + 2)). let e = j.1 in omega arith)
+          (lane_cases i.position i.lane p i.seat o i.seat_is i.among))) h) (own_cases o n))
           (run_first.tells past behind k (lane_within run.main w run.gives.about run.gives.learned end_learns main_alone)
           (span.full ∙ sym run.gives.shut))
 
@@ -419,9 +419,9 @@ module _ {Past : Whole → Type 0} {log : Log} {v w : View} {r q : Registrar} {f
           ⊎_elim (λ (h : Among o v.own). inl (own_before v k.from o stood span.begins h))
           (λ (h : (HasNumber o.number run.first_did.controlled.run.rows × (o.lane ≡ 1)) ⊎ IsOfLane done (length done) o).
           ⊎_elim (λ (q : HasNumber o.number run.first_did.controlled.run.rows × (o.lane ≡ 1)). let e = q.1 in absurd (omega arith))
-          (λ (q : IsOfLane done (length done) o). here q (ℕ_discrete q.place i)) h) (own_cases o n)
+          (λ (q : IsOfLane done (length done) o). here q (ℕ_discrete q.position i)) h) (own_cases o n)
         where
-          here : (q : IsOfLane done (length done) o) → Dec (q.place ≡ i)
+          here : (q : IsOfLane done (length done) o) → Dec (q.position ≡ i)
               → (o.number < k.from) ⊎ HasNumber o.number p.run_of.run.rows
           here q (yes same) =
               let lane_same : q.lane ≡ z = some_once q.lane z (sym q.lane_is ∙ ap (slice_get done) same ∙ at) in
@@ -429,13 +429,13 @@ module _ {Past : Whole → Type 0} {log : Log} {v w : View} {r q : Registrar} {f
               (λ (h : HasNumber o.number p.run_of.run.rows × (o.lane ≡ i + 2)). inr h.0)
               (lane_cases i z p q.seat o (ap (λ (x : Lane). x.seat) (sym lane_same) ∙ q.seat_is) q.among)
           here q (no ne) =
-              let r = way q.place q.lane q.lane_is in
-              absurd (⊎_elim (λ (h : Among o v.own × (o.lane ≡ q.place + 2)). let e = h.1 in ne (omega arith))
-              (λ (h : HasNumber o.number r.run_of.run.rows × (o.lane ≡ q.place + 2)). let e = h.1 in ne (omega arith))
-              (lane_cases q.place q.lane r q.seat o q.seat_is q.among))
+              let r = way q.position q.lane q.lane_is in
+              absurd (⊎_elim (λ (h : Among o v.own × (o.lane ≡ q.position + 2)). let e = h.1 in ne (omega arith))
+              (λ (h : HasNumber o.number r.run_of.run.rows × (o.lane ≡ q.position + 2)). let e = h.1 in ne (omega arith))
+              (lane_cases q.position q.lane r q.seat o q.seat_is q.among))
 
-      tells_others : length before < 16 → Will past t (TellsOthers k after)
-      tells_others few x m i y at =
+      says_others : length before < 16 → Will past t (SaysOthers k after)
+      says_others few x m i y at =
           let size = sizes in
           let z = ran_at returned i y at in
           let less = slice_get_within done i z.0 z.1 in
@@ -448,11 +448,11 @@ module _ {Past : Whole → Type 0} {log : Log} {v w : View} {r q : Registrar} {f
           ap (λ (x : Learned). x.count) (way_learned i z.0 p) in
           let back : Learns (view s.pass) t = learns_both (view s.pass) u t
           (returned.takes.learned i z.0 s (omega arith) z.1 p.run_of.after_is) closes.learns in
-          subst (λ (q : List Work × List Item). TellsLane x k (rows_of_lane x.log k.from k.to (i + 2)) q.0 q.1)
+          subst (λ (q : List Work × List Item). SaysLane x k (rows_of_lane x.log k.from k.to (i + 2)) q.0 q.1)
           (λ j. (sym w'.works j, sym w'.items j))
-          (tells_rows past k (view s.pass) (i + 2) p.run_of.run.rows z.0.works z.0.items back span.begins.above span.ends
+          (says_rows past k (view s.pass) (i + 2) p.run_of.run.rows z.0.works z.0.items back span.begins.above span.ends
           within counted (subst (λ (x : ℕ). Ascends x p.run_of.run.rows (view s.pass).learned.count) same g.ascends)
-          (subst (λ (x : ℕ). AreTold (view s.pass) x p.run_of.run.rows) lane g.told)
+          (subst (λ (x : ℕ). AreKnown (view s.pass) x p.run_of.run.rows) lane g.told)
           (others_all i z.0 z.1 p)
           (p.run_of.run.tells past behind k
           (lane_within (view p.run_of.before.pass) (view s.pass) (way_about i z.0 p) (way_learned i z.0 p) back
@@ -469,15 +469,15 @@ module _ {Past : Whole → Type 0} {log : Log} {v w : View} {r q : Registrar} {f
         where
           of_lane : IsOfLane done (length done) o → (o.number < k.from) ⊎ (o.lane ≤ length before + 1)
           of_lane q =
-              let p = way q.place q.lane q.lane_is in
-              ⊎_elim (λ (h : Among o v.own × (o.lane ≡ q.place + 2)). inl (own_before v k.from o stood span.begins h.0))
-              (λ (h : HasNumber o.number p.run_of.run.rows × (o.lane ≡ q.place + 2)).
+              let p = way q.position q.lane q.lane_is in
+              ⊎_elim (λ (h : Among o v.own × (o.lane ≡ q.position + 2)). inl (own_before v k.from o stood span.begins h.0))
+              (λ (h : HasNumber o.number p.run_of.run.rows × (o.lane ≡ q.position + 2)).
               let e = h.1 in let less = q.below in let size = sizes in inr (omega arith))
-              (lane_cases q.place q.lane p q.seat o q.seat_is q.among)
+              (lane_cases q.position q.lane p q.seat o q.seat_is q.among)
 
       -- all that the block tells of the whole
-      pub tells_all : length before < 16 → Will past t (λ y. TellsBlock y k (first' ∷ after))
-      tells_all few x m =
+      pub says_all : length before < 16 → Will past t (λ y. SaysBlock y k (first' ∷ after))
+      says_all few x m =
           let size = sizes in
           let back = returned.size in
           let ends = span.ends in
@@ -485,10 +485,10 @@ module _ {Past : Whole → Type 0} {log : Log} {v w : View} {r q : Registrar} {f
           let same : t.about.number ≡ v.about.number = ap (λ (z : Key). z.number) all_learns.about in
           let above = span.begins.above in
           record {
-            each = at_places (λ i y. TellsLane x k (rows_of_lane x.log k.from k.to (i + 1)) y.works y.items) first' after
-                (tells_first x m)
-                (λ i y at. subst (λ (n : ℕ). TellsLane x k (rows_of_lane x.log k.from k.to n) y.works y.items)
-                (let same : i + 2 ≡ suc i + 1 = omega arith in same) (tells_others few x m i y at));
+            each = at_places (λ i y. SaysLane x k (rows_of_lane x.log k.from k.to (i + 1)) y.works y.items) first' after
+                (says_first x m)
+                (λ i y at. subst (λ (n : ℕ). SaysLane x k (rows_of_lane x.log k.from k.to n) y.works y.items)
+                (let same : i + 2 ≡ suc i + 1 = omega arith in same) (says_others few x m i y at));
             own = subst (StoresByLanes k x.log) many
                 (subst (λ (to : ℕ). StoresByLanes (record k { to = to }) x.log (length before + 1)) (sym ends)
                 (will_own past t k.from last.to (length before + 1) has_end (omega arith) own_of_lanes x m));

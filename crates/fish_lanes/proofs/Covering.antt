@@ -48,9 +48,9 @@ AreListed told definitions = (id : ℕ) (row : CatRow) → slice_get told id ≡
     → (l : Listed) × (slice_get definitions id ≡ Some l) × (l.def ≡ row.def)
 
 -- so it is of the rows of a registry that the pass knew, at each later version
-pub are_listed : (v u : View) (r : Registry) (known : Known) (ask : Ask) (place : ℕ) → Stands u → Learns v u
-    → KnowsRegistry v r → IsNamed v u known ask place → AreListed r.rows (rows_of known)
-are_listed v u r known ask place stands learns registry named id row there =
+pub are_listed : (v u : View) (r : Registry) (known : Known) (ask : Ask) (position : ℕ) → Stands u → Learns v u
+    → KnowsRegistry v r → IsNamed v u known ask position → AreListed r.rows (rows_of known)
+are_listed v u r known ask position stands learns registry named id row there =
     let reached = registry.reached in
     let least = named.least in
     texts_law u r.version (version_of known) (map listed_of r.rows) (rows_of known) stands (omega arith)
@@ -63,11 +63,11 @@ module _ (v u : View) (told rows : List CatRow) (definitions : List Listed) (tex
     (plan : List Piece) (on : Learns v u) (read : AreReadBounds v told) (listed : AreListed told definitions)
     (bounds : AreBoundsIn u rows) (h : IsCovered v u definitions text from settled to plan) where
   -- a piece by an index lies within the interval of its row
-  pub cover_indexed : (place id begin end : ℕ) → slice_get plan place ≡ Some (Index id begin end)
+  pub cover_indexed : (position id begin end : ℕ) → slice_get plan position ≡ Some (Index id begin end)
       → IsIndexPiece told rows id begin end
-  cover_indexed place id begin end there =
-      let i = index_inside plan from settled to h.intervals h.cover place id begin end there in
-      let w = piece_within plan from to place (Index id begin end) h.cover.fill there in
+  cover_indexed position id begin end there =
+      let i = index_inside plan from settled to h.intervals h.cover position id begin end there in
+      let w = piece_within plan from to position (Index id begin end) h.cover.fill there in
       let some_ = w.1 in
       let x : Interval = i.4 in
       let among = at_among h.intervals i.3 x i.5 in
@@ -103,7 +103,7 @@ module _ (v u : View) (told rows : List CatRow) (definitions : List Listed) (tex
       let early = c.begun.early in
       let at = among_at h.intervals x known.1 in
       record {
-        place = at.0;
+        position = at.0;
         interval = x;
         there = at.1;
         holds = record {
@@ -121,10 +121,10 @@ module _ (v u : View) (told rows : List CatRow) (definitions : List Listed) (tex
       below (Some t) f = f t refl
 
   -- so it is in no full piece below what was settled
-  pub cover_full : (place begin end n : ℕ) → slice_get plan place ≡ Some (Full begin end) → begin ≤ n → n < end
+  pub cover_full : (position begin end n : ℕ) → slice_get plan position ≡ Some (Full begin end) → begin ≤ n → n < end
       → n < settled → ¬ IsCoveredNumber told rows text n
-  cover_full place begin end n there low high below c =
-      let i = held_is_indexed plan from settled to h.intervals h.cover n place below (covered_held n c)
+  cover_full position begin end n there low high below c =
+      let i = held_is_indexed plan from settled to h.intervals h.cover n position below (covered_held n c)
       (record { piece = Full begin end; there = there; begins = low; ends = high }) in
       let bad = some_once (Full begin end) (Index i.0 i.1 i.2) (sym there ∙ i.3) in cc
 
@@ -135,19 +135,19 @@ pub plan_so : (v u : View) (told rows : List CatRow) (definitions : List Listed)
     (plan : List Piece) (start : ℕ) → Learns v u → AreReadBounds v told → AreListed told definitions → AreBoundsIn u rows
     → start ≤ settled → IsPlan v u definitions text way from settled to plan → IsPlanOf told rows start text way plan
 plan_so v u told rows definitions text how.Full from settled to plan start on read listed bounds low h = record {
-  indexed = λ place id begin end there. absurd (no_index from to place id begin end (Rattle.std.proofs.Common.nat_lt from to)
-      (subst (λ (z : List Piece). slice_get z place ≡ Some (Index id begin end)) h there));
+  indexed = λ position id begin end there. absurd (no_index from to position id begin end (Rattle.std.proofs.Common.nat_lt from to)
+      (subst (λ (z : List Piece). slice_get z position ≡ Some (Index id begin end)) h there));
   full = λ ne. absurd (ne refl);
 }
 plan_so v u told rows definitions text how.Auto from settled to plan start on read listed bounds low h = record {
   indexed = cover_indexed v u told rows definitions text from settled to plan on read listed bounds h;
-  full = λ ne place begin end n there a b less. cover_full v u told rows definitions text from settled to plan on read listed
-      bounds h place begin end n there a b (omega arith);
+  full = λ ne position begin end n there a b less. cover_full v u told rows definitions text from settled to plan on read listed
+      bounds h position begin end n there a b (omega arith);
 }
 plan_so v u told rows definitions text how.Index from settled to plan start on read listed bounds low h = record {
   indexed = cover_indexed v u told rows definitions text from settled to plan on read listed bounds h.0;
-  full = λ ne place begin end n there a b less. cover_full v u told rows definitions text from settled to plan on read listed
-      bounds h.0 place begin end n there a b (omega arith);
+  full = λ ne position begin end n there a b less. cover_full v u told rows definitions text from settled to plan on read listed
+      bounds h.0 position begin end n there a b (omega arith);
 }
 
 -- and so does a gap in what covers it
@@ -157,7 +157,7 @@ pub gap_so : (v u : View) (told rows : List CatRow) (definitions : List Listed) 
     → HoldsNone told rows text begin end
 gap_so v u told rows definitions text from settled to plan begin end on read listed bounds h gap n low high =
     let below = gap.gap.below in
-    cover_full v u told rows definitions text from settled to plan on read listed bounds h gap.place begin end n gap.gap.there
+    cover_full v u told rows definitions text from settled to plan on read listed bounds h gap.position begin end n gap.gap.there
     low high (omega arith)
 
 -- ---- the intervals of the rows
@@ -215,21 +215,21 @@ module _ (v u : View) (rows : List CatRow) (definitions : List Listed) (text : L
       subst (λ (z : Interval). Among z h.intervals)
       (λ j. let z : Interval = record { id = known.2 j; from = begins j; to = ends j } in z) known.1
 
-  place_of : (x : Interval) (i : ℕ) → slice_get h.intervals i ≡ Some x → (k : ℕ) × (slice_get xs k ≡ Some x)
-  place_of x i at = of.complete x (loaded_of x (at_among h.intervals i x at))
+  position_of : (x : Interval) (i : ℕ) → slice_get h.intervals i ≡ Some x → (k : ℕ) × (slice_get xs k ≡ Some x)
+  position_of x i at = of.complete x (loaded_of x (at_among h.intervals i x at))
 
   place_in : (y : Interval) (i : ℕ) → slice_get xs i ≡ Some y → (k : ℕ) × (slice_get h.intervals k ≡ Some y)
   place_in y i at = among_at h.intervals y (of_loaded y i at)
 
   right_by : (x : Piece) → IsRight h.intervals from settled x → IsRight xs from settled x
   right_by (Index id first end) i =
-      let p = place_of i.interval i.oldest.place i.oldest.there in
+      let p = position_of i.interval i.oldest.position i.oldest.there in
       record {
         below = i.below;
         interval = i.interval;
         named = i.named;
         oldest = record {
-          place = p.0;
+          position = p.0;
           there = p.1;
           holds = i.oldest.holds;
           ahead = λ k y at holds. let q = place_in y k at in i.oldest.ahead q.0 y q.1 holds;
@@ -237,8 +237,8 @@ module _ (v u : View) (rows : List CatRow) (definitions : List Listed) (text : L
         begins = i.begins;
       }
   right_by (Full first end) f = λ less n low high held.
-      let q = place_in held.interval held.place held.there in
-      f less n low high (record { place = q.0; interval = held.interval; there = q.1; holds = held.holds })
+      let q = place_in held.interval held.position held.there in
+      f less n low high (record { position = q.0; interval = held.interval; there = q.1; holds = held.holds })
 
   -- so the plan is the cover by them
   pub cover_by : IsCover plan from settled to xs

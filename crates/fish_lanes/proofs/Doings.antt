@@ -7,7 +7,7 @@ use Rattle.std.proofs.Math.Decide.{dec_lt}
 use Rattle.fish_catalog.specs.Limits.{most_active}
 use Rattle.fish_catalog.specs.Rows.{HasActive, is_active}
 use Rattle.fish_lanes.proofs.Registrations.{begun_is, few_versions, none_id, none_waits, waits_id}
-use Rattle.fish_lanes.specs.within.Controlling.{Does, RollsBy, TellsBegun, TellsTail, deregister_cause, register_cause}
+use Rattle.fish_lanes.specs.within.Controlling.{Does, RollsBy, SaysBegun, SaysTail, deregister_cause, register_cause}
 use Rattle.fish_lanes.specs.Registering.{IsDeregisterCause, IsRegisterCause, KnowsRegistry, MayChange, MayRegister}
 use Rattle.fish_lanes.specs.Registering.{Registry, begun, bound, registry_of, waiting_id}
 use Rattle.fish_lang.specs.Canonical.{definition_text}
@@ -129,7 +129,7 @@ module _ {A : Type 0} (v : View) (r : Registrar) (result : Result A RegRefusal)
   deregister_so name unknown refusal.OutOfMemory cause is because = absurd cc
 
 -- where the tail was the same before, a boundary is at it
-pub tail_before : (v u : View) (x : Item) → u.tail ≡ v.tail → TellsTail u x → TellsTail v x
+pub tail_before : (v u : View) (x : Item) → u.tail ≡ v.tail → SaysTail u x → SaysTail v x
 tail_before v u (item.Registered name id from def) same h = same_tail v u from same h
 tail_before v u (item.Deregistered name id to) same h = same_tail v u to same h
 tail_before v u x same h = tt
@@ -154,7 +154,7 @@ module _ (v u t : View) (r q s : Registrar) (name text : List ℕ) (def : Def) (
     (begins : HasBegun v r name def u q id) (is_text : text ≡ definition_text (definition_of def))
     (may : MayRegister (registry_of v r) name) (count : v.learned.count ≤ u.learned.count) where
   -- its item does what it tells
-  pub does_begun : TellsBegun u q t s name id text x → Does v r t s x
+  pub does_begun : SaysBegun u q t s name id text x → Does v r t s x
   does_begun (known, inl (seat, older, is, less, same)) =
       let version = begins.version in
       let begun_here : registry_of t s ≡ begun (registry_of v r) id name text =

@@ -9,18 +9,18 @@ use Rattle.fish_lanes.proofs.Items.{made, shown_in}
 use Rattle.fish_lanes.proofs.Publishing.{published_later, settled_published, told_published}
 use Rattle.fish_lanes.proofs.RowLists.{ascends_le}
 use Rattle.fish_lanes.specs.within.Doing.{FitsCheckpoint, FitsRefused, IsFit}
-pub use Rattle.fish_lanes.specs.within.Advancing.{HasTold}
-use Rattle.fish_lanes.specs.within.Gains.{AreTold}
+pub use Rattle.fish_lanes.specs.within.Advancing.{HasAnswered}
+use Rattle.fish_lanes.specs.within.Gains.{AreKnown}
 use Rattle.fish_lanes.specs.within.Published.{IsPublished}
 use Rattle.fish_lanes.specs.Records.{HasNumber, LaneRow}
 use Rattle.fish_lanes.specs.within.Records.{Ascends, entry_of}
-use Rattle.fish_lanes.specs.Scanning.{TellsRefused}
+use Rattle.fish_lanes.specs.Scanning.{SaysRefused}
 use Rattle.fish_lanes.specs.Seen.{IsSeen}
-use Rattle.fish_lanes.specs.Sizes.{IsEarlier, IsSizeOf, TellsClaim, claim_of}
+use Rattle.fish_lanes.specs.Sizes.{IsEarlier, IsSizeOf, SaysClaim, claim_of}
 use Rattle.fish_lanes.specs.within.Sizes.{IsSizeBetween}
 use Rattle.fish_lanes.specs.Spans.{Span}
 use Rattle.fish_lanes.specs.within.Spans.{IsWithinSpan}
-use Rattle.fish_lanes.specs.Telling.{TellsItem}
+use Rattle.fish_lanes.specs.Telling.{SaysItem}
 use Rattle.fish_lanes.specs.declared.work.Work.{Work}
 use Rattle.fish_lanes.specs.declared.work.Work.TheVariants as work
 use Rattle.fish_report.specs.declared.item.Item.{Item}
@@ -30,7 +30,7 @@ use Rattle.fish_rule.proofs.laws.ClosedLogs.{always_closed}
 use Rattle.fish_rule.proofs.laws.Learning.{learns_both}
 use Rattle.fish_rule.proofs.laws.Moments.{before_mark}
 use Rattle.fish_rule.specs.LoadSteps.{IsAlone}
-use Rattle.fish_rule.specs.Logs.{Learns, TellsMark}
+use Rattle.fish_rule.specs.Logs.{Learns, KnowsMark}
 use Rattle.fish_rule.specs.Parts.{IsEntryWord}
 use Rattle.fish_rule.specs.Regions.{code}
 use Rattle.fish_rule.specs.World.{high}
@@ -44,7 +44,7 @@ use Rattle.fish_whole.proofs.Wholes.{sure_rows}
 use Rattle.fish_whole.specs.Whole.{Sure, SureUpTo, Whole}
 
 -- none
-pub told_self : (Past : Whole → Type 0) (v : View) → v.epoch ≡ Out → v.flight ≡ None → HasTold Past v v [] []
+pub told_self : (Past : Whole → Type 0) (v : View) → v.epoch ≡ Out → v.flight ≡ None → HasAnswered Past v v [] []
 told_self Past v outside idle = record {
   rows = [];
   gains = gains_self v outside idle;
@@ -60,7 +60,7 @@ told_self Past v outside idle = record {
 -- ---- what was seen
 
 -- a row that is told is published
-row_published : (v : View) (lane from to n : ℕ) (rows : List LaneRow) → AreTold v lane rows → Ascends from rows to
+row_published : (v : View) (lane from to n : ℕ) (rows : List LaneRow) → AreKnown v lane rows → Ascends from rows to
     → to ≤ v.learned.count → HasNumber n rows → IsPublished v n
 row_published v lane from to n [] told up few h = elim h [ ]
 row_published v lane from to n (r ∷ rows) told up few (inl e) =
@@ -77,7 +77,7 @@ row_below to from n (r ∷ rows) up (inr m) = row_below to (suc r.number) n rows
 
 -- what was seen of the table is published
 seen_published : {Past : Whole → Type 0} (v u : View) (works : List Work) (items : List Item) (from : ℕ)
-    → (h : HasTold Past v u works items)
+    → (h : HasAnswered Past v u works items)
     → from ≤ v.learned.settled → from ≤ v.learned.count → (n : ℕ) → IsSeen from h.rows (shown_in items) n → u.about.number ≤ n
     → IsPublished u n
 seen_published v u works items from h less counted n (inl under) low =
@@ -89,7 +89,7 @@ seen_published v u works items from h less counted n (inr (inr s)) low = h.shown
 
 -- ---- what one item tells
 
-module _ (Past : Whole → Type 0) (v u t : View) (works : List Work) (items : List Item) (s : Span) (h : HasTold Past v u works items)
+module _ (Past : Whole → Type 0) (v u t : View) (works : List Work) (items : List Item) (s : Span) (h : HasAnswered Past v u works items)
     (on : Learns u t) (within : IsWithinSpan v t s) (was : s.full ≡ v.shut) (past : Whole) where
   -- of one table
   number_is : u.about.number ≡ v.about.number
@@ -135,7 +135,7 @@ module _ (Past : Whole → Type 0) (v u t : View) (works : List Work) (items : L
 
   -- what a refusal tells
   refusal_told : (ask : Ask) (refused : List ℕ → ℕ → ScanCause → Item) (x : Item) → FitsRefused u t ask refused x
-      → Sure past t (λ w. TellsRefused w now ask refused x)
+      → Sure past t (λ w. SaysRefused w now ask refused x)
   refusal_told ask refused x f w m =
       let at = version_now f.version (refused_version u t ask f.version f.why f.fits) in
       record {
@@ -153,7 +153,7 @@ module _ (Past : Whole → Type 0) (v u t : View) (works : List Work) (items : L
       → Sure past t (λ w. IsEarlier now (shown_in items) line lines end ⊎ IsSizeOf w now form payload lines)
   size_told form payload line lines end (inl same) w m = inl
       (⊎_elim (λ (first : v.shut ≡ Some (claim_of line lines end)). inl (was ∙ first))
-      (λ (told : TellsClaim (claim_of line lines end) items). inr (claim_shown (claim_of line lines end) items told))
+      (λ (told : SaysClaim (claim_of line lines end) items). inr (claim_shown (claim_of line lines end) items told))
       (h.shuts (claim_of line lines end) same))
   size_told form payload line lines end (inr b) w m =
       let at = version_now b.version (b.least, b.knows.reached) in
@@ -171,7 +171,7 @@ module _ (Past : Whole → Type 0) (v u t : View) (works : List Work) (items : L
       let claimed = e.3 in
       let under = row_below u.learned.count v.learned.count n h.rows h.gains.ascends has in
       ⊎_elim (λ (all : f.count ≡ e.0). omega arith)
-      (λ (mark : (f.count < e.0) × TellsMark t f.count).
+      (λ (mark : (f.count < e.0) × KnowsMark t f.count).
       let same = number_is in
       let then : m.last.about.number ≡ u.about.number = ap (λ (z : Key). z.number) (m.learns.about ∙ on.about) in
       let above = within.above in
@@ -185,7 +185,7 @@ module _ (Past : Whole → Type 0) (v u t : View) (works : List Work) (items : L
 
   -- what fits is told
   pub item_told : Past past → (w : Work) (x : Item) → IsFit Past u t w x
-      → SureUpTo past t s.to (λ z. TellsItem z now h.rows (shown_in items) w x)
+      → SureUpTo past t s.to (λ z. SaysItem z now h.rows (shown_in items) w x)
   item_told behind (work.Register name def) x f w m far = f
   item_told behind (work.Deregister name) x f w m far = f
   item_told behind (work.Ingest form begin name file) x (inl s) w m far = inl s

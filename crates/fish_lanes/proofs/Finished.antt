@@ -9,7 +9,7 @@ use Rattle.fish_lanes.proofs.SoFar.{far_self}
 use Rattle.fish_lanes.specs.within.Advancing.{HasFinished, HasGone, IsOn, IsOnAnyhow, IsShort, IsSoFar}
 use Rattle.fish_lanes.specs.Causes.{HasCause, IsUndamaged}
 use Rattle.fish_lanes.specs.Full.{IsNotFull}
-use Rattle.fish_lanes.specs.within.Full.{TellsLast}
+use Rattle.fish_lanes.specs.within.Full.{SaysLast}
 use Rattle.fish_lanes.specs.Outcome.{Stops}
 use Rattle.fish_lanes.specs.within.Pasts.{WasHere}
 use Rattle.fish_lanes.specs.within.Running.{CanBegin, HasDone, HasRun, SayPlans}
@@ -92,7 +92,7 @@ done_both Past P full log x y z fewer empty gone can told fin =
       stops = record {
         cut = λ some. let cut = fin.cut (gone.answers (subst (AllOf IsAnswer) (sym empty) tt)) some in
             record { fault = cut.0; unshut = unshut_test start.shut (sym told ∙ cut.1); shut = cut.2 };
-        last = λ unshut. fin.last (told ∙ ap is_some unshut) (subst (λ (s : Seated). TellsLast (view s.pass) y.items y.fault) seat
+        last = λ unshut. fin.last (told ∙ ap is_some unshut) (subst (λ (s : Seated). SaysLast (view s.pass) y.items y.fault) seat
             (gone.last unshut (subst (AllOf IsNotFull) (sym empty) tt)));
       };
       answers = fin.answers (gone.answers (subst (AllOf IsAnswer) (sym empty) tt));

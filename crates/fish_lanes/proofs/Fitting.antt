@@ -44,7 +44,7 @@ refused_version v u ask version cause.UnknownName s =
 refused_version v u ask version (cause.EmptyRange from to) s =
     named_version v u s.known ask version s.refused.1.0 s.version_is s.refused.1.1
 refused_version v u ask version (cause.NotCovered from to) s =
-    named_version v u s.known ask version s.refused.1.place s.version_is s.refused.1.asked.named
+    named_version v u s.known ask version s.refused.1.position s.version_is s.refused.1.asked.named
 
 -- what an item tells of a refusal is why it was refused
 pub refused_fits : (v u : View) (known : Known) (ask : Ask) (r : ScanRefusal) (version : ℕ) (why : ScanCause)

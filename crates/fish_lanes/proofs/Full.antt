@@ -9,12 +9,12 @@ use Rattle.fish_lanes.specs.within.Causes.{fault_at}
 use Rattle.fish_lanes.specs.within.Controlling.{HasPolled}
 use Rattle.fish_lanes.specs.within.Doing.{IsFit}
 use Rattle.fish_lanes.specs.Full.{AreFullLast, EndsFull, IsNotFull}
-use Rattle.fish_lanes.specs.within.Full.{HasFound, TellsLast}
+use Rattle.fish_lanes.specs.within.Full.{HasFound, SaysLast}
 use Rattle.fish_lanes.specs.Gains.{WasShut}
 use Rattle.fish_lanes.specs.within.Pasts.{anywhere}
 use Rattle.fish_lanes.specs.within.Running.{IsFullItem}
-use Rattle.fish_lanes.specs.Sizes.{TellsClaim}
-use Rattle.fish_lanes.specs.within.Sizes.{TellsShut}
+use Rattle.fish_lanes.specs.Sizes.{SaysClaim}
+use Rattle.fish_lanes.specs.within.Sizes.{SaysShut}
 use Rattle.fish_lanes.specs.declared.statements.Stop.{Stop}
 use Rattle.fish_lanes.specs.declared.statements.Stop.TheVariants as stop
 use Rattle.fish_lanes.specs.declared.work.LaneFault.{LaneFault}
@@ -63,7 +63,7 @@ not_full t (item.IngestFull file line lines end stored refused) h none =
 not_full t x h none = tt
 
 -- an item that tells of a claim, after others that tell of none
-ends_full : (c : Shut) (items : List Item) (x : Item) → AllOf IsNotFull items → TellsClaim c (x ∷ []) → EndsFull (items ++ x ∷ [])
+ends_full : (c : Shut) (items : List Item) (x : Item) → AllOf IsNotFull items → SaysClaim c (x ∷ []) → EndsFull (items ++ x ∷ [])
 ends_full c items x none (file, stored, refused, inl e) = record {
   front = items;
   file = file;
@@ -79,13 +79,13 @@ ends_full c items x none (file, stored, refused, inr m) = elim m [ ]
 
 -- so is it with the item of one statement more, where the pass wasn't shut before
 pub found_more : (Past : Whole → Type 0) (u t : View) (w : Work) (items : List Item) (x : Item) → u.shut ≡ None → AllOf IsNotFull items
-    → IsFit Past u t w x → TellsShut u t (x ∷ []) → HasFound t (items ++ x ∷ [])
+    → IsFit Past u t w x → SaysShut u t (x ∷ []) → HasFound t (items ++ x ∷ [])
 found_more Past u t w items x unshut none fit shuts = by t.shut refl
   where
     by : (o : Option Shut) → t.shut ≡ o → HasFound t (items ++ x ∷ [])
     by None e = inl (e, all_more IsNotFull items x none (not_full t x (full_fit Past u t w x fit) e))
     by (Some c) e = ⊎_elim (λ (old : u.shut ≡ Some c). absurd (not_both u unshut (c, old)))
-        (λ (claim : TellsClaim c (x ∷ [])). inr ((c, e), ends_full c items x none claim)) (shuts c e)
+        (λ (claim : SaysClaim c (x ∷ [])). inr ((c, e), ends_full c items x none claim)) (shuts c e)
 
 -- the items of a pass that isn't shut
 pub found_none : (u : View) (items : List Item) → HasFound u items → u.shut ≡ None → AllOf IsNotFull items
@@ -107,11 +107,11 @@ found_last u items (inl h) = inl h.1
 found_last u items (inr h) = inr h.1
 
 -- what a lane tells that met no fault, or any
-pub found_tells : (u : View) (items : List Item) (why : LaneFault) → HasFound u items → TellsLast u items why
+pub found_tells : (u : View) (items : List Item) (why : LaneFault) → HasFound u items → SaysLast u items why
 found_tells u items why h = record { full = found_last u items h; found = λ e. h }
 
 -- and one that stopped at a fault
-pub fault_tells : (u : View) (items : List Item) (why : LaneFault) → why ≢ fault.None → AllOf IsNotFull items → TellsLast u items why
+pub fault_tells : (u : View) (items : List Item) (why : LaneFault) → why ≢ fault.None → AllOf IsNotFull items → SaysLast u items why
 fault_tells u items why named none = record { full = inl none; found = λ e. absurd (named e) }
 
 -- ---- one statement of a lane after the first
@@ -122,8 +122,8 @@ module _ (u t : View) (w : Work) (old new : List Item) (unshut : u.shut ≡ None
   next_found done n = subst (HasFound t) (sym n.1) (found_more anywhere u t w old n.0 unshut none n.2.fit n.2.shuts)
 
   -- it has none: memory ran out, or it is a scan of older records
-  pub stopped_found : (why : Stop) → HasNext u t w old new (Err why) → TellsLast t new (fault_at why)
-  stopped_found stop.Memory n = subst (λ (z : List Item). TellsLast t z fault.Memory) (sym n.0)
+  pub stopped_found : (why : Stop) → HasNext u t w old new (Err why) → SaysLast t new (fault_at why)
+  stopped_found stop.Memory n = subst (λ (z : List Item). SaysLast t z fault.Memory) (sym n.0)
       (fault_tells t old fault.Memory (λ e. absurd cc) none)
   stopped_found stop.Older n = found_tells t new fault.None
       (subst (HasFound t) (sym n.0) (inl (ap (λ (z : View). z.shut) n.1.2.frame ∙ unshut, none)))

@@ -8,8 +8,8 @@ use Rattle.fish_ingest.specs.declared.refusal.IngestRefusal.TheVariants as refus
 use Rattle.fish_ingest.specs.Ingestion.{CanStart, HasIngested}
 use Rattle.fish_lanes.proofs.RowLists.{ascends_append, owned_append, told_append, told_later}
 use Rattle.fish_flush.specs.Carrying.{Reads}
-use Rattle.fish_lanes.specs.Gains.{IsMarkAt, IsShutTold, KeepsShut}
-use Rattle.fish_lanes.specs.within.Gains.{AreTold, Gains, IsFullBy, KeepsLane}
+use Rattle.fish_lanes.specs.Gains.{IsMarkAt, IsShutSaid, KeepsShut}
+use Rattle.fish_lanes.specs.within.Gains.{AreKnown, Gains, IsFullBy, KeepsLane}
 use Rattle.fish_lanes.specs.Records.{LaneRow}
 use Rattle.fish_lanes.specs.within.Records.{owned}
 use Rattle.fish_rule.specs.declared.view.Epoch.TheVariants.{Out}
@@ -62,7 +62,7 @@ gains_both a b c xs ys p q = record {
       ∙ ap (λ (z : List Own). a.own ++ z) (sym (owned_append a.lane xs ys));
   ascends = ascends_append a.learned.count b.learned.count c.learned.count xs ys p.ascends q.ascends;
   told = told_append c a.lane xs ys (told_later b c a.lane xs q.on.learns p.told)
-      (subst (λ (z : ℕ). AreTold c z ys) p.on.lane q.told);
+      (subst (λ (z : ℕ). AreKnown c z ys) p.on.lane q.told);
   shut = λ s e. q.shut s (p.shut s e);
   marks = λ t. q.marks (p.marks t);
 }
@@ -77,7 +77,7 @@ keeps_ingests v u h = record {
 }
 
 -- what shut the pass stays known
-pub marks_same : (v u : View) → Learns v u → u.shut ≡ v.shut → IsShutTold v → IsShutTold u
+pub marks_same : (v u : View) → Learns v u → u.shut ≡ v.shut → IsShutSaid v → IsShutSaid u
 marks_same v u learns same t s e = always_later v u (IsMarkAt s.line s.lines) learns (t s (sym same ∙ e))
 
 -- by a record
@@ -95,7 +95,7 @@ gains_one v u form payload number h = record {
 }
 
 -- by a refusal
-pub gains_left : (v u : View) → HasLeft v u → KeepsShut v u → (IsShutTold v → IsShutTold u) → Gains v u []
+pub gains_left : (v u : View) → HasLeft v u → KeepsShut v u → (IsShutSaid v → IsShutSaid u) → Gains v u []
 gains_left v u h keeps marks = record {
   on = keeps_ingests v u h.on;
   outside = h.outside;
@@ -191,7 +191,7 @@ mark_always u s (n, m) x learns w r seat at r' =
     (n, all_among (IsFound x.about w.count w.dir r'.start) _ x.learned.found (r'.facts seat x at).found (learns.found _ m))
 
 pub marks_refused : (v u : View) (form : Form) (payload : List ℕ) (e : IngestRefusal) → HasRefused v form payload e u
-    → IsShutTold v → IsShutTold u
+    → IsShutSaid v → IsShutSaid u
 marks_refused v u form payload refusal.TooLong h t s e = marks_same v u h.left.on.learns h.shut t s e
 marks_refused v u form payload refusal.NotRecord h t s e = marks_same v u h.left.on.learns h.shut t s e
 marks_refused v u form payload refusal.OutOfMemory h t s e = marks_same v u h.left.on.learns h.shut t s e

@@ -7,14 +7,14 @@ use Rattle.fish_flush.proofs.Lasting.{grown_begins, grown_ends, grown_polls}
 use Rattle.fish_flush.specs.Rows.{HaveGrown}
 use Rattle.fish_lang.specs.declared.definition.Def.{Def}
 use Rattle.fish_registry.specs.Changing.{Changes}
-use Rattle.fish_registry.specs.Refusing.{HasBegun, PollTells}
+use Rattle.fish_registry.specs.Refusing.{HasBegun, PollSays}
 use Rattle.fish_registry.specs.declared.outcome.Poll.{Poll}
 use Rattle.fish_registry.specs.declared.registrar.Registrar.{Registrar}
 use Rattle.fish_rule.specs.declared.view.View.{View}
 use Rattle.fish_store.specs.Sound.{RowsGoOn}
 
 -- a look at the lanes
-pub rows_polled : (v u : View) (r s : Registrar) (answer : Poll) → Changes v u → PollTells v r u s answer
+pub rows_polled : (v u : View) (r s : Registrar) (answer : Poll) → Changes v u → PollSays v r u s answer
     → RowsGoOn v r.catalog s.catalog
 rows_polled v u r s answer changes tells n old le grown = grown_polls n old v u r s answer grown le changes tells
 

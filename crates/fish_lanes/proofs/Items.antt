@@ -1,11 +1,11 @@
 -- One statement more.
 use Rattle.std.proofs.Common.{◌≡◌, ◌+◌, ℕ, arith, List, [], ◌∷◌, ◌++◌, refl, sym, ap, ◌∙◌, subst}
 use Rattle.std.proofs.Common.{append_assoc, append-nil, take}
-pub use Rattle.fish_lanes.specs.within.Advancing.{TellsAll, made, shown_in}
+pub use Rattle.fish_lanes.specs.within.Advancing.{SaysAll, made, shown_in}
 use Rattle.fish_lanes.specs.Records.{LaneRow, contents}
 use Rattle.fish_lanes.specs.Seen.{Shown, shown_by}
 use Rattle.fish_lanes.specs.Spans.{Span, behind, made_by}
-use Rattle.fish_lanes.specs.Telling.{TellsItem, TellsItems, content_of, count_of}
+use Rattle.fish_lanes.specs.Telling.{SaysItem, SaysItems, content_of, count_of}
 use Rattle.fish_lanes.specs.declared.work.Work.{Work}
 use Rattle.fish_report.specs.declared.item.Item.{Item}
 use Rattle.fish_whole.specs.Whole.{Whole}
@@ -27,31 +27,31 @@ behind_is (x ∷ items) s = behind_is items (behind x s)
     (let e : s.first + made_by x + made items ≡ s.first + (made_by x + made items) = omega arith in e)
 
 -- one more behind them
-pub tells_more : (z : Whole) (s : Span) (before : List LaneRow) (shown : List Shown) (rows more : List LaneRow)
+pub says_more : (z : Whole) (s : Span) (before : List LaneRow) (shown : List Shown) (rows more : List LaneRow)
     (works : List Work) (items : List Item) (w : Work) (x : Item)
-    → TellsAll z s before shown rows works items
+    → SaysAll z s before shown rows works items
     → contents more ≡ take (count_of x) (content_of w)
-    → TellsItem z (behind_all items s) (before ++ rows) (shown ++ shown_in items) w x
-    → TellsAll z s before shown (rows ++ more) (works ++ w ∷ []) (items ++ x ∷ [])
-tells_more z s before shown rows more [] [] w x none same tells = (
+    → SaysItem z (behind_all items s) (before ++ rows) (shown ++ shown_in items) w x
+    → SaysAll z s before shown (rows ++ more) (works ++ w ∷ []) (items ++ x ∷ [])
+says_more z s before shown rows more [] [] w x none same tells = (
   more,
   [],
   ap (λ (z : List LaneRow). z ++ more) none ∙ sym (append-nil more),
   same,
-  subst (λ (p : List LaneRow × List Shown). TellsItem z s p.0 p.1 w x)
+  subst (λ (p : List LaneRow × List Shown). SaysItem z s p.0 p.1 w x)
       (λ i. ((ap (λ (z : List LaneRow). before ++ z) none ∙ append-nil before) i, append-nil shown i)) tells,
   refl,
 )
-tells_more z s before shown rows more [] (y ∷ items) w x none same tells = elim none [ ]
-tells_more z s before shown rows more (w2 ∷ works) [] w x none same tells = elim none [ ]
-tells_more z s before shown rows more (w2 ∷ works) (y ∷ items) w x (mine, rest, parts, mine_is, here, there) same tells = (
+says_more z s before shown rows more [] (y ∷ items) w x none same tells = elim none [ ]
+says_more z s before shown rows more (w2 ∷ works) [] w x none same tells = elim none [ ]
+says_more z s before shown rows more (w2 ∷ works) (y ∷ items) w x (mine, rest, parts, mine_is, here, there) same tells = (
   mine,
   rest ++ more,
   ap (λ (z : List LaneRow). z ++ more) parts ∙ append_assoc mine rest more,
   mine_is,
   here,
-  tells_more z (behind y s) (before ++ mine) (shown ++ shown_by y) rest more works items w x there same
-      (subst (λ (p : List LaneRow × List Shown). TellsItem z (behind_all items (behind y s)) p.0 p.1 w x)
+  says_more z (behind y s) (before ++ mine) (shown ++ shown_by y) rest more works items w x there same
+      (subst (λ (p : List LaneRow × List Shown). SaysItem z (behind_all items (behind y s)) p.0 p.1 w x)
       (λ i. (
         (ap (λ (z : List LaneRow). before ++ z) parts ∙ sym (append_assoc before mine rest)) i,
         sym (append_assoc shown (shown_by y) (shown_in items)) i,
@@ -59,35 +59,35 @@ tells_more z s before shown rows more (w2 ∷ works) (y ∷ items) w x (mine, re
 )
 
 -- with nothing behind them the lane ended
-pub tells_ended : (z : Whole) (s : Span) (before : List LaneRow) (shown : List Shown) (rows : List LaneRow)
-    (works : List Work) (items : List Item) → TellsAll z s before shown rows works items
-    → TellsItems z s before shown rows works items
-tells_ended z s before shown rows [] [] h = h
-tells_ended z s before shown rows [] (x ∷ items) h = elim h [ ]
-tells_ended z s before shown rows (w ∷ works) [] h = elim h [ ]
-tells_ended z s before shown rows (w ∷ works) (x ∷ items) (mine, rest, parts, mine_is, here, there) = (
+pub says_ended : (z : Whole) (s : Span) (before : List LaneRow) (shown : List Shown) (rows : List LaneRow)
+    (works : List Work) (items : List Item) → SaysAll z s before shown rows works items
+    → SaysItems z s before shown rows works items
+says_ended z s before shown rows [] [] h = h
+says_ended z s before shown rows [] (x ∷ items) h = elim h [ ]
+says_ended z s before shown rows (w ∷ works) [] h = elim h [ ]
+says_ended z s before shown rows (w ∷ works) (x ∷ items) (mine, rest, parts, mine_is, here, there) = (
   mine,
   rest,
   parts,
   mine_is,
   here,
-  tells_ended z (behind x s) (before ++ mine) (shown ++ shown_by x) rest works items there,
+  says_ended z (behind x s) (before ++ mine) (shown ++ shown_by x) rest works items there,
 )
 
 -- with a part of the next statement it was cut
-pub tells_cut : (z : Whole) (s : Span) (before : List LaneRow) (shown : List Shown) (rows more : List LaneRow)
+pub says_cut : (z : Whole) (s : Span) (before : List LaneRow) (shown : List Shown) (rows more : List LaneRow)
     (works : List Work) (items : List Item) (w : Work) (later : List Work) (j : ℕ)
-    → TellsAll z s before shown rows works items → contents more ≡ take j (content_of w)
-    → TellsItems z s before shown (rows ++ more) (works ++ w ∷ later) items
-tells_cut z s before shown rows more [] [] w later j none part =
+    → SaysAll z s before shown rows works items → contents more ≡ take j (content_of w)
+    → SaysItems z s before shown (rows ++ more) (works ++ w ∷ later) items
+says_cut z s before shown rows more [] [] w later j none part =
     (j, ap (λ (z : List LaneRow). contents (z ++ more)) none ∙ part)
-tells_cut z s before shown rows more [] (y ∷ items) w later j none part = elim none [ ]
-tells_cut z s before shown rows more (w2 ∷ works) [] w later j none part = elim none [ ]
-tells_cut z s before shown rows more (w2 ∷ works) (y ∷ items) w later j (mine, rest, parts, mine_is, here, there) part = (
+says_cut z s before shown rows more [] (y ∷ items) w later j none part = elim none [ ]
+says_cut z s before shown rows more (w2 ∷ works) [] w later j none part = elim none [ ]
+says_cut z s before shown rows more (w2 ∷ works) (y ∷ items) w later j (mine, rest, parts, mine_is, here, there) part = (
   mine,
   rest ++ more,
   ap (λ (z : List LaneRow). z ++ more) parts ∙ append_assoc mine rest more,
   mine_is,
   here,
-  tells_cut z (behind y s) (before ++ mine) (shown ++ shown_by y) rest more works items w later j there part,
+  says_cut z (behind y s) (before ++ mine) (shown ++ shown_by y) rest more works items w later j there part,
 )

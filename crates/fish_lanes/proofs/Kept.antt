@@ -12,16 +12,16 @@ use Rattle.fish_lanes.proofs.Single.{none_there, only_last}
 use Rattle.fish_lanes.specs.within.Advancing.{IsOn, IsSoFar}
 use Rattle.fish_lanes.specs.Causes.{HasCause, IsUndamaged}
 use Rattle.fish_lanes.specs.within.Controlling.{HasControlled}
-use Rattle.fish_lanes.specs.within.Full.{IsHandedBack, StopsFull, TellsLast, done_of}
+use Rattle.fish_lanes.specs.within.Full.{IsHandedBack, StopsFull, SaysLast, done_of}
 use Rattle.fish_lanes.specs.Gains.{WasShut}
 use Rattle.fish_lanes.specs.Plans.{KnowsRows}
 use Rattle.fish_lanes.specs.Records.{LaneRow, contents}
 use Rattle.fish_lanes.specs.Registering.{registry_of}
 use Rattle.fish_lanes.specs.within.Running.{HasRun, SayPlans}
 use Rattle.fish_lanes.specs.Seen.{Shown, shown_by}
-use Rattle.fish_lanes.specs.Single.{TellsSingle}
+use Rattle.fish_lanes.specs.Single.{SaysSingle}
 use Rattle.fish_lanes.specs.Spans.{IsAnswer, Span, answers, behind, is_answer}
-use Rattle.fish_lanes.specs.Telling.{TellsItems}
+use Rattle.fish_lanes.specs.Telling.{SaysItems}
 use Rattle.fish_lanes.specs.declared.lane.Lane.{Lane}
 use Rattle.fish_lanes.specs.declared.work.LaneFault.{LaneFault}
 use Rattle.fish_lanes.specs.declared.work.LaneFault.TheVariants as fault
@@ -66,19 +66,19 @@ rest_there (w ∷ works) (suc n) less =
 -- ---- fewer items than statements
 
 -- where all items tell of the first statements, they tell of these and of more, of which nothing was done
-tells_short : (z : Whole) (s : Span) (before : List LaneRow) (shown : List Shown) (rows : List LaneRow) (works : List Work)
-    (items : List Item) (w : Work) (later : List Work) → length items ≡ length works → TellsItems z s before shown rows works items
-    → TellsItems z s before shown rows (works ++ w ∷ later) items
-tells_short z s before shown rows [] [] w later size none = (0, ap contents none)
-tells_short z s before shown rows [] (x ∷ items) w later size h = elim h [ ]
-tells_short z s before shown rows (y ∷ works) [] w later size h = absurd (omega arith)
-tells_short z s before shown rows (y ∷ works) (x ∷ items) w later size (mine, rest, parts, mine_is, here, there) = (
+says_short : (z : Whole) (s : Span) (before : List LaneRow) (shown : List Shown) (rows : List LaneRow) (works : List Work)
+    (items : List Item) (w : Work) (later : List Work) → length items ≡ length works → SaysItems z s before shown rows works items
+    → SaysItems z s before shown rows (works ++ w ∷ later) items
+says_short z s before shown rows [] [] w later size none = (0, ap contents none)
+says_short z s before shown rows [] (x ∷ items) w later size h = elim h [ ]
+says_short z s before shown rows (y ∷ works) [] w later size h = absurd (omega arith)
+says_short z s before shown rows (y ∷ works) (x ∷ items) w later size (mine, rest, parts, mine_is, here, there) = (
   mine,
   rest,
   parts,
   mine_is,
   here,
-  tells_short z (behind x s) (before ++ mine) (shown ++ shown_by x) rest works items w later (omega arith) there,
+  says_short z (behind x s) (before ++ mine) (shown ++ shown_by x) rest works items w later (omega arith) there,
 )
 
 -- so a run that met no fault is one of more statements that memory stopped
@@ -90,7 +90,7 @@ run_short v u works items w later h =
       rows = h.rows;
       gains = h.gains;
       tells = λ past behind s within full z m far.
-          tells_short z s [] [] h.rows works (answers items) w later size (h.tells past behind s within full z m far);
+          says_short z s [] [] h.rows works (answers items) w later size (h.tells past behind s within full z m far);
       full = h.full;
       ended = record {
         whole = λ e. absurd cc;
@@ -109,7 +109,7 @@ controlled_short Past v u r s works items w later h =
       run = run_short v u works items w later h.run;
       so = h.so;
       closed = h.closed;
-      only = λ end e wait one is. subst (AllOf (TellsSingle Past v u r.catalog end one))
+      only = λ end e wait one is. subst (AllOf (SaysSingle Past v u r.catalog end one))
           (sym (none_there (answers items) works size (only_last works w later one is).0)) tt;
       plans = λ rows from bounds low. plans_longer (KnowsRows u) (registry_of v r) rows from works (w ∷ later) items size
           (h.plans rows from bounds low);
@@ -159,7 +159,7 @@ handed_whole works kept left many why last (inr (inr h)) whole = subst IsUndamag
 
 -- so its items tell no less of a full log
 pub handed_last : (u : View) (items : List Item) (works kept left : List Work) (many : ℕ) (why last : LaneFault)
-    → IsHandedBack works many why kept left last → TellsLast u items why → TellsLast u items last
+    → IsHandedBack works many why kept left last → SaysLast u items why → SaysLast u items last
 handed_last u items works kept left many why last h tells = record {
   full = tells.full;
   found = λ e. tells.found (handed_none works kept left many why last h e);
@@ -201,7 +201,7 @@ first_handed Past v u r s works kept left items why last h (inr (inr b)) =
 pub first_stops : (v u : View) (works : List Work) (many : ℕ) (why : LaneFault) (y : Lane)
     → IsHandedBack works many why y.works y.left y.fault
     → (why ≡ fault.None → (length works ≤ many) ⊎ ((v.shut ≡ None) × WasShut u))
-    → (v.shut ≡ None → TellsLast u y.items why) → StopsFull v u y
+    → (v.shut ≡ None → SaysLast u y.items why) → StopsFull v u y
 first_stops v u works many why y h all last = record {
   cut = λ some.
       let left = handed_left works y.works y.left many why y.fault h some in
@@ -218,7 +218,7 @@ stops_same v u x y left items why h = record {
   cut = λ some.
       let cut = h.cut (subst (λ (z : List Work). z ≢ []) left some) in
       record { fault = why ∙ cut.fault; unshut = cut.unshut; shut = cut.shut };
-  last = λ unshut. subst (λ (z : List Item × LaneFault). TellsLast u z.0 z.1) (λ i. (sym items i, sym why i)) (h.last unshut);
+  last = λ unshut. subst (λ (z : List Item × LaneFault). SaysLast u z.0 z.1) (λ i. (sym items i, sym why i)) (h.last unshut);
 }
 
 -- where the log was full before, none leaves any

@@ -188,7 +188,7 @@ taken_more log m u t lanes i x joined h at by =
       own = λ o n. ⊎_elim
           (λ (n : Among o u.own). ⊎_elim (λ (k : Among o m.own). inl k)
           (λ (k : IsOfLane lanes i o). let less = k.below in inr (record {
-            place = k.place;
+            position = k.position;
             lane = k.lane;
             seat = k.seat;
             below = omega arith;
@@ -197,7 +197,7 @@ taken_more log m u t lanes i x joined h at by =
             among = k.among;
           })) (h.own o n))
           (λ (n : Among o (view b.seat.pass).own). inr (record {
-            place = i;
+            position = i;
             lane = x;
             seat = b.seat;
             below = omega arith;
@@ -207,7 +207,7 @@ taken_more log m u t lanes i x joined h at by =
           })) (among_either o u.own (view b.seat.pass).own (subst (Among o) own n));
       shut = λ z n. shut_cases z u.shut (view b.seat.pass).shut (λ same. h.shut z same)
           (λ same. record {
-            place = i;
+            position = i;
             lane = x;
             seat = b.seat;
             below = omega arith;
@@ -261,7 +261,7 @@ taken_more log m u t lanes i x joined h at by =
     shut_cases z None c mine other e = inr (other e)
     shut_cases z (Some y) c mine other e = ⊎_elim (λ (k : m.shut ≡ Some z). inl k)
         (λ (k : IsShutOfLane lanes i z). let less = k.below in inr (record {
-          place = k.place;
+          position = k.position;
           lane = k.lane;
           seat = k.seat;
           below = omega arith;

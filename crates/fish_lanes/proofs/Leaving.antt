@@ -19,10 +19,10 @@ use Rattle.fish_lanes.specs.Ending.{HasEnd}
 use Rattle.fish_lanes.specs.Full.{AreFullLast}
 use Rattle.fish_lanes.specs.within.Full.{StopsFull}
 use Rattle.fish_lanes.specs.Gains.{WasShut}
-use Rattle.fish_lanes.specs.Outcome.{HandsBack, IsCutShort, IsFullIn, LanesSayPlans, TellFullLast, TellsShutBy}
+use Rattle.fish_lanes.specs.Outcome.{HandsBack, IsCutShort, IsFullIn, LanesSayPlans, SayFullLast, SaysShutBy}
 use Rattle.fish_lanes.specs.Plans.{AreSoPlans, KnowsRows}
 use Rattle.fish_lanes.specs.Registering.{KnowsRegistry, Registry, registry_of}
-use Rattle.fish_lanes.specs.Sizes.{NamesOneClaim, TellsClaim, claim_of}
+use Rattle.fish_lanes.specs.Sizes.{NamesOneClaim, SaysClaim, claim_of}
 use Rattle.fish_lanes.specs.declared.block.BlockEnd.{BlockEnd}
 use Rattle.fish_lanes.specs.declared.lane.Lane.{Lane}
 use Rattle.fish_lanes.specs.declared.lane.Seated.{Seated}
@@ -105,7 +105,7 @@ module _ {Past : Whole → Type 0} {log : Log} {v w u t : View} {r q kept : Regi
   shut_by nones c e =
       ⊎_elim (λ (k : w.shut ≡ Some c).
       ⊎_elim (λ (same : run.main.shut ≡ Some c). inl (sym run.gives.shut ∙ same))
-      (λ (k : TellsClaim c first'.items). inr (record {
+      (λ (k : SaysClaim c first'.items). inr (record {
         at = 0;
         lane = first';
         lane_is = refl;
@@ -119,15 +119,15 @@ module _ {Past : Whole → Type 0} {log : Log} {v w u t : View} {r q kept : Regi
     where
       lane_shut : IsShutOfLane done (length done) c → (v.shut ≡ Some c) ⊎ IsFullIn (first' ∷ after) c.line c.lines c.end
       lane_shut q =
-          let p = course.way run q.place q.lane q.lane_is in
+          let p = course.way run q.position q.lane q.lane_is in
           let same : q.seat ≡ p.run_of.after = some_once q.seat p.run_of.after (sym q.seat_is ∙ p.run_of.after_is) in
           let less = q.below in
           let size = returned.size in
-          let y = get_there after q.place (omega arith) in
-          let w' = returned.taken q.place q.lane y.0 q.lane_is y.1 in
-          ⊎_elim (λ (k : (view p.run_of.before.pass).shut ≡ Some c). inl (sym (course.way_shut run q.place q.lane p) ∙ k))
-          (λ (k : TellsClaim c q.lane.items). inr (record {
-            at = suc q.place;
+          let y = get_there after q.position (omega arith) in
+          let w' = returned.taken q.position q.lane y.0 q.lane_is y.1 in
+          ⊎_elim (λ (k : (view p.run_of.before.pass).shut ≡ Some c). inl (sym (course.way_shut run q.position q.lane p) ∙ k))
+          (λ (k : SaysClaim c q.lane.items). inr (record {
+            at = suc q.position;
             lane = y.0;
             lane_is = y.1;
             file = k.0;
@@ -135,27 +135,27 @@ module _ {Past : Whole → Type 0} {log : Log} {v w u t : View} {r q kept : Regi
             refused = k.2;
             among = subst (Among (item.IngestFull k.0 c.line c.lines c.end k.1 k.2)) (sym w'.items) k.3;
           }))
-          (p.run_of.run.shuts (sym w'.fault ∙ nones (suc q.place) y.0 y.1) c
+          (p.run_of.run.shuts (sym w'.fault ∙ nones (suc q.position) y.0 y.1) c
           (subst (λ (z : Seated). (view z.pass).shut ≡ Some c) same q.shut_is))
 
   -- where an item tells of a claim, the pass is shut
-  full_shuts : (c : Shut) (at : ℕ) (x : Lane) → slice_get (first' ∷ after) at ≡ Some x → TellsClaim c x.items → WasShut t
+  full_shuts : (c : Shut) (at : ℕ) (x : Lane) → slice_get (first' ∷ after) at ≡ Some x → SaysClaim c x.items → WasShut t
   full_shuts c zero x at told =
       let here = claim_by w c first'.items run.first_did.controlled.run.full
-      (subst (λ (z : Lane). TellsClaim c z.items) (sym (some_once first' x at)) told) in
+      (subst (λ (z : Lane). SaysClaim c z.items) (sym (some_once first' x at)) told) in
       (c, closes.shut ∙ returned.takes.keeps c here)
   full_shuts c (suc i) y at told =
       let z = course.ran_at run returned i y at in
       let p = course.way run i z.0 z.1 in
       let w' = returned.taken i z.0 y z.1 at in
       let s = p.run_of.after in
-      let here = claim_by (view s.pass) c z.0.items p.run_of.run.full (subst (TellsClaim c) w'.items told) in
+      let here = claim_by (view s.pass) c z.0.items p.run_of.run.full (subst (SaysClaim c) w'.items told) in
       let less = slice_get_within done i z.0 z.1 in
       let shut = returned.takes.shuts i z.0 s c less z.1 p.run_of.after_is here in
       (shut.0, closes.shut ∙ shut.1)
 
   -- all that is told of what shuts the pass
-  pub all_shuts : TellsShutBy v t (first' ∷ after)
+  pub all_shuts : SaysShutBy v t (first' ∷ after)
   all_shuts = record {
     by = shut_by;
     keeps = λ c e. closes.shut ∙ returned.takes.keeps c (run.first_did.controlled.run.gains.shut c (run.gives.shut ∙ e));
@@ -196,7 +196,7 @@ module _ {Past : Whole → Type 0} {log : Log} {v w u t : View} {r q kept : Regi
         });
       }
 
-  -- how the lane at a place stopped
+  -- how the lane at a position stopped
   stops_at : (i : ℕ) (y : Lane) → slice_get after i ≡ Some y
       → (s : View) × (e : View) × (s.shut ≡ v.shut) × StopsFull s e y
   stops_at i y at =
@@ -218,7 +218,7 @@ module _ {Past : Whole → Type 0} {log : Log} {v w u t : View} {r q kept : Regi
   all_left (suc i) y at some = (let s = stops_at i y at in cut_short s.0 s.1 (suc i) y at s.2 s.3 some)
 
   -- and none but its last item tells so
-  pub all_last : TellFullLast v (first' ∷ after)
+  pub all_last : SayFullLast v (first' ∷ after)
   all_last unshut = at_places (λ i x. AreFullLast x.items) first' after
       (run.first_did.stops.last (run.gives.shut ∙ unshut)).full
       (λ i y at. let s = stops_at i y at in (s.3.last (s.2 ∙ unshut)).full)

@@ -1,4 +1,4 @@
--- Lanes at their places.
+-- Lanes at their positions.
 use Rattle.std.proofs.Common.{◌≡◌, ◌≢◌, ℕ, ◌<◌, zero, suc, List, [], ◌∷◌, ◌++◌, length, set, get_or, refl, ap, inl, arith, Some}
 use Rattle.std.proofs.Common.{slice_get, sym, subst, ◌∙◌, Bool, true, false}
 use Rattle.std.specs.Prelude.{filter}
@@ -26,7 +26,7 @@ module _ {A : Type 0} where
   all_more P [] x h one = (one, tt)
   all_more P (y ∷ xs) x h one = (h.0, all_more P xs x h.1 one)
 
-  -- what is so of the first, and of the others at their places
+  -- what is so of the first, and of the others at their positions
   pub at_places : (P : ℕ → A → Type 0) (x : A) (xs : List A) → P 0 x → ((i : ℕ) (y : A) → slice_get xs i ≡ Some y → P (suc i) y)
       → (i : ℕ) (y : A) → slice_get (x ∷ xs) i ≡ Some y → P i y
   at_places P x xs here rest zero y at = subst (P 0) (some_once x y at) here
@@ -37,7 +37,7 @@ pub empty_list : (xs : List ℕ) → ((x : ℕ) → ¬ Among x xs) → xs ≡ []
 empty_list [] none = refl
 empty_list (x ∷ xs) none = absurd (none x (inl refl))
 
--- an element that was read is at its place
+-- an element that was read is at its position
 pub read_at : {A : Type 0} (xs : List A) (i : ℕ) (x : A) → i < length xs → x ≡ get_or xs i x → slice_get xs i ≡ Some x
 read_at xs i x less is = slice_get_read xs (length xs) i x refl less is
 
@@ -69,7 +69,7 @@ module _ {A : Type 0} (p : A → Bool) where
       by true e rest = filter_first y (xs ++ x ∷ []) e ∙ ap (λ (z : List A). y ∷ z) rest ∙ sym (filter_first y xs e)
       by false e rest = filter_skip y (xs ++ x ∷ []) e ∙ rest ∙ sym (filter_skip y xs e)
 
--- what stands at a place within
+-- what stands at a position within
 pub get_some : {A : Type 0} (xs : List A) (i : ℕ) → i < length xs → (x : A) × (slice_get xs i ≡ Some x)
 get_some [] i h = absurd (omega arith)
 get_some (x ∷ xs) zero h = (x, refl)

@@ -10,7 +10,7 @@ use Rattle.fish_rule.specs.Regions.{code, kind_of}
 use Rattle.fish_rule.specs.declared.view.Kind.TheVariants.{Mark}
 pub use Rattle.fish_rule.proofs.laws.Learning.{learns_same}
 use Rattle.fish_rule.proofs.laws.Learning.{learns_self}
-use Rattle.fish_rule.specs.Logs.{Learns, TellsMark}
+use Rattle.fish_rule.specs.Logs.{Learns, KnowsMark}
 use Rattle.fish_rule.specs.Parts.{Rests}
 use Rattle.fish_rule.specs.Table.{Stands}
 use Rattle.fish_rule.specs.World.{World, high, low}
@@ -28,7 +28,7 @@ pub record Closes (u t : View) : Type 0 where
   pub shut : t.shut ≡ u.shut
   pub own : t.own ≡ u.own
 
--- ---- places
+-- ---- positions
 
 pub get_there : {A : Type 0} (xs : List A) (i : ℕ) → i < length xs → (x : A) × (slice_get xs i ≡ Some x)
 get_there [] i h = absurd (omega arith)
@@ -49,9 +49,9 @@ ends_behind t to from s h less =
     let same : high tail.0 ≡ h.count = tail.2 in
     let above = h.above in
     ⊎_elim (λ (e : to ≡ h.count). omega arith)
-    (λ (m : (to < h.count) × TellsMark t to). pick m.1 (dec_lt to w.settled)) h.ends
+    (λ (m : (to < h.count) × KnowsMark t to). pick m.1 (dec_lt to w.settled)) h.ends
   where
-    pick : TellsMark t to → Dec (to < s.moment.settled) → from ≤ to
+    pick : KnowsMark t to → Dec (to < s.moment.settled) → from ≤ to
     pick mark (no not_less) = (let floor = s.rule.floors s.seat t s.at in omega arith)
     pick mark (yes inside) =
         let above = h.above in
@@ -63,7 +63,7 @@ pub counted_from : (v : View) (from : ℕ) → HasEnd v from → from ≤ v.lear
 counted_from v from h =
     let a = h.counted in
     ⊎_elim (λ (e : from ≡ h.count). omega arith)
-    (λ (n : (from < h.count) × TellsMark v from). let b = n.0 in omega arith) h.ends
+    (λ (n : (from < h.count) × KnowsMark v from). let b = n.0 in omega arith) h.ends
 
 -- at most 16 numbers are claimed behind the end
 pub few_behind : (t : View) (to : ℕ) → Stands t → HasEnd t to → t.learned.count ≤ to + 16
@@ -77,7 +77,7 @@ few_behind t to s h =
     let count : high tail.0 ≡ w.count = rests.0 in
     let same : high tail.0 ≡ h.count = tail.2 in
     ⊎_elim (λ (e : to ≡ h.count). omega arith)
-    (λ (m : (to < h.count) × TellsMark t to). pick (m.1 t (learns_self t) w r s.seat s.at) (dec_lt to r.limit.first)) h.ends
+    (λ (m : (to < h.count) × KnowsMark t to). pick (m.1 t (learns_self t) w r s.seat s.at) (dec_lt to r.limit.first)) h.ends
   where
     pick : high (s.moment.dir to) ≡ code Mark → Dec (to < s.rule.limit.first) → t.learned.count ≤ to + 16
     pick mark (no not_less) =

@@ -9,9 +9,9 @@ use Rattle.fish_epoch.specs.declared.definitions.Known.{Known}
 use Rattle.fish_lanes.proofs.Covering.{are_listed, gap_so, plan_so}
 use Rattle.fish_lanes.proofs.Lists.{filter_first, filter_skip}
 use Rattle.fish_lanes.specs.within.Doing.{IsFit, IsRefusedAt}
-use Rattle.fish_lanes.specs.Plans.{AreSoPlans, IsNamedAt, TellsFirstPlans, TellsPlans, TellsPlansOf}
+use Rattle.fish_lanes.specs.Plans.{AreSoPlans, IsNamedAt, SaysFirstPlans, SaysPlans, SaysPlansOf}
 use Rattle.fish_lanes.specs.within.Plans.{AreBoundsIn, AreReadBounds}
-use Rattle.fish_lanes.specs.Plans.{KnowsRows, TellsUncovered, works_behind}
+use Rattle.fish_lanes.specs.Plans.{KnowsRows, SaysUncovered, works_behind}
 use Rattle.fish_lanes.specs.Registering.{KnowsRegistry, Registry, after, after_all}
 use Rattle.fish_lanes.specs.Spans.{answers, is_answer}
 use Rattle.fish_lanes.specs.declared.work.Work.{Work}
@@ -30,12 +30,12 @@ use Rattle.fish_whole.specs.Whole.{Whole}
 -- ---- one item
 
 -- the name is known to mean its text at the version that was loaded
-named_at : (v u : View) (known : Known) (ask : Ask) (place version : ℕ) → version ≡ version_of known
-    → IsNamed v u known ask place → IsNamedAt (KnowsRows u) ask version
-named_at v u known ask place version is named = record {
+named_at : (v u : View) (known : Known) (ask : Ask) (position version : ℕ) → version ≡ version_of known
+    → IsNamed v u known ask position → IsNamedAt (KnowsRows u) ask version
+named_at v u known ask position version is named = record {
   rows = rows_of known;
   are = subst (λ (z : ℕ). KnowsRows u z (rows_of known)) (sym is) named.read.rows;
-  place = place;
+  position = position;
   newest = named.newest;
 }
 
@@ -44,48 +44,48 @@ module _ (v u : View) (r : Registry) (rows : List CatRow) (start : ℕ) (stands 
   where
     -- a refusal
     refused_so : (ask : Ask) (version first last : ℕ) → IsRefusedAt v u ask version (cause.NotCovered first last)
-        → TellsUncovered (KnowsRows u) r.rows rows ask first last version
+        → SaysUncovered (KnowsRows u) r.rows rows ask first last version
     unfolding named_at
     refused_so ask version first last f =
         let h = f.refused.1 in
         let named = h.asked.named in
         record {
-          named = named_at v u f.known ask h.place version f.version_is named;
+          named = named_at v u f.known ask h.position version f.version_is named;
           none = gap_so v u r.rows rows _ _ h.first h.settled h.last h.plan first last on read
-              (are_listed v u r f.known ask h.place stands on registry named) bounds h.covered h.gap;
+              (are_listed v u r f.known ask h.position stands on registry named) bounds h.covered h.gap;
         }
 
     scan_refused_so : (ask : Ask) (version : ℕ) (why : ScanCause) → IsRefusedAt v u ask version why
-        → TellsPlansOf (KnowsRows u) r.rows rows start ask (item.ScanRefused ask.name version why)
+        → SaysPlansOf (KnowsRows u) r.rows rows start ask (item.ScanRefused ask.name version why)
     scan_refused_so ask version (cause.NotCovered first last) f = refused_so ask version first last f
     scan_refused_so ask version cause.UnknownName f = tt
     scan_refused_so ask version (cause.EmptyRange first last) f = tt
 
     explain_refused_so : (ask : Ask) (version : ℕ) (why : ScanCause) → IsRefusedAt v u ask version why
-        → TellsPlansOf (KnowsRows u) r.rows rows start ask (item.ExplainRefused ask.name version why)
+        → SaysPlansOf (KnowsRows u) r.rows rows start ask (item.ExplainRefused ask.name version why)
     explain_refused_so ask version (cause.NotCovered first last) f = refused_so ask version first last f
     explain_refused_so ask version cause.UnknownName f = tt
     explain_refused_so ask version (cause.EmptyRange first last) f = tt
 
     -- an item that fits its statement
-    pub fit_so : (Past : Whole → Type 0) (w : Work) (x : Item) → IsFit Past v u w x → TellsPlans (KnowsRows u) r.rows rows start w x
+    pub fit_so : (Past : Whole → Type 0) (w : Work) (x : Item) → IsFit Past v u w x → SaysPlans (KnowsRows u) r.rows rows start w x
     unfolding named_at
     fit_so Past (work.Register name def) x f = tt
     fit_so Past (work.Deregister name) x f = tt
     fit_so Past (work.Ingest form begin name file) x f = tt
-    fit_so Past (work.Scan ask) x (inl f) = subst (TellsPlansOf (KnowsRows u) r.rows rows start ask) (sym f.is) tt
+    fit_so Past (work.Scan ask) x (inl f) = subst (SaysPlansOf (KnowsRows u) r.rows rows start ask) (sym f.is) tt
     fit_so Past (work.Scan ask) x (inr f) =
-        subst (TellsPlansOf (KnowsRows u) r.rows rows start ask) (sym f.is) (scan_refused_so ask f.version f.why f.fits)
+        subst (SaysPlansOf (KnowsRows u) r.rows rows start ask) (sym f.is) (scan_refused_so ask f.version f.why f.fits)
     fit_so Past (work.Explain ask) x (inl f) =
         let e = f.fits.explained.planned in
         let least = e.least in
-        subst (TellsPlansOf (KnowsRows u) r.rows rows start ask) (sym f.is) (record {
-          named = named_at v u f.fits.known ask e.place f.version f.fits.version_is e.asked.named;
+        subst (SaysPlansOf (KnowsRows u) r.rows rows start ask) (sym f.is) (record {
+          named = named_at v u f.fits.known ask e.position f.version f.fits.version_is e.asked.named;
           plan_is = plan_so v u r.rows rows _ _ ask.how f.from e.settled f.to f.plan start on read
-              (are_listed v u r f.fits.known ask e.place stands on registry e.asked.named) bounds (omega arith) e.plan_is;
+              (are_listed v u r f.fits.known ask e.position stands on registry e.asked.named) bounds (omega arith) e.plan_is;
         })
     fit_so Past (work.Explain ask) x (inr f) =
-        subst (TellsPlansOf (KnowsRows u) r.rows rows start ask) (sym f.is) (explain_refused_so ask f.version f.why f.fits)
+        subst (SaysPlansOf (KnowsRows u) r.rows rows start ask) (sym f.is) (explain_refused_so ask f.version f.why f.fits)
     fit_so Past work.Checkpoint x f = tt
 
 -- ---- definitions that are others
@@ -93,10 +93,10 @@ module _ (v u : View) (r : Registry) (rows : List CatRow) (start : ℕ) (stands 
 module _ {A B : ℕ → List Listed → Type 0} (so : (n : ℕ) (ls : List Listed) → A n ls → B n ls) where
   -- what was said of the one is so of the other
   named_other : (ask : Ask) (version : ℕ) → IsNamedAt A ask version → IsNamedAt B ask version
-  named_other ask version h = record { rows = h.rows; are = so version h.rows h.are; place = h.place; newest = h.newest }
+  named_other ask version h = record { rows = h.rows; are = so version h.rows h.are; position = h.position; newest = h.newest }
 
-  of_so : (told rows : List CatRow) (start : ℕ) (ask : Ask) (x : Item) → TellsPlansOf A told rows start ask x
-      → TellsPlansOf B told rows start ask x
+  of_so : (told rows : List CatRow) (start : ℕ) (ask : Ask) (x : Item) → SaysPlansOf A told rows start ask x
+      → SaysPlansOf B told rows start ask x
   unfolding named_other
   of_so told rows start ask (item.Explained name value first last plan version) h =
       record { named = named_other ask version h.named; plan_is = h.plan_is }
@@ -106,8 +106,8 @@ module _ {A B : ℕ → List Listed → Type 0} (so : (n : ℕ) (ls : List Liste
       record { named = named_other ask version h.named; none = h.none }
   of_so told rows start ask x h = tt
 
-  first_so : (told rows : List CatRow) (start : ℕ) (works : List Work) (x : Item) → TellsFirstPlans A told rows start works x
-      → TellsFirstPlans B told rows start works x
+  first_so : (told rows : List CatRow) (start : ℕ) (works : List Work) (x : Item) → SaysFirstPlans A told rows start works x
+      → SaysFirstPlans B told rows start works x
   first_so told rows start [] x h = tt
   first_so told rows start (work.Scan ask ∷ works) x h = of_so told rows start ask x h
   first_so told rows start (work.Explain ask ∷ works) x h = of_so told rows start ask x h
@@ -133,14 +133,14 @@ plans_later u t r rows start works items learns = plans_so (λ n ls. knows_later
 module _ (A : ℕ → List Listed → Type 0) where
   -- an item that answers nothing tells no plan
   of_other : (told rows : List CatRow) (start : ℕ) (ask : Ask) (x : Item) → is_answer x ≡ false
-      → TellsPlansOf A told rows start ask x
+      → SaysPlansOf A told rows start ask x
   of_other told rows start ask (item.Explained name value first last plan version) e = absurd cc
   of_other told rows start ask (item.ExplainRefused name version (cause.NotCovered first last)) e = absurd cc
   of_other told rows start ask (item.ScanRefused name version (cause.NotCovered first last)) e = absurd cc
   of_other told rows start ask x e = tt
 
   first_other : (told rows : List CatRow) (start : ℕ) (works : List Work) (x : Item) → is_answer x ≡ false
-      → TellsFirstPlans A told rows start works x
+      → SaysFirstPlans A told rows start works x
   first_other told rows start [] x e = tt
   first_other told rows start (work.Scan ask ∷ works) x e = of_other told rows start ask x e
   first_other told rows start (work.Explain ask ∷ works) x e = of_other told rows start ask x e
@@ -178,7 +178,7 @@ module _ (A : ℕ → List Listed → Type 0) where
   -- behind the items that answer some statements stands one of those that follow
   pub plans_more : (r : Registry) (rows : List CatRow) (start : ℕ) (works later : List Work) (items : List Item) (x : Item)
       → length (answers items) ≡ length works → AreSoPlans A r rows start works items
-      → TellsFirstPlans A (after_all r items).rows rows start later x → AreSoPlans A r rows start (works ++ later) (items ++ x ∷ [])
+      → SaysFirstPlans A (after_all r items).rows rows start later x → AreSoPlans A r rows start (works ++ later) (items ++ x ∷ [])
   plans_more r rows start [] later [] x size h one = (one, tt)
   plans_more r rows start (w ∷ works) later [] x size h one = absurd (omega arith)
   plans_more r rows start works later (y ∷ items) x size h one =

@@ -4,12 +4,12 @@ use Rattle.fish_catalog.specs.declared.entry.Entry.{Entry}
 use Rattle.fish_lanes.specs.within.Published.{IsPublished}
 use Rattle.fish_rule.proofs.laws.Moments.{entry_word}
 use Rattle.fish_rule.proofs.laws.Learning.{learns_both}
-use Rattle.fish_rule.specs.Logs.{Learns, Tells}
+use Rattle.fish_rule.specs.Logs.{Learns, KnowsAs}
 use Rattle.fish_rule.specs.declared.view.Key.{Key}
 use Rattle.fish_rule.specs.declared.view.View.{View}
 
 -- a number whose entry is told is published
-pub told_published : (v : View) (n : ℕ) (e : Entry) → Tells v n e → n < v.learned.count → IsPublished v n
+pub told_published : (v : View) (n : ℕ) (e : Entry) → KnowsAs v n e → n < v.learned.count → IsPublished v n
 told_published v n e tells below = record {
   counted = below;
   entry = λ u learns w r j at. entry_word w n e (tells u learns w r j at);

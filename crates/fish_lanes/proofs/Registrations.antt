@@ -18,7 +18,7 @@ use Rattle.fish_ingest.specs.Ingestion.{CanStart}
 use Rattle.fish_lanes.proofs.Gaining.{gains_both, gains_scans, gains_start, marks_same}
 use Rattle.fish_lanes.proofs.Keeping.{keeps_scans}
 use Rattle.fish_lanes.proofs.Versions.{same_version}
-use Rattle.fish_lanes.specs.within.Controlling.{Does, KnowsAll, TellsBegun, WaitsFor}
+use Rattle.fish_lanes.specs.within.Controlling.{Does, KnowsAll, SaysBegun, WaitsFor}
 use Rattle.fish_lanes.specs.within.Gains.{Gains}
 use Rattle.fish_lanes.specs.Registering.{KnowsRegistry, Registry, after, after_all, begun, bound, registry_of, waiting_id}
 use Rattle.fish_lanes.specs.within.Registering.{KeepsRegistry}
@@ -229,10 +229,10 @@ module _ (v m : View) (r : Registrar) (sv : Stands v) (start : CanStart v) (kv :
         (registry_later m t (registry_of m r) (learns_changes m t changes) (known r reads_know))
 
     -- it waits for a lane
-    pub tells_rolling : (name : List ℕ) (id : ℕ) (def : List ℕ) (seat older : ℕ) → WaitsFor v r id
+    pub says_rolling : (name : List ℕ) (id : ℕ) (def : List ℕ) (seat older : ℕ) → WaitsFor v r id
         → ((w : Waiting) × (r.waiting ≡ Some w) × (s.waiting ≡ Some (at_lane w seat)) × (s.catalog ≡ r.catalog) × (older < w.version))
-        → TellsBegun v r t s name id def (item.Rolling name id def seat older)
-    tells_rolling name id def seat older waits tells =
+        → SaysBegun v r t s name id def (item.Rolling name id def seat older)
+    says_rolling name id def seat older waits tells =
         let same : registry_of t s ≡ registry_of v r =
         registry_same m t r s sm st (learns_changes m t changes) reads_know kt r.catalog tells.3 refl
         (ap waiting_id tells.2 ∙ sym (ap waiting_id tells.1)) ∙ same_before in
@@ -245,10 +245,10 @@ module _ (v m : View) (r : Registrar) (sv : Stands v) (start : CanStart v) (kv :
         )
 
     -- or its index begins at once
-    pub tells_at_once : (name : List ℕ) (id : ℕ) (def : List ℕ) (id' from : ℕ) → WaitsFor v r id → IsWaiting r id'
+    pub says_at_once : (name : List ℕ) (id : ℕ) (def : List ℕ) (id' from : ℕ) → WaitsFor v r id → IsWaiting r id'
         → s.waiting ≡ None → s.catalog ≡ with_from r.catalog id' from → t.learned.count ≡ from
-        → TellsBegun v r t s name id def (item.Registered name id from def)
-    tells_at_once name id def id' from waits waits' none rows count =
+        → SaysBegun v r t s name id def (item.Registered name id from def)
+    says_at_once name id def id' from waits waits' none rows count =
         let does = does_bound m t r s sm st (learns_changes m t changes) reads_know kt id' from waits' none rows changes.count count in
         let same_id : id' ≡ id = same_Some id' id (sym (waits_id r.waiting id' waits') ∙ ap waiting_id waits.waits
         ∙ ap (λ (n : ℕ). Some n) waits.id_is) in

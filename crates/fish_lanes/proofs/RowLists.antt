@@ -1,7 +1,7 @@
 -- Rows behind other rows.
 use Rattle.std.proofs.Common.{◌≡◌, ℕ, ◌<◌, ◌≤◌, suc, List, [], ◌∷◌, ◌++◌, refl, sym, ap, inl, inr, ◌⊎◌, ⊎_elim, arith}
-use Rattle.fish_rule.proofs.laws.Alone.{tells_later}
-use Rattle.fish_lanes.specs.within.Gains.{AreTold}
+use Rattle.fish_rule.proofs.laws.Alone.{knows_as_later}
+use Rattle.fish_lanes.specs.within.Gains.{AreKnown}
 use Rattle.fish_lanes.specs.Records.{Content, HasNumber, LaneRow, contents}
 use Rattle.fish_lanes.specs.within.Records.{Ascends, entry_of, owned}
 use Rattle.fish_rule.specs.Logs.{Learns}
@@ -59,12 +59,12 @@ owned_number lane o (r ∷ rows) (inr m) = (let h = owned_number lane o rows m i
 
 -- ---- what is told
 
-pub told_later : (v u : View) (lane : ℕ) (rows : List LaneRow) → Learns v u → AreTold v lane rows → AreTold u lane rows
+pub told_later : (v u : View) (lane : ℕ) (rows : List LaneRow) → Learns v u → AreKnown v lane rows → AreKnown u lane rows
 told_later v u lane [] learns h = tt
 told_later v u lane (r ∷ rows) learns h =
-    (tells_later v u r.number (entry_of lane r) learns h.0, told_later v u lane rows learns h.1)
+    (knows_as_later v u r.number (entry_of lane r) learns h.0, told_later v u lane rows learns h.1)
 
-pub told_append : (v : View) (lane : ℕ) (xs ys : List LaneRow) → AreTold v lane xs → AreTold v lane ys
-    → AreTold v lane (xs ++ ys)
+pub told_append : (v : View) (lane : ℕ) (xs ys : List LaneRow) → AreKnown v lane xs → AreKnown v lane ys
+    → AreKnown v lane (xs ++ ys)
 told_append v lane [] ys h t = t
 told_append v lane (r ∷ xs) ys h t = (h.0, told_append v lane xs ys h.1 t)

@@ -6,7 +6,7 @@ use Rattle.fish_lanes.proofs.Plans.{fit_so, plans_longer, plans_more}
 use Rattle.fish_lanes.proofs.Registrations.{after_more, registry_later}
 pub use Rattle.fish_lanes.specs.within.Advancing.{HasSaid}
 use Rattle.fish_lanes.specs.within.Doing.{IsFit}
-use Rattle.fish_lanes.specs.Plans.{KnowsRows, TellsPlans}
+use Rattle.fish_lanes.specs.Plans.{KnowsRows, SaysPlans}
 use Rattle.fish_lanes.specs.Registering.{Registry, after}
 use Rattle.fish_lanes.specs.within.Running.{IsFree, SayPlans}
 use Rattle.fish_lanes.specs.Spans.{answers}
@@ -35,7 +35,7 @@ said_more Past v u t works items w x stands h learns free fit both size = record
       let settled = h.learns.settled in
       plans_more (KnowsRows t) r rows from works (w ∷ []) items x h.size
       (plans_on v u t r works items learns (h.plans r read registry) rows from bounds low)
-      (subst (λ (z : Registry). TellsPlans (KnowsRows t) z.rows rows from w x) (sym (h.same r))
+      (subst (λ (z : Registry). SaysPlans (KnowsRows t) z.rows rows from w x) (sym (h.same r))
       (fit_so u t r rows from stands learns (read_later v u r.rows h.learns read) (registry_later v u r h.learns registry) bounds
       (omega arith) Past w x fit));
 }

@@ -10,15 +10,15 @@ use Rattle.fish_epoch.proofs.Reading.{knows_later}
 use Rattle.fish_epoch.specs.Definitions.{rows_of, version_of}
 use Rattle.fish_epoch.specs.declared.definitions.Known.{Known}
 use Rattle.fish_lanes.proofs.Covering.{cover_by}
-use Rattle.fish_lanes.specs.within.Controlling.{RollsBy, TellsTail}
+use Rattle.fish_lanes.specs.within.Controlling.{RollsBy, SaysTail}
 use Rattle.fish_lanes.specs.within.Doing.{FitsExplained, FitsRefused, FitsScanned, IsFit, IsRefusedAt}
 use Rattle.fish_lanes.specs.Ending.{HasEnd}
 use Rattle.fish_lanes.specs.Loading.{LoadsAcross, LoadsInTable, LoadsWithin}
 use Rattle.fish_lanes.specs.within.Plans.{AreBoundsIn, AreReadBounds}
 use Rattle.fish_lanes.specs.Registering.{IsDeregisterItem, KnowsRegistry, Registry}
 use Rattle.fish_lanes.specs.within.Running.{IsFree}
-use Rattle.fish_lanes.specs.Single.{IsBoundaryAt, IsCauseAt, IsCauseTold, IsCoverOf, IsPlanFor, IsPlanTold, IsReadBy, IsScanWork}
-use Rattle.fish_lanes.specs.Single.{IsWhole, NamesNone, TellsOnly, TellsSingle, TellsWhole}
+use Rattle.fish_lanes.specs.Single.{IsBoundaryAt, IsCauseAt, IsCauseSaid, IsCoverOf, IsPlanFor, IsPlanSaid, IsReadBy, IsScanWork}
+use Rattle.fish_lanes.specs.Single.{IsWhole, NamesNone, SaysOnly, SaysSingle, SaysWhole}
 use Rattle.fish_lanes.specs.Spans.{answers}
 use Rattle.fish_lanes.specs.declared.work.Work.{Work}
 use Rattle.fish_lanes.specs.declared.work.Work.TheVariants as work
@@ -33,7 +33,7 @@ use Rattle.fish_registry.proofs.Changing.{learns_changes}
 use Rattle.fish_registry.specs.Changing.{Changes, IsAtTail}
 use Rattle.fish_rule.proofs.laws.Alone.{no_mark}
 use Rattle.fish_rule.proofs.laws.Learning.{learns_both}
-use Rattle.fish_rule.specs.Logs.{Learns, TellsMark}
+use Rattle.fish_rule.specs.Logs.{Learns, KnowsMark}
 use Rattle.fish_rule.specs.LoadSteps.{IsAlone}
 use Rattle.fish_rule.proofs.laws.Versions.{has_read}
 use Rattle.fish_rule.specs.Registry.{definitions_at}
@@ -114,7 +114,7 @@ loads_later v u t value answer after still (inr h) = inr (λ past behind. across
 
 ends_within : (u : View) (n count : ℕ) → EndsAt u n count → n ≤ count
 ends_within u n count h =
-    ⊎_elim (λ (e : n ≡ count). omega arith) (λ (m : (n < count) × TellsMark u n). let less = m.0 in omega arith) h
+    ⊎_elim (λ (e : n ≡ count). omega arith) (λ (m : (n < count) × KnowsMark u n). let less = m.0 in omega arith) h
 
 -- the settled number that a pass finds which is alone is where the log ended
 same_end : (v u : View) (end settled count : ℕ) → HasEnd v end → Learns v u → Stands u → v.learned.settled ≤ settled
@@ -126,9 +126,9 @@ same_end v u end settled count h learns s least most counted ends =
     let low = h.settled in
     let up = ends_within u settled count ends in
     ⊎_elim (λ (e : end ≡ h.count). omega arith)
-    (λ (m : (end < h.count) × TellsMark v end). pick m.1 (dec_lt end settled)) h.ends
+    (λ (m : (end < h.count) × KnowsMark v end). pick m.1 (dec_lt end settled)) h.ends
   where
-    pick : TellsMark v end → Dec (end < settled) → settled ≡ end
+    pick : KnowsMark v end → Dec (end < settled) → settled ≡ end
     pick mark (no not_less) = (let low = h.settled in omega arith)
     pick mark (yes inside) =
         let floor = s.rule.floors s.seat u s.at in
@@ -158,10 +158,10 @@ module _ (v u : View) (end : ℕ) (h : HasEnd v end) (learns : Learns v u) (s : 
       let here = at (record { number = high tail.0; line = low tail.0 }) tail.1 in
       let same = tail.2 in
       ⊎_elim (λ (e : end ≡ h.count). omega arith)
-      (λ (m : (end < h.count) × TellsMark v end). absurd (no_mark v end stood h.alone unshut h.above m.1))
+      (λ (m : (end < h.count) × KnowsMark v end). absurd (no_mark v end stood h.alone unshut h.above m.1))
       h.ends
 
-  boundary_at : (x : Item) → Stands v → TellsTail v x → IsBoundaryAt v.shut end x
+  boundary_at : (x : Item) → Stands v → SaysTail v x → IsBoundaryAt v.shut end x
   boundary_at (item.Registered name id from def) stood at = λ unshut. tail_end from stood unshut at
   boundary_at (item.Deregistered name id to) stood at = λ unshut. tail_end to stood unshut at
   boundary_at x stood at = tt
@@ -169,8 +169,8 @@ module _ (v u : View) (end : ℕ) (h : HasEnd v end) (learns : Learns v u) (s : 
   module _ (r : Registry) (read : AreReadBounds v r.rows) (registry : KnowsRegistry v r) (bounds : AreBoundsIn u r.rows)
       (version : u.learned.version ≡ r.version) where
     -- the definitions that were loaded are the rows
-    rows_are : (known : Known) (ask : Ask) (place : ℕ) → IsNamed v u known ask place → rows_of known ≡ map listed_of r.rows
-    rows_are known ask place n =
+    rows_are : (known : Known) (ask : Ask) (position : ℕ) → IsNamed v u known ask position → rows_of known ≡ map listed_of r.rows
+    rows_are known ask position n =
         let low = registry.reached in
         let least = n.least in
         let most = n.read.rows.reached in
@@ -180,11 +180,11 @@ module _ (v u : View) (end : ℕ) (h : HasEnd v end) (learns : Learns v u) (s : 
         sym (n.read.rows.are g has) ∙ ap (definitions_at u.about g) is
         ∙ (knows_later v u r.version (map listed_of r.rows) learns registry).are g has
 
-    newest_at : (definitions : List Listed) (ask : Ask) (place : ℕ) → definitions ≡ map listed_of r.rows
-        → IsNewest definitions ask.name place → IsNewest (map listed_of r.rows) ask.name place
-    newest_at definitions ask place same n = record {
+    newest_at : (definitions : List Listed) (ask : Ask) (position : ℕ) → definitions ≡ map listed_of r.rows
+        → IsNewest definitions ask.name position → IsNewest (map listed_of r.rows) ask.name position
+    newest_at definitions ask position same n = record {
       listed = n.listed;
-      there = ap (λ (z : List Listed). slice_get z place) (sym same) ∙ n.there;
+      there = ap (λ (z : List Listed). slice_get z position) (sym same) ∙ n.there;
       named = n.named;
       last = λ i l less at. n.last i l less (ap (λ (z : List Listed). slice_get z i) same ∙ at);
     }
@@ -213,11 +213,11 @@ module _ (v u : View) (end : ℕ) (h : HasEnd v end) (learns : Learns v u) (s : 
     plan_for known ask from to opens plan e =
         let exact = e.exact h.alone in
         let same = exact_end v u end e.settled e.range.count to ask.to opens h learns s e.least e.most exact in
-        let are = rows_are known ask e.place e.asked.named in
+        let are = rows_are known ask e.position e.asked.named in
         record {
           whole = whole_at ask from to e.settled opens e.range same exact;
-          place = e.place;
-          newest = newest_at (rows_of known) ask e.place are e.asked.named.newest;
+          position = e.position;
+          newest = newest_at (rows_of known) ask e.position are e.asked.named.newest;
           is = read_by ask.how (rows_of known) e.asked.named.newest.listed.def from e.settled to plan are same e.plan_is;
         }
 
@@ -234,7 +234,7 @@ module _ (v u : View) (end : ℕ) (h : HasEnd v end) (learns : Learns v u) (s : 
           loads = a.loads;
         }
 
-    plan_told_at : (ask : Ask) (x : Item) → FitsExplained v u ask x → IsPlanTold r.rows end ask x
+    plan_told_at : (ask : Ask) (x : Item) → FitsExplained v u ask x → IsPlanSaid r.rows end ask x
     plan_told_at ask x f = record {
       explained = record { from = f.from; to = f.to; plan = f.plan };
       version = f.version;
@@ -250,10 +250,10 @@ module _ (v u : View) (end : ℕ) (h : HasEnd v end) (learns : Learns v u) (s : 
         let g : IsUncovered v u f.known ask from to = f.refused.1 in
         let exact = g.exact h.alone in
         let same = exact_end v u end g.settled g.range.count g.last ask.to g.opens h learns s g.least g.most exact in
-        let are = rows_are f.known ask g.place g.asked.named in
+        let are = rows_are f.known ask g.position g.asked.named in
         record {
-          place = g.place;
-          newest = newest_at (rows_of f.known) ask g.place are g.asked.named.newest;
+          position = g.position;
+          newest = newest_at (rows_of f.known) ask g.position are g.asked.named.newest;
           first = g.first;
           last = g.last;
           whole = whole_at ask g.first g.last g.settled g.opens g.range same exact;
@@ -263,12 +263,12 @@ module _ (v u : View) (end : ℕ) (h : HasEnd v end) (learns : Learns v u) (s : 
         }
 
     told_at : (ask : Ask) (refused : List ℕ → ℕ → ScanCause → Item) (x : Item) → FitsRefused v u ask refused x
-        → IsCauseTold r.rows end ask refused x
+        → IsCauseSaid r.rows end ask refused x
     told_at ask refused x f =
         record { version = f.version; why = f.why; is = f.is; tells = cause_at ask f.version f.why f.fits }
 
     -- what fits a statement that changes no definition tells this
-    pub fit_free : (Past : Whole → Type 0) (w : Work) (x : Item) → IsFree w → IsFit Past v u w x → TellsSingle Past v u r.rows end w x
+    pub fit_free : (Past : Whole → Type 0) (w : Work) (x : Item) → IsFree w → IsFit Past v u w x → SaysSingle Past v u r.rows end w x
     fit_free Past (work.Scan ask) x free (inl f) = inl (scan_work ask x f)
     fit_free Past (work.Scan ask) x free (inr f) = inr (told_at ask item.ScanRefused x f)
     fit_free Past (work.Explain ask) x free (inl f) = inl (plan_told_at ask x f)
@@ -282,8 +282,8 @@ module _ (v u : View) (end : ℕ) (h : HasEnd v end) (learns : Learns v u) (s : 
 
   -- and so does what fits any
   pub fit_single : (Past : Whole → Type 0) (w : Work) (x : Item) (r : Registry) → Stands v → AreReadBounds v r.rows → KnowsRegistry v r
-      → (IsFree w → AreBoundsIn u r.rows × (u.learned.version ≡ r.version)) → TellsTail v x → IsFit Past v u w x
-      → TellsSingle Past v u r.rows end w x
+      → (IsFree w → AreBoundsIn u r.rows × (u.learned.version ≡ r.version)) → SaysTail v x → IsFit Past v u w x
+      → SaysSingle Past v u r.rows end w x
   fit_single Past (work.Register name def) x r stood read registry free at f = boundary_at x stood at
   fit_single Past (work.Deregister name) x r stood read registry free at f = boundary_at x stood at
   fit_single Past (work.Ingest form begin name file) x r stood read registry free at f = tt
@@ -298,7 +298,7 @@ module _ (v u : View) (end : ℕ) (h : HasEnd v end) (learns : Learns v u) (s : 
 
 module _ (v u t : View) (rows : List CatRow) (end : ℕ) (learns : Learns u t) (still : t.clock.loads ≡ u.clock.loads) where
   -- what was told is so of the pass where it knows more and loaded nothing since
-  single_later : (Past : Whole → Type 0) (w : Work) (x : Item) → TellsSingle Past v u rows end w x → TellsSingle Past v t rows end w x
+  single_later : (Past : Whole → Type 0) (w : Work) (x : Item) → SaysSingle Past v u rows end w x → SaysSingle Past v t rows end w x
   single_later Past (work.Scan ask) x (inl h) = inl (record {
     answer = h.answer;
     version = h.version;
@@ -314,20 +314,20 @@ module _ (v u t : View) (rows : List CatRow) (end : ℕ) (learns : Learns u t) (
   single_later Past (work.Deregister name) x h = h
   single_later Past (work.Ingest form begin name file) x h = tt
 
-  pub singles_later : (Past : Whole → Type 0) (w : Work) (items : List Item) → AllOf (TellsSingle Past v u rows end w) items
-      → AllOf (TellsSingle Past v t rows end w) items
+  pub singles_later : (Past : Whole → Type 0) (w : Work) (items : List Item) → AllOf (SaysSingle Past v u rows end w) items
+      → AllOf (SaysSingle Past v t rows end w) items
   singles_later Past w [] h = tt
   singles_later Past w (x ∷ items) h = (single_later Past w x h.0, singles_later Past w items h.1)
 
-  pub only_later : (Past : Whole → Type 0) (works : List Work) (items : List Item) → TellsOnly Past v u rows end works items
-      → TellsOnly Past v t rows end works items
+  pub only_later : (Past : Whole → Type 0) (works : List Work) (items : List Item) → SaysOnly Past v u rows end works items
+      → SaysOnly Past v t rows end works items
   only_later Past works items h w one = singles_later Past w (answers items) (h w one)
 
 -- ---- fewer pasts
 
 module _ (P Q : Whole → Type 0) (v u : View) (rows : List CatRow) (end : ℕ) (fewer : (past : Whole) → Q past → P past) where
   -- what is told behind some pasts is told behind each of these
-  single_fewer : (w : Work) (x : Item) → TellsSingle P v u rows end w x → TellsSingle Q v u rows end w x
+  single_fewer : (w : Work) (x : Item) → SaysSingle P v u rows end w x → SaysSingle Q v u rows end w x
   single_fewer (work.Scan ask) x (inl h) = inl (record {
     answer = h.answer;
     version = h.version;
@@ -345,11 +345,11 @@ module _ (P Q : Whole → Type 0) (v u : View) (rows : List CatRow) (end : ℕ) 
   single_fewer (work.Deregister name) x h = h
   single_fewer (work.Ingest form begin name file) x h = tt
 
-  singles_fewer : (w : Work) (items : List Item) → AllOf (TellsSingle P v u rows end w) items → AllOf (TellsSingle Q v u rows end w) items
+  singles_fewer : (w : Work) (items : List Item) → AllOf (SaysSingle P v u rows end w) items → AllOf (SaysSingle Q v u rows end w) items
   singles_fewer w [] h = tt
   singles_fewer w (x ∷ items) h = (single_fewer w x h.0, singles_fewer w items h.1)
 
-  pub only_fewer : (works : List Work) (items : List Item) → TellsOnly P v u rows end works items → TellsOnly Q v u rows end works items
+  pub only_fewer : (works : List Work) (items : List Item) → SaysOnly P v u rows end works items → SaysOnly Q v u rows end works items
   only_fewer works items h w one = singles_fewer w (answers items) (h w one)
 
 -- ---- open numbers
@@ -413,29 +413,29 @@ none_there (x ∷ items) works size e = (let same : length works ≡ 0 = ap leng
 -- with no other lane the block loads what its statement loads
 pub only_end : (Past : Whole → Type 0) (v m w u p t : View) (rows : List CatRow) (end : ℕ) (works after : List Work) (items : List Item)
     → m ≡ v → u ≡ w
-    → Changes u p → OnlySettles p t → after ≡ works → TellsOnly Past m w rows end works items → TellsOnly Past v t rows end after items
+    → Changes u p → OnlySettles p t → after ≡ works → SaysOnly Past m w rows end works items → SaysOnly Past v t rows end after items
 only_end Past v m w u p t rows end works after items given taken changes settles same h one is =
     let learns : Learns w t = learns_both w p t (subst (λ (z : View). Learns z p) taken (learns_changes u p changes)) settles.learns in
     singles_later v w t rows end learns (settles.loads ∙ changes.loads ∙ ap (λ (z : View). z.clock.loads) taken) Past one
     (answers items)
-    (subst (λ (z : View). AllOf (TellsSingle Past z w rows end one) (answers items)) given (h one (sym same ∙ is)))
+    (subst (λ (z : View). AllOf (SaysSingle Past z w rows end one) (answers items)) given (h one (sym same ∙ is)))
 
 -- ---- without the pass
 
 -- the range is whole
-single_whole : (Past : Whole → Type 0) (v u : View) (rows : List CatRow) (end : ℕ) (w : Work) (x : Item) → TellsSingle Past v u rows end w x
-    → TellsWhole rows v.shut end w x
-single_whole Past v u rows end (work.Scan ask) x (inl h) = subst (TellsWhole rows v.shut end (work.Scan ask)) (sym h.is)
+single_whole : (Past : Whole → Type 0) (v u : View) (rows : List CatRow) (end : ℕ) (w : Work) (x : Item) → SaysSingle Past v u rows end w x
+    → SaysWhole rows v.shut end w x
+single_whole Past v u rows end (work.Scan ask) x (inl h) = subst (SaysWhole rows v.shut end (work.Scan ask)) (sym h.is)
     (h.answer.plan, h.plan)
-single_whole Past v u rows end (work.Scan ask) x (inr h) = subst (TellsWhole rows v.shut end (work.Scan ask)) (sym h.is) h.tells
-single_whole Past v u rows end (work.Explain ask) x (inl h) = subst (TellsWhole rows v.shut end (work.Explain ask)) (sym h.is) h.plan
-single_whole Past v u rows end (work.Explain ask) x (inr h) = subst (TellsWhole rows v.shut end (work.Explain ask)) (sym h.is) h.tells
+single_whole Past v u rows end (work.Scan ask) x (inr h) = subst (SaysWhole rows v.shut end (work.Scan ask)) (sym h.is) h.tells
+single_whole Past v u rows end (work.Explain ask) x (inl h) = subst (SaysWhole rows v.shut end (work.Explain ask)) (sym h.is) h.plan
+single_whole Past v u rows end (work.Explain ask) x (inr h) = subst (SaysWhole rows v.shut end (work.Explain ask)) (sym h.is) h.tells
 single_whole Past v u rows end (work.Register name def) x h = h
 single_whole Past v u rows end (work.Deregister name) x h = h
 single_whole Past v u rows end (work.Ingest form begin name file) x h = tt
 single_whole Past v u rows end work.Checkpoint x h = h
 
 pub singles_whole : (Past : Whole → Type 0) (v u : View) (rows : List CatRow) (end : ℕ) (w : Work) (items : List Item)
-    → AllOf (TellsSingle Past v u rows end w) items → AllOf (TellsWhole rows v.shut end w) items
+    → AllOf (SaysSingle Past v u rows end w) items → AllOf (SaysWhole rows v.shut end w) items
 singles_whole Past v u rows end w [] h = tt
 singles_whole Past v u rows end w (x ∷ items) h = (single_whole Past v u rows end w x h.0, singles_whole Past v u rows end w items h.1)

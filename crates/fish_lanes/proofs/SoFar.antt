@@ -12,7 +12,7 @@ use Rattle.fish_lanes.proofs.Lists.{all_more}
 use Rattle.fish_lanes.proofs.Parts.{around}
 use Rattle.fish_lanes.proofs.Saying.{said_cut, said_more, said_self}
 use Rattle.fish_lanes.proofs.Showing.{fit_answer, free_made}
-use Rattle.fish_lanes.specs.within.Advancing.{HasNext, HasSaid, HasTold, IsOn, IsShort, IsSoFar}
+use Rattle.fish_lanes.specs.within.Advancing.{HasNext, HasSaid, HasAnswered, IsOn, IsShort, IsSoFar}
 use Rattle.fish_lanes.specs.within.Causes.{fault_at}
 use Rattle.fish_lanes.specs.within.Controlling.{IsControlled}
 use Rattle.fish_lanes.specs.within.Doing.{IsFit, IsItem, IsPart}
@@ -171,11 +171,11 @@ module _ {Past : Whole → Type 0} (v u t : View) (works : List Work) (items : L
         let next : take (length (items ++ x ∷ [])) works ≡ take (length items) works ++ w ∷ [] =
         ap (λ (n : ℕ). take n works) more ∙ take_more works (length items) w less
         ∙ ap (λ (z : Work). take (length items) works ++ z ∷ []) (sym is) in
-        let told : HasTold Past v t (take (length items) works ++ w ∷ []) (answers items ++ x ∷ []) =
+        let told : HasAnswered Past v t (take (length items) works ++ w ∷ []) (answers items ++ x ∷ []) =
         told_more v u t (take (length items) works) (answers items) w x g.rows h.told g.gains g.first item.fit item.shuts
         (omega arith) in
         record {
-          told = subst (λ (z : List Work × List Item). HasTold Past v t z.0 z.1) (λ j. (sym next j, sym (answers_more items x answered) j))
+          told = subst (λ (z : List Work × List Item). HasAnswered Past v t z.0 z.1) (λ j. (sym next j, sym (answers_more items x answered) j))
               told;
           said = subst (λ (z : List Work). HasSaid v t z (items ++ x ∷ [])) (sym next)
               (said_more Past v u t (take (length items) works) items w x stands h.said learns free item.fit told.gains.on.learns

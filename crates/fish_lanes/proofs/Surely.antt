@@ -7,7 +7,7 @@ use Rattle.fish_catalog.specs.declared.entry.Entry.TheVariants as entry
 use Rattle.fish_lanes.proofs.Exact.{StandAt, rows_exact}
 use Rattle.fish_lanes.proofs.RowLists.{ascends_lower}
 use Rattle.fish_lanes.specs.Ending.{HasEnd}
-use Rattle.fish_lanes.specs.within.Gains.{AreTold}
+use Rattle.fish_lanes.specs.within.Gains.{AreKnown}
 use Rattle.fish_lanes.specs.Records.{HasNumber, LaneRow, rows_of_lane}
 use Rattle.fish_lanes.specs.within.Records.{Ascends, entry_of}
 use Rattle.fish_rule.proofs.laws.ClosedLogs.{always_closed, entry_at, settled_within}
@@ -15,7 +15,7 @@ use Rattle.fish_rule.proofs.laws.Moments.{before_mark, claimed, entry_word, get_
 use Rattle.fish_rule.proofs.laws.Learning.{learns_self}
 use Rattle.fish_rule.proofs.laws.Regions.{published}
 use Rattle.fish_rule.specs.ChainFacts.{Always}
-use Rattle.fish_rule.specs.Logs.{IsEntry, Tells, TellsMark}
+use Rattle.fish_rule.specs.Logs.{IsEntry, KnowsAs, KnowsMark}
 use Rattle.fish_rule.specs.ClosedLog.{IsClosed}
 use Rattle.fish_rule.specs.declared.close.Remains.{Remains}
 use Rattle.fish_rule.specs.Parts.{IsEntryWord, Rests}
@@ -50,7 +50,7 @@ closed_length v to remains h c =
     let same : high t.0 ≡ h.count = t.2 in
     let few = c.log.within in
     ⊎_elim (λ (e : to ≡ h.count). omega arith)
-    (λ (m : (to < h.count) × TellsMark v to).
+    (λ (m : (to < h.count) × KnowsMark v to).
     let mark : high (c.moment.dir to) ≡ code Mark =
     always_closed v v (λ k w. high (w.dir to) ≡ code Mark) remains (learns_self v) c m.1 in
     pick mark (dec_lt to (v.about.number + length remains.log))) h.ends
@@ -76,7 +76,7 @@ closed_length v to remains h c =
 -- it has counted up to there
 end_counted : (u : View) (to : ℕ) (end : HasEnd u to) → to ≤ end.count
 end_counted u to end = ⊎_elim (λ (e : to ≡ end.count). omega arith)
-    (λ (m : (to < end.count) × TellsMark u to). let a = m.0 in omega arith) end.ends
+    (λ (m : (to < end.count) × KnowsMark u to). let a = m.0 in omega arith) end.ends
 
 -- its own records lie before it
 pub own_before : (v : View) (to : ℕ) (o : Own) → Stands v → HasEnd v to → Among o v.own → o.number < to
@@ -92,7 +92,7 @@ own_before v to o s h m =
     let same : high t.0 ≡ h.count = t.2 in
     let above = h.above in
     ⊎_elim (λ (e : to ≡ h.count). omega arith)
-    (λ (m : (to < h.count) × TellsMark v to).
+    (λ (m : (to < h.count) × KnowsMark v to).
     before_mark r to o.number (omega arith) (m.1 v (learns_self v) w r s.seat s.at)
     (record {
       published = published (w.dir o.number) Stored by.stored;
@@ -113,11 +113,11 @@ entry_before v to n s h known =
     let same : high t.0 ≡ h.count = t.2 in
     let above = h.above in
     ⊎_elim (λ (e : to ≡ h.count). omega arith)
-    (λ (m : (to < h.count) × TellsMark v to).
+    (λ (m : (to < h.count) × KnowsMark v to).
     before_mark r to n (omega arith) (m.1 v (learns_self v) w r s.seat s.at) word) h.ends
 
 -- and so does an entry that is told
-pub told_before : (v : View) (to n : ℕ) (e : Entry) → Stands v → HasEnd v to → Tells v n e → n < to
+pub told_before : (v : View) (to n : ℕ) (e : Entry) → Stands v → HasEnd v to → KnowsAs v n e → n < to
 told_before v to n e s h tells = entry_before v to n s h (λ u learns w r seat at. entry_word w n e (tells u learns w r seat at))
 
 -- the table begins no later than what it settled before
@@ -164,7 +164,7 @@ will_own past u from to many end based all w m n lane form payload above below i
     )
 
 -- rows that are told stand in the whole
-rows_stand : (past : Whole) (v : View) (lane from to : ℕ) (rows : List LaneRow) (w : Whole) → MayHold past v w → AreTold v lane rows
+rows_stand : (past : Whole) (v : View) (lane from to : ℕ) (rows : List LaneRow) (w : Whole) → MayHold past v w → AreKnown v lane rows
     → (within : from ≤ to) (inside : to ≤ length w.log) (low_ : ℕ) → length past.log ≤ low_ → Ascends low_ rows to
     → StandAt w.log from to lane within inside rows
 rows_stand past v lane from to [] w m told within inside low_ base up = tt
@@ -176,7 +176,7 @@ rows_stand past v lane from to (r ∷ rows) w m told within inside low_ base up 
 
 -- numbers that ascend below one end below another where each of them does
 ascends_before : (v : View) (lane from high_ to : ℕ) (rows : List LaneRow) → Stands v → HasEnd v to → from ≤ to
-    → AreTold v lane rows → Ascends from rows high_ → Ascends from rows to
+    → AreKnown v lane rows → Ascends from rows high_ → Ascends from rows to
 ascends_before v lane from high_ to [] s h le told up = le
 ascends_before v lane from high_ to (r ∷ rows) s h le told up =
     let less = told_before v to r.number (entry_of lane r) s h told.0 in
@@ -185,7 +185,7 @@ ascends_before v lane from high_ to (r ∷ rows) s h le told up =
 -- from the end before a block up to the end behind it they are the rows that the lane's pass gained, where the control
 -- pass has no others of the lane
 pub will_rows : (past : Whole) (u : View) (lane from to low_ high_ : ℕ) (rows : List LaneRow) → Stands u → HasEnd u to
-    → u.about.number ≤ from → from ≤ to → from ≤ low_ → AreTold u lane rows → Ascends low_ rows high_
+    → u.about.number ≤ from → from ≤ to → from ≤ low_ → AreKnown u lane rows → Ascends low_ rows high_
     → ((o : Own) → Among o u.own → o.lane ≡ lane → (o.number < from) ⊎ HasNumber o.number rows)
     → Will past u (λ w. rows_of_lane w.log from to lane ≡ rows)
 will_rows past u lane from to low_ high_ rows s end based within from_ told up all w m =

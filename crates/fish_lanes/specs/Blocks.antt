@@ -12,7 +12,7 @@ use Rattle.fish_lanes.specs.Records.{rows_of_lane}
 use Rattle.fish_lanes.specs.Registering.{AreSo, IsAcceptable, KnowsEach, after_all, registry_of}
 use Rattle.fish_lanes.specs.Running.{IsEnded, IsShared}
 use Rattle.fish_lanes.specs.Spans.{IsAnswer, Span}
-use Rattle.fish_lanes.specs.Telling.{TellsLane}
+use Rattle.fish_lanes.specs.Telling.{SaysLane}
 use Rattle.fish_lanes.specs.declared.lane.Lane.{Lane}
 use Rattle.fish_lanes.specs.Gains.{IsMarkAt}
 use Rattle.fish_report.specs.declared.item.Item.{Item}
@@ -25,11 +25,11 @@ use Rattle.fish_whole.specs.Whole.{Whole}
 
 -- ---- lists of lanes
 
--- each lane meets P at its place
+-- each lane meets P at its position
 abbrev pub At : (ℕ → Lane → Type 0) → List Lane → Type 0
 At P lanes = (i : ℕ) (x : Lane) → slice_get lanes i ≡ Some x → P i x
 
--- the lanes at each place meet P, before and after
+-- the lanes at each position meet P, before and after
 abbrev pub Both : (ℕ → Lane → Lane → Type 0) → List Lane → List Lane → Type 0
 Both P old new = (i : ℕ) (x y : Lane) → slice_get old i ≡ Some x → slice_get new i ≡ Some y → P i x y
 
@@ -66,8 +66,8 @@ StoresByLanes s log many = (n lane : ℕ) (form : Form) (payload : List ℕ) →
 
 -- what a block tells of the whole log: each lane's items, of its records between the two ends; there no other lane has stored any; and
 -- the log goes up to the block's end
-pub record TellsBlock (w : Whole) (s : Span) (lanes : List Lane) : Type 0 where
-  pub each : At (λ i x. TellsLane w s (rows_of_lane w.log s.from s.to (i + 1)) x.works x.items) lanes
+pub record SaysBlock (w : Whole) (s : Span) (lanes : List Lane) : Type 0 where
+  pub each : At (λ i x. SaysLane w s (rows_of_lane w.log s.from s.to (i + 1)) x.works x.items) lanes
   pub own : StoresByLanes s w.log (length lanes)
   pub within : s.to ≤ length w.log
 
@@ -93,11 +93,11 @@ abbrev pub IsMarkItem : View → Item → Type 0
 IsMarkItem u x = (file : List ℕ) (line lines end stored refused : ℕ) → x ≡ item.IngestFull file line lines end stored refused
     → Always u (IsMarkAt line lines) × (end ≡ u.about.end)
 
--- the statements of the lane at a place have items, but for those behind a fault, and only the first lane tells besides where an index
+-- the statements of the lane at a position have items, but for those behind a fault, and only the first lane tells besides where an index
 -- begins
-pub record IsEndedLane (place : ℕ) (x : Lane) : Type 0 where
+pub record IsEndedLane (position : ℕ) (x : Lane) : Type 0 where
   pub ended : IsEnded x.works x.items x.fault
-  pub answers : 0 < place → AllOf IsAnswer x.items
+  pub answers : 0 < position → AllOf IsAnswer x.items
 
 abbrev pub AreEnded : List Lane → Type 0
 AreEnded lanes = At IsEndedLane lanes

@@ -1,6 +1,6 @@
 -- The control pass between two blocks: alone, and the log ends at a number that it knows.
 use Rattle.std.specs.Prelude.{ℕ, ◌≡◌, ◌≤◌}
-use Rattle.fish_lanes.specs.Gains.{IsShutTold}
+use Rattle.fish_lanes.specs.Gains.{IsShutSaid}
 use Rattle.fish_rule.specs.LoadSteps.{IsAlone}
 use Rattle.fish_rule.specs.declared.view.Epoch.TheVariants.{Out}
 use Rattle.fish_rule.specs.declared.view.View.{View}
@@ -16,4 +16,4 @@ pub record HasEnd (v : View) (to : ℕ) : Type 0 where
   pub counted : count ≤ v.learned.count
   pub tail : HasTail v count
   pub ends : EndsAt v to count
-  pub marks : IsShutTold v
+  pub marks : IsShutSaid v

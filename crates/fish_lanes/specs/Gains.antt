@@ -23,5 +23,5 @@ IsMarkAt line lines k w = (r : Rule k w)
     → (n : ℕ) × IsFound k w.count w.dir r.start (record { number = n; kind = Mark; line = line; lines = lines })
 
 -- that what shut the pass is a mark is known for good
-abbrev pub IsShutTold : View → Type 0
-IsShutTold v = (s : Shut) → v.shut ≡ Some s → Always v (IsMarkAt s.line s.lines)
+abbrev pub IsShutSaid : View → Type 0
+IsShutSaid v = (s : Shut) → v.shut ≡ Some s → Always v (IsMarkAt s.line s.lines)

@@ -1,12 +1,12 @@
 -- What a block leaves: the store, its lanes, and what their items say. It was run from a store s over a disk, and a
 -- store t and a disk' are there after it; Past is so of what stands before the table.
 use Rattle.std.specs.Prelude.{ℕ, ◌≡◌, ◌≤◌, List, Option, Some, length, slice_get}
-use Rattle.fish_lanes.specs.Blocks.{At, AreEnded, AreKept, HasRegistered, IsBlockSpan, NameMarks, TellsBlock}
+use Rattle.fish_lanes.specs.Blocks.{At, AreEnded, AreKept, HasRegistered, IsBlockSpan, NameMarks, SaysBlock}
 use Rattle.fish_lanes.specs.Controlling.{CanControl, IsCommitted}
 use Rattle.fish_lanes.specs.Ending.{HasEnd}
 use Rattle.fish_lanes.specs.Gains.{WasShut}
-use Rattle.fish_lanes.specs.Outcome.{AreVacant, HandsBack, LanesSayPlans, LeaveNone, Stops, TellFullLast}
-use Rattle.fish_lanes.specs.Outcome.{TellsAlone, TellsShutBy}
+use Rattle.fish_lanes.specs.Outcome.{AreVacant, HandsBack, LanesSayPlans, LeaveNone, Stops, SayFullLast}
+use Rattle.fish_lanes.specs.Outcome.{SaysAlone, SaysShutBy}
 use Rattle.fish_lanes.specs.Plans.{KnowsRows}
 use Rattle.fish_lanes.specs.Registering.{registry_of}
 use Rattle.fish_lanes.specs.Spans.{Span}
@@ -51,9 +51,9 @@ pub record LeavesLanes (Past : Whole → Type 0) (low high : ℕ) (v u : View) (
   pub ended : AreEnded new
   pub stops : At (λ i x. Stops Past low high x) new
   pub left : HandsBack v u new
-  pub last : TellFullLast v new
+  pub last : SayFullLast v new
   pub goes_on : WasShut v → LeaveNone new
-  pub shuts : TellsShutBy v u new
+  pub shuts : SaysShutBy v u new
   pub marks : NameMarks u new
 
 -- the items of lanes are true of each whole that the control pass may leave later; the definitions are those of which
@@ -61,8 +61,8 @@ pub record LeavesLanes (Past : Whole → Type 0) (low high : ℕ) (v u : View) (
 pub record ItemsHold
     (Past : Whole → Type 0) (v u : View) (r t : Registrar) (old new : List Lane) (end : BlockEnd) : Type 0 where
   pub told : (past : Whole) → Past past → (s : Span) → IsBlockSpan v u end.to s → s.lanes ≡ length old
-      → (s.from ≤ s.to) × Will past u (λ w. TellsBlock w s new)
+      → (s.from ≤ s.to) × Will past u (λ w. SaysBlock w s new)
   pub registered : (x : Lane) → slice_get new 0 ≡ Some x → HasRegistered v u r t x end
-  pub alone : TellsAlone Past v u r new
+  pub alone : SaysAlone Past v u r new
   pub plans : (from : ℕ) → HasEnd v from
       → LanesSayPlans (KnowsRows u) (registry_of v r) t.catalog from new

@@ -11,7 +11,7 @@ use Rattle.fish_lanes.specs.declared.work.LaneFault.TheVariants as cause
 use Rattle.fish_registry.specs.declared.registrar.Registrar.{Registrar}
 use Rattle.fish_lanes.specs.Plans.{AreSoPlans}
 use Rattle.fish_lanes.specs.Registering.{Registry}
-use Rattle.fish_lanes.specs.Single.{NamesNone, TellsOnly}
+use Rattle.fish_lanes.specs.Single.{NamesNone, SaysOnly}
 use Rattle.fish_lanes.specs.Sizes.{NamesOneClaim}
 use Rattle.fish_lanes.specs.declared.lane.Lane.{Lane}
 use Rattle.fish_report.specs.declared.item.Item.TheVariants as item
@@ -34,7 +34,7 @@ pub record IsFullIn (lanes : List Lane) (line lines end : ℕ) : Type 0 where
 
 -- what shuts the control pass behind the block did so before, or an item of a lane tells of it, unless one stopped at a fault; what shut
 -- it before still does, and it is shut where an item was refused; and the items of a lane that were refused name one claim
-pub record TellsShutBy (v u : View) (lanes : List Lane) : Type 0 where
+pub record SaysShutBy (v u : View) (lanes : List Lane) : Type 0 where
   pub by : At (λ i x. x.fault ≡ cause.None) lanes → (c : Shut) → u.shut ≡ Some c
       → (v.shut ≡ Some c) ⊎ IsFullIn lanes c.line c.lines c.end
   pub keeps : KeepsShut v u
@@ -56,8 +56,8 @@ abbrev pub HandsBack : View → View → List Lane → Type 0
 HandsBack v u lanes = At (λ i x. x.left ≢ [] → IsCutShort v u x) lanes
 
 -- where the log wasn't full before the block, none but the last item of a lane tells that it is
-abbrev pub TellFullLast : View → List Lane → Type 0
-TellFullLast v lanes = v.shut ≡ None → At (λ i x. AreFullLast x.items) lanes
+abbrev pub SayFullLast : View → List Lane → Type 0
+SayFullLast v lanes = v.shut ≡ None → At (λ i x. AreFullLast x.items) lanes
 
 -- no lane hands any back
 abbrev pub LeaveNone : List Lane → Type 0
@@ -74,13 +74,13 @@ LanesSayPlans Are r rows from lanes = At (λ i x. AreSoPlans Are r rows from x.w
 
 -- the items of a block of one lane name no open number and no other lane; and where no registration waited for its boundary, one
 -- statement that is all of the block tells what can be told where nothing runs beside it
-pub record TellsAloneBy (Past : Whole → Type 0) (v u : View) (r : Registrar) (x : Lane) : Type 0 where
+pub record SaysAloneBy (Past : Whole → Type 0) (v u : View) (r : Registrar) (x : Lane) : Type 0 where
   pub closed : AllOf NamesNone x.items
-  pub only : (end : ℕ) → HasEnd v end → r.waiting ≡ None → TellsOnly Past v u r.catalog end x.works x.items
+  pub only : (end : ℕ) → HasEnd v end → r.waiting ≡ None → SaysOnly Past v u r.catalog end x.works x.items
 
 -- the same where the lane is all of the block
-abbrev pub TellsAlone : (Whole → Type 0) → View → View → Registrar → List Lane → Type 0
-TellsAlone Past v u r lanes = (x : Lane) → lanes ≡ x ∷ [] → TellsAloneBy Past v u r x
+abbrev pub SaysAlone : (Whole → Type 0) → View → View → Registrar → List Lane → Type 0
+SaysAlone Past v u r lanes = (x : Lane) → lanes ≡ x ∷ [] → SaysAloneBy Past v u r x
 
 -- ---- passes
 

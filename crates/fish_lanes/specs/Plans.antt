@@ -49,8 +49,8 @@ pub record IsIndexPiece (told rows : List CatRow) (id begin end : ℕ) : Type 0 
 -- the pieces of a plan by a text: unless all numbers were to be read one by one, none below the log's end before the block is that
 -- is covered
 pub record IsPlanOf (told rows : List CatRow) (from : ℕ) (text : List ℕ) (way : How) (plan : List Piece) : Type 0 where
-  pub indexed : (place id begin end : ℕ) → slice_get plan place ≡ Some (Index id begin end) → IsIndexPiece told rows id begin end
-  pub full : way ≢ how.Full → (place begin end n : ℕ) → slice_get plan place ≡ Some (Full begin end) → begin ≤ n → n < end
+  pub indexed : (position id begin end : ℕ) → slice_get plan position ≡ Some (Index id begin end) → IsIndexPiece told rows id begin end
+  pub full : way ≢ how.Full → (position begin end n : ℕ) → slice_get plan position ≡ Some (Full begin end) → begin ≤ n → n < end
       → n < from → ¬ IsCoveredNumber told rows text n
 
 -- ---- items
@@ -66,37 +66,37 @@ RowsAre w version rows = w.rows version ≡ rows
 pub record IsNamedAt (Are : ℕ → List Listed → Type 0) (ask : Ask) (version : ℕ) : Type 0 where
   pub rows : List Listed
   pub are : Are version rows
-  pub place : ℕ
-  pub newest : IsNewest rows ask.name place
+  pub position : ℕ
+  pub newest : IsNewest rows ask.name position
 
 -- a plan, or a refusal, at a version: the text is that which the name means there
-pub record TellsPlanned (Are : ℕ → List Listed → Type 0) (told rows : List CatRow) (from : ℕ) (ask : Ask) (plan : List Piece)
+pub record SaysPlanned (Are : ℕ → List Listed → Type 0) (told rows : List CatRow) (from : ℕ) (ask : Ask) (plan : List Piece)
     (version : ℕ) : Type 0 where
   pub named : IsNamedAt Are ask version
   pub plan_is : IsPlanOf told rows from named.newest.listed.def ask.how plan
 
-pub record TellsUncovered (Are : ℕ → List Listed → Type 0) (told rows : List CatRow) (ask : Ask) (begin end version : ℕ) : Type 0 where
+pub record SaysUncovered (Are : ℕ → List Listed → Type 0) (told rows : List CatRow) (ask : Ask) (begin end version : ℕ) : Type 0 where
   pub named : IsNamedAt Are ask version
   pub none : HoldsNone told rows named.newest.listed.def begin end
 
-abbrev pub TellsPlansOf : (ℕ → List Listed → Type 0) → List CatRow → List CatRow → ℕ → Ask → Item → Type 0
-TellsPlansOf Are told rows from ask (item.Explained name value first last plan version) = TellsPlanned Are told rows from ask plan version
-TellsPlansOf Are told rows from ask (item.ExplainRefused name version (cause.NotCovered first last)) =
-    TellsUncovered Are told rows ask first last version
-TellsPlansOf Are told rows from ask (item.ScanRefused name version (cause.NotCovered first last)) =
-    TellsUncovered Are told rows ask first last version
-TellsPlansOf Are told rows from ask x = ⊤
+abbrev pub SaysPlansOf : (ℕ → List Listed → Type 0) → List CatRow → List CatRow → ℕ → Ask → Item → Type 0
+SaysPlansOf Are told rows from ask (item.Explained name value first last plan version) = SaysPlanned Are told rows from ask plan version
+SaysPlansOf Are told rows from ask (item.ExplainRefused name version (cause.NotCovered first last)) =
+    SaysUncovered Are told rows ask first last version
+SaysPlansOf Are told rows from ask (item.ScanRefused name version (cause.NotCovered first last)) =
+    SaysUncovered Are told rows ask first last version
+SaysPlansOf Are told rows from ask x = ⊤
 
 -- the item of a statement
-abbrev pub TellsPlans : (ℕ → List Listed → Type 0) → List CatRow → List CatRow → ℕ → Work → Item → Type 0
-TellsPlans Are told rows from (work.Scan ask) x = TellsPlansOf Are told rows from ask x
-TellsPlans Are told rows from (work.Explain ask) x = TellsPlansOf Are told rows from ask x
-TellsPlans Are told rows from w x = ⊤
+abbrev pub SaysPlans : (ℕ → List Listed → Type 0) → List CatRow → List CatRow → ℕ → Work → Item → Type 0
+SaysPlans Are told rows from (work.Scan ask) x = SaysPlansOf Are told rows from ask x
+SaysPlans Are told rows from (work.Explain ask) x = SaysPlansOf Are told rows from ask x
+SaysPlans Are told rows from w x = ⊤
 
 -- of the first of some statements
-abbrev pub TellsFirstPlans : (ℕ → List Listed → Type 0) → List CatRow → List CatRow → ℕ → List Work → Item → Type 0
-TellsFirstPlans Are told rows from [] x = ⊤
-TellsFirstPlans Are told rows from (w ∷ works) x = TellsPlans Are told rows from w x
+abbrev pub SaysFirstPlans : (ℕ → List Listed → Type 0) → List CatRow → List CatRow → ℕ → List Work → Item → Type 0
+SaysFirstPlans Are told rows from [] x = ⊤
+SaysFirstPlans Are told rows from (w ∷ works) x = SaysPlans Are told rows from w x
 
 -- the statements behind the item: a boundary that was found later answers none
 abbrev pub works_behind : Item → List Work → List Work
@@ -105,5 +105,5 @@ works_behind x works = cond (is_answer x) (drop 1 works) works
 -- what the items of a lane say, where the definitions in front of them are these, and the rows behind the block those
 abbrev pub AreSoPlans : (ℕ → List Listed → Type 0) → Registry → List CatRow → ℕ → List Work → List Item → Type 0
 AreSoPlans Are r rows from works [] = ⊤
-AreSoPlans Are r rows from works (x ∷ items) = TellsFirstPlans Are r.rows rows from works x
+AreSoPlans Are r rows from works (x ∷ items) = SaysFirstPlans Are r.rows rows from works x
     × AreSoPlans Are (after r x) rows from (works_behind x works) items

@@ -36,8 +36,8 @@ pub record HasRows (w : Whole) (s : Span) (version : ℕ) (rows : List Listed) :
 pub record Means (w : Whole) (s : Span) (version : ℕ) (name : List ℕ) (def : Definition) : Type 0 where
   pub rows : List Listed
   pub has : HasRows w s version rows
-  pub place : ℕ
-  pub newest : IsNewest rows name place
+  pub position : ℕ
+  pub newest : IsNewest rows name position
   pub accepted : IsAccepted newest.listed.def def
 
 -- the number is one that was asked for
@@ -67,7 +67,7 @@ pub record AreOpen (begin end : ℕ) (entries : List Entry) (from to : ℕ) (ope
 
 -- a scan: its rows are exactly the records of the log in its range, less the open ones, on which the definition that the
 -- name means has the value, newest first
-pub record TellsScan (w : Whole) (s : Span) (seen : ℕ → Type 0) (ask : Ask) (from to : ℕ) (opens : List ℕ)
+pub record SaysScan (w : Whole) (s : Span) (seen : ℕ → Type 0) (ask : Ask) (from to : ℕ) (opens : List ℕ)
     (rows : List Row) (version : ℕ) : Type 0 where
   pub range : IsAskedRange s ask from to
   pub def : Definition
@@ -78,16 +78,16 @@ pub record TellsScan (w : Whole) (s : Span) (seen : ℕ → Type 0) (ask : Ask) 
 
 -- a plan: its pieces fill the range, each by an index is by one of a row with the text that the name means, and of numbers of
 -- the log, and it is one piece where the numbers are to be read one by one
-pub record TellsPlan (w : Whole) (s : Span) (seen : ℕ → Type 0) (ask : Ask) (from to : ℕ) (plan : List Piece)
+pub record SaysPlan (w : Whole) (s : Span) (seen : ℕ → Type 0) (ask : Ask) (from to : ℕ) (plan : List Piece)
     (version : ℕ) : Type 0 where
   pub range : IsAskedRange s ask from to
   pub rows : List Listed
   pub has : HasRows w s version rows
-  pub place : ℕ
-  pub newest : IsNewest rows ask.name place
+  pub position : ℕ
+  pub newest : IsNewest rows ask.name position
   pub holds : HoldsSeen w seen ask from to []
   pub fill : Fill plan from to
-  pub indexed : (place id begin end : ℕ) → slice_get plan place ≡ Some (Index id begin end)
+  pub indexed : (position id begin end : ℕ) → slice_get plan position ≡ Some (Index id begin end)
       → (end ≤ length w.log) × ((row : Listed) × (slice_get rows id ≡ Some row) × (row.def ≡ newest.listed.def))
   pub full : ask.how ≡ how.Full → plan ≡ one_full from to
 
@@ -102,26 +102,26 @@ IsRefusedFor w s ask version (cause.NotCovered from to) = (ask.how ≡ how.Index
 -- ---- items
 
 -- the item of a scan
-pub record TellsScanned (w : Whole) (s : Span) (seen : ℕ → Type 0) (ask : Ask) (x : Item) : Type 0 where
+pub record SaysScanned (w : Whole) (s : Span) (seen : ℕ → Type 0) (ask : Ask) (x : Item) : Type 0 where
   pub from : ℕ
   pub to : ℕ
   pub opens : List ℕ
   pub rows : List Row
   pub version : ℕ
   pub is : x ≡ item.Scanned ask.name ask.value from to opens rows version
-  pub tells : TellsScan w s seen ask from to opens rows version
+  pub tells : SaysScan w s seen ask from to opens rows version
 
 -- of a plan
-pub record TellsExplained (w : Whole) (s : Span) (seen : ℕ → Type 0) (ask : Ask) (x : Item) : Type 0 where
+pub record SaysExplained (w : Whole) (s : Span) (seen : ℕ → Type 0) (ask : Ask) (x : Item) : Type 0 where
   pub from : ℕ
   pub to : ℕ
   pub plan : List Piece
   pub version : ℕ
   pub is : x ≡ item.Explained ask.name ask.value from to plan version
-  pub tells : TellsPlan w s seen ask from to plan version
+  pub tells : SaysPlan w s seen ask from to plan version
 
 -- and of a refusal, at a version of the block
-pub record TellsRefused (w : Whole) (s : Span) (ask : Ask) (refused : List ℕ → ℕ → ScanCause → Item) (x : Item)
+pub record SaysRefused (w : Whole) (s : Span) (ask : Ask) (refused : List ℕ → ℕ → ScanCause → Item) (x : Item)
     : Type 0 where
   pub version : ℕ
   pub why : ScanCause

@@ -58,14 +58,14 @@ IsReadBy rows text how.Index from settled to plan = IsCoverOf rows text from set
 -- the plan of all that is asked for, by the text of the newest row with the name
 pub record IsPlanFor (rows : List CatRow) (ask : Ask) (end from to : ℕ) (plan : List Piece) : Type 0 where
   pub whole : IsWhole ask end from to
-  pub place : ℕ
-  pub newest : IsNewest (map listed_of rows) ask.name place
+  pub position : ℕ
+  pub newest : IsNewest (map listed_of rows) ask.name position
   pub is : IsReadBy rows newest.listed.def ask.how from end to plan
 
 -- the numbers are those of the first gap in the cover of it
 pub record IsGapFor (rows : List CatRow) (ask : Ask) (end from to : ℕ) : Type 0 where
-  pub place : ℕ
-  pub newest : IsNewest (map listed_of rows) ask.name place
+  pub position : ℕ
+  pub newest : IsNewest (map listed_of rows) ask.name position
   pub first : ℕ
   pub last : ℕ
   pub whole : IsWhole ask end first last
@@ -84,7 +84,7 @@ pub record IsScanWork (Past : Whole → Type 0) (v u : View) (rows : List CatRow
   pub loads : LoadsWithin Past v u ask.value answer
 
 -- a plan was told
-pub record IsPlanTold (rows : List CatRow) (end : ℕ) (ask : Ask) (x : Item) : Type 0 where
+pub record IsPlanSaid (rows : List CatRow) (end : ℕ) (ask : Ask) (x : Item) : Type 0 where
   pub explained : Explained
   pub version : ℕ
   pub is : x ≡ explained_item ask explained version
@@ -96,7 +96,7 @@ IsCauseAt rows end ask (cause.NotCovered from to) = IsGapFor rows ask end from t
 IsCauseAt rows end ask why = ⊤
 
 -- the item of a refusal
-pub record IsCauseTold (rows : List CatRow) (end : ℕ) (ask : Ask) (refused : List ℕ → ℕ → ScanCause → Item) (x : Item) : Type 0 where
+pub record IsCauseSaid (rows : List CatRow) (end : ℕ) (ask : Ask) (refused : List ℕ → ℕ → ScanCause → Item) (x : Item) : Type 0 where
   pub version : ℕ
   pub why : ScanCause
   pub is : x ≡ refused ask.name version why
@@ -110,17 +110,17 @@ IsBoundaryAt full end x = ⊤
 
 -- the item of the statement, where the log ended at a number before the block, the rows were these, and the pass was the first before
 -- it, and is the second behind it
-abbrev pub TellsSingle : (Whole → Type 0) → View → View → List CatRow → ℕ → Work → Item → Type 0
-TellsSingle Past v u rows end (work.Scan ask) x = IsScanWork Past v u rows end ask x ⊎ IsCauseTold rows end ask item.ScanRefused x
-TellsSingle Past v u rows end (work.Explain ask) x = IsPlanTold rows end ask x ⊎ IsCauseTold rows end ask item.ExplainRefused x
-TellsSingle Past v u rows end work.Checkpoint x = x ≡ item.Checkpointed end
-TellsSingle Past v u rows end (work.Register name def) x = IsBoundaryAt v.shut end x
-TellsSingle Past v u rows end (work.Deregister name) x = IsBoundaryAt v.shut end x
-TellsSingle Past v u rows end w x = ⊤
+abbrev pub SaysSingle : (Whole → Type 0) → View → View → List CatRow → ℕ → Work → Item → Type 0
+SaysSingle Past v u rows end (work.Scan ask) x = IsScanWork Past v u rows end ask x ⊎ IsCauseSaid rows end ask item.ScanRefused x
+SaysSingle Past v u rows end (work.Explain ask) x = IsPlanSaid rows end ask x ⊎ IsCauseSaid rows end ask item.ExplainRefused x
+SaysSingle Past v u rows end work.Checkpoint x = x ≡ item.Checkpointed end
+SaysSingle Past v u rows end (work.Register name def) x = IsBoundaryAt v.shut end x
+SaysSingle Past v u rows end (work.Deregister name) x = IsBoundaryAt v.shut end x
+SaysSingle Past v u rows end w x = ⊤
 
 -- where one statement is all that was to do, its item
-abbrev pub TellsOnly : (Whole → Type 0) → View → View → List CatRow → ℕ → List Work → List Item → Type 0
-TellsOnly Past v u rows end works items = (w : Work) → works ≡ w ∷ [] → AllOf (TellsSingle Past v u rows end w) (answers items)
+abbrev pub SaysOnly : (Whole → Type 0) → View → View → List CatRow → ℕ → List Work → List Item → Type 0
+SaysOnly Past v u rows end works items = (w : Work) → works ≡ w ∷ [] → AllOf (SaysSingle Past v u rows end w) (answers items)
 
 -- ---- without the pass
 
@@ -130,12 +130,12 @@ CanPlan rows ask end from to = (plan : List Piece) × IsPlanFor rows ask end fro
 
 -- the range that an item tells of is all that is asked for of a log that ends at this number, and is planned by these rows; a checkpoint
 -- tells that number, and so does a boundary, unless this claim had found the log full
-abbrev pub TellsWhole : List CatRow → Option Shut → ℕ → Work → Item → Type 0
-TellsWhole rows full end (work.Scan ask) (item.Scanned name value from to opens found version) = CanPlan rows ask end from to
-TellsWhole rows full end (work.Scan ask) (item.ScanRefused name version why) = IsCauseAt rows end ask why
-TellsWhole rows full end (work.Explain ask) (item.Explained name value from to plan version) = IsPlanFor rows ask end from to plan
-TellsWhole rows full end (work.Explain ask) (item.ExplainRefused name version why) = IsCauseAt rows end ask why
-TellsWhole rows full end work.Checkpoint x = x ≡ item.Checkpointed end
-TellsWhole rows full end (work.Register name def) x = IsBoundaryAt full end x
-TellsWhole rows full end (work.Deregister name) x = IsBoundaryAt full end x
-TellsWhole rows full end w x = ⊤
+abbrev pub SaysWhole : List CatRow → Option Shut → ℕ → Work → Item → Type 0
+SaysWhole rows full end (work.Scan ask) (item.Scanned name value from to opens found version) = CanPlan rows ask end from to
+SaysWhole rows full end (work.Scan ask) (item.ScanRefused name version why) = IsCauseAt rows end ask why
+SaysWhole rows full end (work.Explain ask) (item.Explained name value from to plan version) = IsPlanFor rows ask end from to plan
+SaysWhole rows full end (work.Explain ask) (item.ExplainRefused name version why) = IsCauseAt rows end ask why
+SaysWhole rows full end work.Checkpoint x = x ≡ item.Checkpointed end
+SaysWhole rows full end (work.Register name def) x = IsBoundaryAt full end x
+SaysWhole rows full end (work.Deregister name) x = IsBoundaryAt full end x
+SaysWhole rows full end w x = ⊤

@@ -43,11 +43,11 @@ abbrev pub IsEarlier : Span → List Shown → ℕ → ℕ → ℕ → Type 0
 IsEarlier s shown line lines end = (s.full ≡ Some (claim_of line lines end)) ⊎ Among (claimed line lines end) shown
 
 -- an item tells of the claim
-abbrev pub TellsClaim : Shut → List Item → Type 0
-TellsClaim c items = (file : List ℕ) × (stored : ℕ) × (refused : ℕ)
+abbrev pub SaysClaim : Shut → List Item → Type 0
+SaysClaim c items = (file : List ℕ) × (stored : ℕ) × (refused : ℕ)
     × Among (item.IngestFull file c.line c.lines c.end stored refused) items
 
 -- items that a full log refused name one claim, and that which had found it full before them, if any
 pub record NamesOneClaim (full : Option Shut) (items : List Item) : Type 0 where
-  pub one : (c d : Shut) → TellsClaim c items → TellsClaim d items → c ≡ d
-  pub given : (c d : Shut) → full ≡ Some c → TellsClaim d items → d ≡ c
+  pub one : (c d : Shut) → SaysClaim c items → SaysClaim d items → c ≡ d
+  pub given : (c d : Shut) → full ≡ Some c → SaysClaim d items → d ≡ c

@@ -4,7 +4,7 @@ use Rattle.fish_lang.specs.Canonical.{definition_text}
 use Rattle.fish_lang.specs.Definition.{definition_of}
 use Rattle.fish_lanes.specs.Records.{Content, HasNumber, LaneRow, contents}
 use Rattle.fish_lanes.specs.Registering.{IsDeregisterItem, IsRegisterItem}
-use Rattle.fish_lanes.specs.Scanning.{TellsExplained, TellsRefused, TellsScanned}
+use Rattle.fish_lanes.specs.Scanning.{SaysExplained, SaysRefused, SaysScanned}
 use Rattle.fish_lanes.specs.Seen.{IsSeen, Shown, settled, shown_by}
 use Rattle.fish_lanes.specs.Sizes.{IsEarlier, IsSizeOf}
 use Rattle.fish_lanes.specs.Spans.{Span, answers, behind}
@@ -51,7 +51,7 @@ pub record AreCountedUpTo (outs : List (Option (List ℕ))) (stored many : ℕ) 
 -- ---- one item
 
 -- the file is no longer than a file may be, and so many of its lines or rows are stored, and so many are no record
-pub record TellsStored (outs : List (Option (List ℕ))) (name file : List ℕ) (x : Item) : Type 0 where
+pub record SaysStored (outs : List (Option (List ℕ))) (name file : List ℕ) (x : Item) : Type 0 where
   pub stored : ℕ
   pub many : ℕ
   pub is : x ≡ item.Ingested name stored many
@@ -60,7 +60,7 @@ pub record TellsStored (outs : List (Option (List ℕ))) (name file : List ℕ) 
 
 -- or only those in front of a record whose region ends past the log's end; its lines are those of that record, or those of the
 -- claim that found the log full before
-pub record TellsFull (w : Whole) (s : Span) (shown : List Shown) (form : Form) (outs : List (Option (List ℕ))) (name file : List ℕ)
+pub record SaysFull (w : Whole) (s : Span) (shown : List Shown) (form : Form) (outs : List (Option (List ℕ))) (name file : List ℕ)
     (x : Item) : Type 0 where
   pub line : ℕ
   pub lines : ℕ
@@ -74,13 +74,13 @@ pub record TellsFull (w : Whole) (s : Span) (shown : List Shown) (form : Form) (
   pub size : IsEarlier s shown line lines end ⊎ IsSizeOf w s form counted.payload lines
 
 -- or the file is too long, and nothing of it is stored
-pub record TellsTooLong (name file : List ℕ) (x : Item) : Type 0 where
+pub record SaysTooLong (name file : List ℕ) (x : Item) : Type 0 where
   pub is : x ≡ item.IngestTooLong name 0 0
   pub past : longest_file < length file
 
 -- all below a number is stored, which lies between the block's ends and is no less than an earlier item told, so that checkpoints never
 -- fall; and where no other lane is, all that the lane stored before lies below it
-pub record TellsCheckpoint (s : Span) (before : List LaneRow) (shown : List Shown) (x : Item) : Type 0 where
+pub record SaysCheckpoint (s : Span) (before : List LaneRow) (shown : List Shown) (x : Item) : Type 0 where
   pub count : ℕ
   pub is : x ≡ item.Checkpointed count
   pub above : s.from ≤ count
@@ -89,31 +89,31 @@ pub record TellsCheckpoint (s : Span) (before : List LaneRow) (shown : List Show
   pub rises : (earlier : ℕ) → Among (settled earlier) shown → earlier ≤ count
 
 -- what one item tells of its block, behind these rows of its lane and what was shown
-abbrev pub TellsItem : Whole → Span → List LaneRow → List Shown → Work → Item → Type 0
-TellsItem w s before shown (work.Register name def) x = IsRegisterItem name (definition_text (definition_of def)) x
-TellsItem w s before shown (work.Deregister name) x = IsDeregisterItem name x
-TellsItem w s before shown (work.Ingest form begin name file) x = TellsStored (outcomes_from form begin file) name file x
-    ⊎ (TellsFull w s shown form (outcomes_from form begin file) name file x ⊎ TellsTooLong name file x)
-TellsItem w s before shown (work.Scan ask) x = TellsScanned w s (IsSeen s.from before shown) ask x
-    ⊎ TellsRefused w s ask item.ScanRefused x
-TellsItem w s before shown (work.Explain ask) x = TellsExplained w s (IsSeen s.from before shown) ask x
-    ⊎ TellsRefused w s ask item.ExplainRefused x
-TellsItem w s before shown work.Checkpoint x = TellsCheckpoint s before shown x
+abbrev pub SaysItem : Whole → Span → List LaneRow → List Shown → Work → Item → Type 0
+SaysItem w s before shown (work.Register name def) x = IsRegisterItem name (definition_text (definition_of def)) x
+SaysItem w s before shown (work.Deregister name) x = IsDeregisterItem name x
+SaysItem w s before shown (work.Ingest form begin name file) x = SaysStored (outcomes_from form begin file) name file x
+    ⊎ (SaysFull w s shown form (outcomes_from form begin file) name file x ⊎ SaysTooLong name file x)
+SaysItem w s before shown (work.Scan ask) x = SaysScanned w s (IsSeen s.from before shown) ask x
+    ⊎ SaysRefused w s ask item.ScanRefused x
+SaysItem w s before shown (work.Explain ask) x = SaysExplained w s (IsSeen s.from before shown) ask x
+    ⊎ SaysRefused w s ask item.ExplainRefused x
+SaysItem w s before shown work.Checkpoint x = SaysCheckpoint s before shown x
 
 -- ---- the items of a lane
 
 -- what the items of a lane tell: the rows are what they say is stored, one after the other; where statements are
 -- left without an item, the rest of the rows are the first payloads of the next statement
-abbrev pub TellsItems : Whole → Span → List LaneRow → List Shown → List LaneRow → List Work → List Item → Type 0
-TellsItems w s before shown rows [] [] = rows ≡ []
-TellsItems w s before shown rows [] (x ∷ items) = ⊥
-TellsItems w s before shown rows (y ∷ works) [] = (j : ℕ) × (contents rows ≡ take j (content_of y))
-TellsItems w s before shown rows (y ∷ works) (x ∷ items) = (mine : List LaneRow) × (rest : List LaneRow)
+abbrev pub SaysItems : Whole → Span → List LaneRow → List Shown → List LaneRow → List Work → List Item → Type 0
+SaysItems w s before shown rows [] [] = rows ≡ []
+SaysItems w s before shown rows [] (x ∷ items) = ⊥
+SaysItems w s before shown rows (y ∷ works) [] = (j : ℕ) × (contents rows ≡ take j (content_of y))
+SaysItems w s before shown rows (y ∷ works) (x ∷ items) = (mine : List LaneRow) × (rest : List LaneRow)
     × (rows ≡ mine ++ rest)
     × (contents mine ≡ take (count_of x) (content_of y))
-    × TellsItem w s before shown y x
-    × TellsItems w (behind x s) (before ++ mine) (shown ++ shown_by x) rest works items
+    × SaysItem w s before shown y x
+    × SaysItems w (behind x s) (before ++ mine) (shown ++ shown_by x) rest works items
 
 -- the same from the lane's first statement on, by the items that answer statements
-abbrev pub TellsLane : Whole → Span → List LaneRow → List Work → List Item → Type 0
-TellsLane w s rows works items = TellsItems w s [] [] rows works (answers items)
+abbrev pub SaysLane : Whole → Span → List LaneRow → List Work → List Item → Type 0
+SaysLane w s rows works items = SaysItems w s [] [] rows works (answers items)

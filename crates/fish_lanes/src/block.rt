@@ -3,13 +3,13 @@
 ghost use Rattle.std.specs.Prelude.{◌≡◌, ◌≤◌, ◌<◌, ◌+◌, ◌∷◌, ℕ, length, slice_get, Some, [], All};
 ghost use Rattle.std.specs.Thread.{IsSync};
 ghost use Rattle.fish_lanes.specs.Blocks.{At, AreEnded, AreKept, AreLanes, HasRegistered, IsBlockSpan, IsKept, IsNewLane};
-ghost use Rattle.fish_lanes.specs.Blocks.{NameMarks, TellsBlock};
+ghost use Rattle.fish_lanes.specs.Blocks.{NameMarks, SaysBlock};
 ghost use Rattle.fish_lanes.specs.Controlling.{CanControl, IsCommitted};
 ghost use Rattle.fish_lanes.specs.Ending.{HasEnd};
 ghost use Rattle.fish_lanes.specs.Gains.{WasShut};
 ghost use Rattle.fish_lanes.specs.Leaving.{ItemsHold, LeavesLanes, LeavesStore};
-ghost use Rattle.fish_lanes.specs.Outcome.{AreVacant, HandsBack, LanesSayPlans, LeaveNone, Stops, TellFullLast};
-ghost use Rattle.fish_lanes.specs.Outcome.{TellsAlone, TellsAloneBy, TellsShutBy};
+ghost use Rattle.fish_lanes.specs.Outcome.{AreVacant, HandsBack, LanesSayPlans, LeaveNone, Stops, SayFullLast};
+ghost use Rattle.fish_lanes.specs.Outcome.{SaysAlone, SaysAloneBy, SaysShutBy};
 ghost use Rattle.fish_lanes.specs.Plans.{KnowsRows};
 ghost use Rattle.fish_lanes.specs.Registering.{IsAcceptable, KnowsRegistry, registry_of};
 ghost use Rattle.fish_lanes.specs.Spans.{Span};
@@ -279,17 +279,17 @@ fn run_lanes<R: Threads + Sync, D: Disk + Send, G: Gate + Sync>(
     ensures first_seat { first.new.seat ≡ first.old.seat }
     ensures kept { AreKept others.old others.new }
     ensures vacant { AreVacant others.new }
-    ensures told { (past : Whole) → IsSoundBehind D.content D.images (point_of disk.old file.old log.now main.old registrar.old)
+    ensures sound { (past : Whole) → IsSoundBehind D.content D.images (point_of disk.old file.old log.now main.old registrar.old)
         (D.content disk.new) past → (s : Span) → IsBlockSpan (view main.old) (view main.new) result.to s
-        → s.lanes ≡ length others.old + 1 → (s.from ≤ s.to) × Will past (view main.new) (λ w. TellsBlock w s (first.new ∷ others.new)) }
+        → s.lanes ≡ length others.old + 1 → (s.from ≤ s.to) × Will past (view main.new) (λ w. SaysBlock w s (first.new ∷ others.new)) }
     ensures registered { HasRegistered (view main.old) (view main.new) registrar.old registrar.new first.new result }
-    ensures alone { others.old ≡ [] → TellsAloneBy (IsSoundBehind D.content D.images
+    ensures alone { others.old ≡ [] → SaysAloneBy (IsSoundBehind D.content D.images
         (point_of disk.old file.old log.now main.old registrar.old) (D.content disk.new)) (view main.old) (view main.new) registrar.old
         first.new }
     ensures ended { AreEnded (first.new ∷ others.new) }
-    ensures shuts { TellsShutBy (view main.old) (view main.new) (first.new ∷ others.new) }
+    ensures shuts { SaysShutBy (view main.old) (view main.new) (first.new ∷ others.new) }
     ensures left { HandsBack (view main.old) (view main.new) (first.new ∷ others.new) }
-    ensures last { TellFullLast (view main.old) (first.new ∷ others.new) }
+    ensures last { SayFullLast (view main.old) (first.new ∷ others.new) }
     ensures plans { (from : ℕ) → HasEnd (view main.old) from → LanesSayPlans (KnowsRows (view main.new))
         (registry_of (view main.old) registrar.old) registrar.new.catalog from (first.new ∷ others.new) }
     ensures marks { NameMarks (view main.new) (first.new ∷ others.new) }

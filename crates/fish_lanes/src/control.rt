@@ -7,7 +7,7 @@ ghost use Rattle.fish_lanes.specs.Causes.{HasCause, IsUndamaged};
 ghost use Rattle.fish_lanes.specs.Controlling.{CanControl, IsCommitted};
 ghost use Rattle.fish_lanes.specs.within.Controlling.{HasControlled, IsControlled, IsPartControlled};
 ghost use Rattle.fish_lanes.specs.within.Doing.{FitsCheckpoint};
-ghost use Rattle.fish_lanes.specs.within.Full.{TellsLast, done_of};
+ghost use Rattle.fish_lanes.specs.within.Full.{SaysLast, done_of};
 ghost use Rattle.fish_lanes.specs.Gains.{WasShut};
 ghost use Rattle.fish_lanes.specs.Registering.{IsAcceptable, KnowsRegistry, registry_of};
 ghost use Rattle.fish_lanes.specs.Spans.{answers};
@@ -63,7 +63,7 @@ pub(crate) fn run_control<D: Disk, G: Gate>(
         (done_of result (length (answers items.new)) works.now) items.new result }
     ensures all { result ≡ cause.None → (length works.now ≤ length (answers items.new))
         ⊎ (((view pass.old).shut ≡ None) × WasShut (view pass.new)) }
-    ensures last { (view pass.old).shut ≡ None → TellsLast (view pass.new) items.new result }
+    ensures last { (view pass.old).shut ≡ None → SaysLast (view pass.new) items.new result }
     ensures committed { AllOf (IsCommitted file.new.flusher.count) items.new }
 
     ensures cause { HasCause (D.faults disk.old) (D.faults disk.new) result }
@@ -73,12 +73,12 @@ pub(crate) fn run_control<D: Disk, G: Gate>(
 {
     let mut defs = Defs::new(alloc);
     let full = is_full(pass);
-    let mut place: u32 = 0;
+    let mut position: u32 = 0;
     for work in works {
         if finds_full(pass, full) {
             return LaneFault::None;
         }
-        gate.reach(lane(pass), Point::Before(place));
+        gate.reach(lane(pass), Point::Before(position));
         if find_boundary(log, pass, registrar, items).is_err() {
             return LaneFault::Memory;
         }
@@ -92,8 +92,8 @@ pub(crate) fn run_control<D: Disk, G: Gate>(
             Ok(()) => {}
             Err(_) => return LaneFault::Memory,
         }
-        gate.reach(lane(pass), Point::After(place));
-        place = place.saturating_add(1);
+        gate.reach(lane(pass), Point::After(position));
+        position = position.saturating_add(1);
     }
     LaneFault::None
 }

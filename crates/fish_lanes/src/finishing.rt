@@ -10,7 +10,7 @@ ghost use Rattle.fish_lanes.specs.Blocks.{At, Both};
 ghost use Rattle.fish_lanes.specs.within.Blocks.{AreReady};
 ghost use Rattle.fish_lanes.specs.Causes.{HasCause, IsUndamaged};
 ghost use Rattle.fish_lanes.specs.within.Doing.{IsItem, IsPart};
-ghost use Rattle.fish_lanes.specs.within.Full.{HasFound, TellsLast};
+ghost use Rattle.fish_lanes.specs.within.Full.{HasFound, SaysLast};
 ghost use Rattle.fish_lanes.specs.Gains.{WasShut};
 ghost use Rattle.fish_lanes.specs.Outcome.{Stops};
 ghost use Rattle.fish_lanes.specs.within.Pasts.{IsHere, WasHere};
@@ -28,7 +28,7 @@ use crate::gate::{Gate, Point};
 use crate::handing::hand_back;
 use crate::lane::{Lane, Seated};
 use crate::scanning::scan_older;
-use crate::statements::{finds_full, place_of, run_work};
+use crate::statements::{finds_full, position_of, run_work};
 use crate::work::{LaneFault, Work};
 use fish_disk::Disk;
 use fish_epoch::Defs;
@@ -132,7 +132,7 @@ fn finish_works<D: Disk, G: Gate>(
         (view pass.new) works.now items.old items.new result }
     ensures answers { AllOf IsAnswer items.old → AllOf IsAnswer items.new }
     ensures all { result ≡ cause.None → (length works.now ≤ length items.new) ⊎ ((full ≡ false) × WasShut (view pass.new)) }
-    ensures last { full ≡ false → HasFound (view pass.old) items.old → TellsLast (view pass.new) items.new result }
+    ensures last { full ≡ false → HasFound (view pass.old) items.old → SaysLast (view pass.new) items.new result }
 
     ensures cause { HasCause (D.faults disk.old) (D.faults disk.new) result }
     ensures whole { (past : Whole) → WasHere (D.content disk.old) log.now.key file.old.cold (D.content disk.new) past
@@ -143,8 +143,8 @@ fn finish_works<D: Disk, G: Gate>(
         if finds_full(pass, full) {
             return LaneFault::None;
         }
-        let place = place_of(items);
-        gate.reach(lane(pass), Point::Before(place));
+        let position = position_of(items);
+        gate.reach(lane(pass), Point::Before(position));
         let item = match run_shared(alloc, log, pass, file, disk, &mut defs, &works[next], gate) {
             Ok(item) => item,
             Err(fault) => return fault,
@@ -153,7 +153,7 @@ fn finish_works<D: Disk, G: Gate>(
             Ok(()) => {}
             Err(_) => return LaneFault::Memory,
         }
-        gate.reach(lane(pass), Point::After(place));
+        gate.reach(lane(pass), Point::After(position));
     }
     LaneFault::None
 }

@@ -7,8 +7,8 @@ ghost use Rattle.fish_lang.specs.Canonical.{definition_text};
 ghost use Rattle.fish_lang.specs.Definition.{definition_of};
 ghost use Rattle.fish_lanes.specs.Controlling.{CanControl};
 ghost use Rattle.fish_lanes.specs.within.Controlling.{Does, HasLooked, HasPolled, IsFound};
-ghost use Rattle.fish_lanes.specs.within.Controlling.{KnowsAll, RollsBy, TellsBegun};
-ghost use Rattle.fish_lanes.specs.within.Controlling.{TellsTail, WaitsFor};
+ghost use Rattle.fish_lanes.specs.within.Controlling.{KnowsAll, RollsBy, SaysBegun};
+ghost use Rattle.fish_lanes.specs.within.Controlling.{SaysTail, WaitsFor};
 ghost use Rattle.fish_lanes.specs.within.Controlling.{deregister_cause, register_cause};
 ghost use Rattle.fish_lanes.specs.within.Gains.{Gains};
 ghost use Rattle.fish_lanes.specs.Registering.{IsDeregisterItem, IsRegisterItem};
@@ -93,7 +93,7 @@ pub(crate) fn register(
     ensures gains { Gains (view pass.old) (view pass.new) [] }
     ensures shut { (view pass.new).shut ≡ (view pass.old).shut }
     ensures alone { IsAlone (view pass.old) → IfOk result NamesNone }
-    ensures tail { IsAlone (view pass.old) → IfOk result (TellsTail (view pass.old)) }
+    ensures tail { IsAlone (view pass.old) → IfOk result (SaysTail (view pass.old)) }
     ensures rolls { IfOk result (RollsBy (view pass.old) (view pass.new)) }
     ensures item { IfOk result (IsRegisterItem name.now (definition_text (definition_of def.now))) }
     ensures does { IfOk result (Does (view pass.old) registrar.old (view pass.new) registrar.new) }
@@ -130,9 +130,9 @@ fn registered(
     ensures gains { Gains (view pass.old) (view pass.new) [] }
     ensures shut { (view pass.new).shut ≡ (view pass.old).shut }
     ensures alone { IsAlone (view pass.old) → IfOk result NamesNone }
-    ensures tail { IsAlone (view pass.old) → IfOk result (TellsTail (view pass.old)) }
+    ensures tail { IsAlone (view pass.old) → IfOk result (SaysTail (view pass.old)) }
     ensures rolls { IfOk result (RollsBy (view pass.old) (view pass.new)) }
-    ensures tells { IfOk result (TellsBegun (view pass.old) registrar.old (view pass.new) registrar.new name id def) }
+    ensures tells { IfOk result (SaysBegun (view pass.old) registrar.old (view pass.new) registrar.new name id def) }
 {
     read_definitions(log, pass, defs)?;
     match registrar.poll(log, pass) {
@@ -169,7 +169,7 @@ pub(crate) fn deregister(
     ensures grows { RowsGoOn (view pass.old) registrar.old.catalog registrar.new.catalog }
     ensures gains { Gains (view pass.old) (view pass.new) [] }
     ensures shut { (view pass.new).shut ≡ (view pass.old).shut }
-    ensures tail { IsAlone (view pass.old) → IfOk result (TellsTail (view pass.old)) }
+    ensures tail { IsAlone (view pass.old) → IfOk result (SaysTail (view pass.old)) }
     ensures item { IfOk result (IsDeregisterItem name.now) }
     ensures does { IfOk result (Does (view pass.old) registrar.old (view pass.new) registrar.new) }
 {

@@ -107,7 +107,7 @@ fn fault_of(refusal: ScanRefusal) -> Option<LaneFault>
     }
 }
 
-/// Tells how the records would be found.
+/// KnowsAs how the records would be found.
 pub(crate) fn explain_range(
     alloc: Global,
     log: &Log,

@@ -7,7 +7,7 @@ ghost use Rattle.fish_lanes.specs.within.Advancing.{GoesOnBy, HasNext, IsShort};
 ghost use Rattle.fish_lanes.specs.within.Causes.{fault_at, or_stop};
 ghost use Rattle.fish_lanes.specs.within.Doing.{IsItem, IsStopped};
 ghost use Rattle.fish_lanes.specs.Full.{IsNotFull};
-ghost use Rattle.fish_lanes.specs.within.Full.{TellsLast};
+ghost use Rattle.fish_lanes.specs.within.Full.{SaysLast};
 ghost use Rattle.fish_lanes.specs.within.Pasts.{anywhere};
 ghost use Rattle.fish_lanes.specs.Running.{IsShared};
 ghost use Rattle.fish_lanes.specs.Spans.{IsAnswer};
@@ -60,7 +60,7 @@ pub(crate) fn run_works<G: Gate>(
     ensures pass { IsPassOf log.now pass.new }
     ensures start { CanStart (view pass.new) }
     ensures goes { GoesOnBy (view pass.old) (view pass.new) works.now items.old items.new result }
-    ensures last { (view pass.old).shut ≡ None → AllOf IsNotFull items.old → TellsLast (view pass.new) items.new result }
+    ensures last { (view pass.old).shut ≡ None → AllOf IsNotFull items.old → SaysLast (view pass.new) items.new result }
     ensures short { IsShort result }
     ensures more { length items.old ≤ length items.new }
     ensures answers { AllOf IsAnswer items.old → AllOf IsAnswer items.new }
@@ -120,8 +120,8 @@ fn run_next<G: Gate>(
     ensures defs { IsDefsOf (view pass.new) defs.new }
     ensures next { HasNext (view pass.old) (view pass.new) work.now items.old items.new result }
 {
-    let place = place_of(items);
-    gate.reach(lane(pass), Point::Before(place));
+    let position = position_of(items);
+    gate.reach(lane(pass), Point::Before(position));
     let item = match run_work(alloc, log, pass, defs, work, gate) {
         Ok(item) => item,
         Err(stop) => return Err(stop),
@@ -130,12 +130,12 @@ fn run_next<G: Gate>(
         Ok(()) => {}
         Err(_) => return Err(Stop::Memory),
     }
-    gate.reach(lane(pass), Point::After(place));
+    gate.reach(lane(pass), Point::After(position));
     Ok(())
 }
 
 /// How many statements have an item, as a gate is told it.
-pub(crate) fn place_of(items: &Items) -> u32 {
+pub(crate) fn position_of(items: &Items) -> u32 {
     items.len().min(u32::MAX as usize) as u32
 }
 

@@ -112,7 +112,7 @@ impl Works {
         Ok(())
     }
 
-    /// Takes away the statements from a place on.
+    /// Takes away the statements from a position on.
     pub fn split_off(&mut self, at: usize) -> Result<Works, AllocError>
         requires { at ≤ length self.old }
         ensures front { OnOk result (self.new ≡ take at self.old) }

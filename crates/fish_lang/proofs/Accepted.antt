@@ -25,7 +25,7 @@ use Rattle.fish_lang.proofs.Words.{lexed}
 use Rattle.fish_lang.proofs.Proper.{IsProper, IsProperIfAny, token-proper}
 use Rattle.fish_lang.proofs.Writable.{AreTexts, IsCondition, IsLiteral, IsPath, IsWritable}
 
--- places of a source of which none is refused
+-- positions of a source of which none is refused
 abbrev AreGood : List Terminal → Type 0
 AreGood [] = Unit {0}
 AreGood (x ∷ xs) = (x.fault ≡ None) × IsProper x.token × AreGood xs
@@ -157,7 +157,7 @@ keeps (bucket_def p (Some n) (Some c)) h =
     }
 keeps (flag_def c) h = record { writable = cond-good c 0 h.2.2; shallow = whole-deep c h.2.2 }
 
--- places of which none is refused are their tokens
+-- positions of which none is refused are their tokens
 terminal-by : (x : Terminal) (t : Token) → x.token ≡ t → x.fault ≡ None → x ≡ terminal t
 terminal-by x t e f = ap (λ z. let s : Terminal = record { token = z; fault = x.fault } in s) e
     ∙ ap (λ z. let s : Terminal = record { token = t; fault = z } in s) f

@@ -38,7 +38,7 @@ literal-means (value.Bool b) = refl
 literal-means (value.Int n) = refl
 literal-means (value.Text s) = refl
 
--- a condition at each place
+-- a condition at each position
 record Means (a : Formula) : Type 0 where
   cond : cond_formula (cond_of a) ≡ a
   conj : conj_formula (conj_of a) ≡ a
@@ -77,7 +77,7 @@ derivation-means (eaches p w) h = rw (path-means p h.0, when-means w h.1)
 derivation-means (buckets p n w) h = rw (path-means p h.0, when-means w h.3)
 derivation-means (flags a) h = rw ((means a h).cond)
 
--- no place of these is refused
+-- no position of these is refused
 abbrev pub AreFine : List Terminal → Type 0
 AreFine [] = Unit {0}
 AreFine (x ∷ xs) = (x.fault ≡ None) × AreFine xs
@@ -114,7 +114,7 @@ is_there-fine p = fine-append (path_terminals p) _ (path-fine p) (refl, tt)
 begins-fine : (p : Path) (s : List ℕ) → AreFine (test_terminals (start p s))
 begins-fine p s = fine-append (path_terminals p) _ (path-fine p) (refl, (refl, tt))
 
--- a condition that nests no deeper than 16, at each place
+-- a condition that nests no deeper than 16, at each position
 mutual
   cond-fine : (a : Formula) (n : ℕ) → n + cond_depth (cond_of a) ≤ 16 → AreFine (cond_terminals n (cond_of a))
   cond-fine (compares p op v) n h = compares-fine (path_of p) op v

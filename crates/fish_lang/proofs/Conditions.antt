@@ -128,7 +128,7 @@ begins-lexed p s rest h k ends =
 abbrev pub nests_at : ℕ → Token → Terminal
 nests_at n t = record { token = t; fault = nesting_fault n }
 
--- what stands at each place
+-- what stands at each position
 abbrev pub part_terminals : ℕ → Part → Formula → List Terminal
 part_terminals n Whole a = cond_terminals n (cond_of a)
 part_terminals n OfOr a = conj_terminals n (conj_of a)
@@ -195,7 +195,7 @@ or-closed s t x xs ys is f g =
     (x ∷ ((xs ++ keyword word.Or ∷ ys) ++ terminal kind.Close ∷ [])) (simp append_assoc)
     (group-lexed (s ++ (codes " or " ++ t)) x (xs ++ keyword word.Or ∷ ys) is (or-lexed s t xs ys f g))
 
--- a condition at each place
+-- a condition at each position
 pub condition-lexed : (part : Part) (a : Formula) (n : ℕ) → IsCondition a
     → LexesTo (formula_text part a) (part_terminals n part a)
 condition-lexed Whole (compares p o v) n h = λ rest ends. compares-lexed p o v rest h.0 h.1 ends

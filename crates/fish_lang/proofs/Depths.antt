@@ -32,7 +32,7 @@ literal_of (value.Bool b) = truth b
 literal_of (value.Int n) = number (is_negative n) (Some n)
 literal_of (value.Text s) = text s
 
--- the canonical derivation of a condition, in each place
+-- the canonical derivation of a condition, in each position
 abbrev mutual
   pub cond_of : Formula → Cond
   cond_of (compares p op v) = one_conj (one_neg (test (compare (path_of p) op (literal_of v))))
@@ -73,7 +73,7 @@ abbrev mutual
   neg_depth (group c) = suc (cond_depth c)
   neg_depth (test t) = 0
 
--- the looser the place, the less it nests
+-- the looser the position, the less it nests
 cond_of-conj_of : (a : Formula) → cond_depth (cond_of a) ≤ conj_depth (conj_of a)
 cond_of-conj_of (compares p op v) = omega arith
 cond_of-conj_of (is_there p) = omega arith

@@ -85,7 +85,7 @@ mutual
   behind-real (behind_and c j) = joint-real j
   behind-real (under_not k) = behind-real k
 
--- a derivation that begins with places, and goes on with tokens
+-- a derivation that begins with positions, and goes on with tokens
 pub record Finishes (front : List Terminal) : Type 0 where
   pub tree : Derivation
   pub more : List Terminal

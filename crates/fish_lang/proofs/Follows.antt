@@ -18,7 +18,7 @@ use Rattle.fish_lang.specs.declared.definition.Op.{Op}
 use Rattle.fish_lang.specs.declared.token.Keyword.TheVariants as word
 use Rattle.fish_lang.specs.declared.token.Token.TheVariants as kind
 
--- tokens in their places lead from one state to another
+-- tokens in their positions lead from one state to another
 abbrev pub Follows : State → List Terminal → State → Type 0
 Follows s [] t = s ≡ t
 Follows s (x ∷ xs) t = (u : State) × (advance s x.token ≡ Some u) × (fault_at s x.token ≡ x.fault)

@@ -1,4 +1,4 @@
--- A token that fits makes an unfinished derivation longer by its place, and each can be finished.
+-- A token that fits makes an unfinished derivation longer by its position, and each can be finished.
 use Rattle.std.proofs.Common.{◌≡◌, ℕ, List, [], ◌∷◌, ◌++◌, refl, ◌∙◌, append_assoc}
 use Rattle.std.specs.Prelude.{ℤ, true, false, Option, Some, None, option_map}
 use Rattle.fish_value.specs.declared.value.Value.{Value}
@@ -23,11 +23,11 @@ use Rattle.fish_lang.proofs.Trees.{width, behind_width, operand, literal, prefix
 use Rattle.fish_lang.proofs.Trees.{operand_state, head_state, owner_state, state_of, before, completed, completed-state}
 use Rattle.fish_lang.proofs.Trees.{completed-before}
 
--- a token in its place
+-- a token in its position
 abbrev pub placed_at : State → Token → Terminal
 placed_at s t = record { token = t; fault = fault_at s t }
 
--- a tree that is one place longer than another, and stands for a state
+-- a tree that is one position longer than another, and stands for a state
 pub record Longer (tree : Tree) (t : Token) (s : State) : Type 0 where
   pub next : Tree
   pub stands : state_of next ≡ s

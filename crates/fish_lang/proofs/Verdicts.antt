@@ -26,7 +26,7 @@ reached-well ts s r =
     let f = finishes r.tree in
     record { tree = f.tree; more = f.more; real = f.real; spells = f.spells ∙ rw r.spells }
 
--- the tokens of what begins with places
+-- the tokens of what begins with positions
 begins-with : (ts : List Placed) (p : Placed) (x : Terminal) (xs : List Terminal) (more : List Terminal)
     → x.token ≡ p.token → xs ≡ (unrefused ts ++ x ∷ []) ++ more → spelled xs ≡ kinds (ts ++ p ∷ [])
     ++ spelled more
@@ -79,7 +79,7 @@ verdict-turn ts p ps s end None k r f e g rest =
       placed = p;
       behind = ps;
       splits = refl;
-      place = refl;
+      position = refl;
       well = reached-well ts s r;
       none = λ tree more same.
           let h = followed tree in
@@ -98,7 +98,7 @@ verdict-turn ts p ps s end (Some u) (Some fault) r f e g rest =
       placed = p;
       behind = ps;
       splits = refl;
-      place = refl;
+      position = refl;
       tree = whole.tree;
       more = whole.more;
       real = whole.real;
@@ -203,7 +203,7 @@ only-fault fault ts at end h =
       run-front h.before (h.placed ∷ h.behind) machine.start front.0 end front.1,
       rest.1,
       rest.2,
-      h.place,
+      h.position,
     )
 
 -- and nothing else is
@@ -216,7 +216,7 @@ run-only ts end (Err (refusal.Unexpected at)) (inl h) =
       h.splits,
       only-stop h.before h.placed h.behind end x (advance x.state h.placed.token) refl
           h.none,
-      h.place,
+      h.position,
     )
 run-only ts end (Err (refusal.Unexpected at)) (inr h) =
     let x = passed ts h.1.well in

@@ -10,7 +10,7 @@ use Rattle.fish_lang.specs.declared.token.Token.TheVariants as kind
 use Rattle.fish_lang.specs.declared.token.Placed.{Placed}
 use Rattle.fish_lang.proofs.TokenLemmas.{both, tokens_from-turn}
 
--- the tokens of a text, without their places
+-- the tokens of a text, without their positions
 unfoldable pub lexed : List ℕ → List Token
 lexed b = kinds (tokens_from (length b) 0 b)
 
@@ -24,12 +24,12 @@ kinds-listed at low None ts us e = e
 kinds-listed at low (Some t) ts us e = ap (λ ks. t ∷ ks) e
 
 -- they don't depend on where the text begins
-kinds-place : (most at low : ℕ) (b : List ℕ) → kinds (tokens_from most at b) ≡ kinds (tokens_from most low b)
-kinds-place zero at low b = refl
-kinds-place (suc most) at low [] = refl
-kinds-place (suc most) at low (c ∷ b) =
+kinds-position : (most at low : ℕ) (b : List ℕ) → kinds (tokens_from most at b) ≡ kinds (tokens_from most low b)
+kinds-position zero at low b = refl
+kinds-position (suc most) at low [] = refl
+kinds-position (suc most) at low (c ∷ b) =
     kinds-listed at low (token_of (c ∷ take (length_behind c b) b)) _ _
-    (kinds-place most _ _ (drop (length_behind c b) b))
+    (kinds-position most _ _ (drop (length_behind c b) b))
 
 -- one token at the front, or none where it is a blank
 abbrev behind_token : Option Token → List Token → List Token
@@ -47,7 +47,7 @@ unfolding lexed
 lexed-turn c b n e =
     ap kinds (tokens_from-turn 0 c b n e) ∙ kinds-front 0 (token_of (c ∷ take n b)) _
     ∙ ap (behind_token (token_of (c ∷ take n b)))
-    (kinds-place (length (drop n b)) (0 + suc n) 0 (drop n b))
+    (kinds-position (length (drop n b)) (0 + suc n) 0 (drop n b))
 
 -- a token in front of a rest that it doesn't reach into
 pub lexed-token : (c : ℕ) (w rest : List ℕ) (t : Token) → length_behind c (w ++ rest) ≡ length w

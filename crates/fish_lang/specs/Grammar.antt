@@ -1,4 +1,4 @@
--- What a derivation spells: its tokens in their places, and which of them are refused there.
+-- What a derivation spells: its tokens in their positions, and which of them are refused there.
 use Rattle.std.specs.Prelude.{ℕ, zero, suc, ℤ, pos, nat_lt, List, [], ◌∷◌, ◌++◌, true, false, Option, Some, None, map, if◌then◌else◌}
 use Rattle.fish_lang.specs.Derivation.{Step, ident, string, Path, one_step, more_steps, Literal, truth, number, text}
 use Rattle.fish_lang.specs.Derivation.{Test, compare, exist, start, Cond, one_conj, more_conjs, Conj, one_neg}
@@ -10,7 +10,7 @@ use Rattle.fish_lang.specs.declared.token.Keyword.TheVariants as word
 use Rattle.fish_lang.specs.declared.token.Token.{Token}
 use Rattle.fish_lang.specs.declared.token.Token.TheVariants as kind
 
--- a token in its place, and why it is refused there, if it is
+-- a token in its position, and why it is refused there, if it is
 pub record Terminal : Type 0 where
   pub token : Token
   pub fault : Option Fault

@@ -13,11 +13,11 @@ use Rattle.fish_lang.specs.declared.fault.Fault.TheVariants.{TooDeep, NumberTooL
 use Rattle.fish_lang.specs.declared.token.Token.{Token}
 use Rattle.fish_lang.specs.declared.token.Placed.{Placed}
 
--- the tokens without their places
+-- the tokens without their positions
 abbrev pub kinds : List Placed → List Token
 kinds = map (λ p. p.token)
 
--- the tokens in places where none is refused
+-- the tokens in positions where none is refused
 abbrev pub unrefused : List Placed → List Terminal
 unrefused = map (λ p. terminal p.token)
 
@@ -49,7 +49,7 @@ pub record StopsAt (ts : List Placed) (at : ℕ) : Type 0 where
   pub placed : Placed
   pub behind : List Placed
   pub splits : ts ≡ before ++ placed ∷ behind
-  pub place : placed.at ≡ at
+  pub position : placed.at ≡ at
   pub well : BeginsWell before
   pub none : BeginsNone (before ++ placed ∷ [])
 
@@ -58,19 +58,19 @@ pub record StopsAtEnd (ts : List Placed) : Type 0 where
   pub well : BeginsWell ts
   pub none : (tree : Derivation) → spelled (terminals tree) ≢ kinds ts
 
--- a definition begins with the tokens up to one that is refused in its place, and none before is
+-- a definition begins with the tokens up to one that is refused in its position, and none before is
 pub record Faulty (fault : Fault) (ts : List Placed) (at : ℕ) : Type 0 where
   pub before : List Placed
   pub placed : Placed
   pub behind : List Placed
   pub splits : ts ≡ before ++ placed ∷ behind
-  pub place : placed.at ≡ at
+  pub position : placed.at ≡ at
   pub tree : Derivation
   pub more : List Terminal
   pub real : AreTokens more
   pub spells : terminals tree ≡ unrefused before ++ record { token = placed.token; fault = Some fault } ∷ more
 
--- what tokens are, whose source ends at a place
+-- what tokens are, whose source ends at a position
 abbrev pub IsVerdict : List Placed → ℕ → Result Definition LangRefusal → Type 0
 IsVerdict ts end (Ok d) = IsRead ts d
 IsVerdict ts end (Err (refusal.Unexpected at)) = StopsAt ts at ⊎ ((at ≡ end) × StopsAtEnd ts)

@@ -68,7 +68,7 @@ pub record IsCut (b : List ℕ) (pieces : List (List ℕ)) : Type 0 where
   pub whole : joined pieces ≡ b
   pub longest : AreLongest pieces
 
--- the tokens of pieces from a place on, each with the place of its first byte; a blank is none
+-- the tokens of pieces from a position on, each with the position of its first byte; a blank is none
 abbrev pub tokens_in : ℕ → List (List ℕ) → List Placed
 tokens_in at [] = []
 tokens_in at (t ∷ ts) = listed at (token_of t) (tokens_in (at + length t) ts)

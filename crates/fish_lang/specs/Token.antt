@@ -122,7 +122,7 @@ abbrev pub listed : ℕ → Option Token → List Placed → List Placed
 listed at None behind = behind
 listed at (Some t) behind = record { token = t; at = at } ∷ behind
 
--- the tokens of a text that begins at a place; `most` is no less than its length
+-- the tokens of a text that begins at a position; `most` is no less than its length
 abbrev pub tokens_from : (most : ℕ) → ℕ → List ℕ → List Placed
 tokens_from zero at b = []
 tokens_from (suc most) at [] = []

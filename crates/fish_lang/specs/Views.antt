@@ -2,10 +2,10 @@
 use Rattle.std.specs.Prelude.{[], Option, Some, None}
 use Rattle.fish_lang.specs.Definition.{Steps, formula_of}
 use Rattle.fish_lang.specs.Machine as machine
-use Rattle.fish_lang.specs.declared.place.Whole.{Whole}
-use Rattle.fish_lang.specs.declared.place.Joint.{Joint}
-use Rattle.fish_lang.specs.declared.place.Operand.{Operand}
-use Rattle.fish_lang.specs.declared.place.Joint.TheVariants.{Top, Group', InWhole, BehindOr, InJoint, BehindAnd, UnderNot'}
+use Rattle.fish_lang.specs.declared.position.Whole.{Whole}
+use Rattle.fish_lang.specs.declared.position.Joint.{Joint}
+use Rattle.fish_lang.specs.declared.position.Operand.{Operand}
+use Rattle.fish_lang.specs.declared.position.Joint.TheVariants.{Top, Group', InWhole, BehindOr, InJoint, BehindAnd, UnderNot'}
 use Rattle.fish_lang.specs.declared.state.Head.{Head}
 use Rattle.fish_lang.specs.declared.state.Head.TheVariants as head
 use Rattle.fish_lang.specs.declared.state.Owner.{Owner}

@@ -1,10 +1,10 @@
-//! Tokens that fit in their place and are refused there.
+//! Tokens that fit in their position and are refused there.
 
 ghost use Rattle.std.specs.Prelude.{◌≡◌};
 ghost use Rattle.fish_lang.specs.Moves.{fault_at, nests, number_of, width_of};
 ghost use Rattle.fish_lang.specs.Views.{state_view};
 
-use crate::place::nests_less;
+use crate::position::nests_less;
 use crate::state::State;
 use crate::token::{Keyword, Token};
 
@@ -24,8 +24,8 @@ pub fn fault_at(state: &State, token: &Token) -> Option<Fault>
     ensures { result ≡ fault_at (state_view state.now) token.now }
 {
     match state {
-        State::Operand(_, place) => {
-            if nests(token) && !nests_less(place, 16) {
+        State::Operand(_, position) => {
+            if nests(token) && !nests_less(position, 16) {
                 Some(Fault::TooDeep)
             } else {
                 None

@@ -6,9 +6,10 @@ ghost use Rattle.fish_lang.specs.Machine as machine;
 ghost use Rattle.fish_lang.specs.Moves as moves;
 ghost use Rattle.fish_lang.specs.Views.{whole_view, joint_view, head_view, owner_view, state_view};
 
+use crate::condition::or_with;
 use crate::definition::{Cond, Def};
-use crate::place::{Joint, Whole};
-use crate::state::{Head, Owner, State, or_with};
+use crate::position::{Joint, Whole};
+use crate::state::{Head, Owner, State};
 use fish_value::Path;
 use std::alloc::{AllocError, Global};
 
@@ -68,8 +69,8 @@ fn ended(head: Head, whole: Whole, cond: Cond) -> Option<Def>
 {
     match whole {
         Whole::Top => Some(definition_with(head, cond)),
-        Whole::Group(place) => {
-            drop((place, head, cond));
+        Whole::Group(position) => {
+            drop((position, head, cond));
             None
         }
     }

@@ -15,7 +15,7 @@ pub fn cuts_the_longest()
     ensures { (b : List ℕ) → (pieces : List (List ℕ)) × IsCut b pieces }
 {}
 
-/// The tokens of a source are those of such pieces, each at the place of its first byte.
+/// The tokens of a source are those of such pieces, each at the position of its first byte.
 pub fn lexes_the_pieces()
     ensures { (b : List ℕ) (pieces : List (List ℕ)) → IsCut b pieces → tokens b ≡ tokens_in 0 pieces }
 {}

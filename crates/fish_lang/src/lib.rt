@@ -3,12 +3,13 @@
 //! Contracts see a definition as `definition_of` gives it: without the places in memory of its parts.
 #![tactic(auto)]
 
+mod condition;
 mod definition;
 mod fault;
 mod finish;
 mod law;
 mod parse;
-mod place;
+mod position;
 mod print;
 mod state;
 mod token;

@@ -137,7 +137,7 @@ fn unless_long(alloc: Global, def: Def) -> Result<Def, LangRefusal>
     }
 }
 
-/// The definition that tokens are, of a text that ends at a place.
+/// The definition that tokens are, of a text that ends at a position.
 fn definition(alloc: Global, found: Vec<Placed>, end: u64) -> Result<Def, LangRefusal>
     ensures { Gives definition_of result (run start found.items end) }
 {
@@ -166,7 +166,7 @@ fn next(alloc: Global, state: State, placed: Placed) -> Result<State, LangRefusa
     }
 }
 
-/// The next state, unless the token is refused in its place.
+/// The next state, unless the token is refused in its position.
 fn unless(fault: Option<Fault>, next: State, at: u64) -> Result<State, LangRefusal>
     ensures { result ≡ unless_fault fault next at }
 {

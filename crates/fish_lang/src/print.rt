@@ -15,7 +15,7 @@ use crate::token::is_ident;
 use fish_value::{Path, Text, Value, json_text, print_value};
 use std::alloc::{AllocError, Global};
 
-/// Which part of a condition stands at a place.
+/// Which part of a condition stands at a position.
 #[derive(Clone, Copy, PartialEq, Eq)]
 pub enum Part {
     /// A whole condition.
@@ -89,7 +89,7 @@ fn write_when(alloc: Global, out: &mut String, when: &Option<Cond>) -> Result<()
     }
 }
 
-/// Writes a condition, in parentheses where its place asks for them.
+/// Writes a condition, in parentheses where its position asks for them.
 #[cycle(conditions)]
 fn write_cond(alloc: Global, out: &mut String, part: Part, cond: &Cond) -> Result<(), AllocError>
     ensures { OnOk result
@@ -171,14 +171,14 @@ fn write_starts(
     out.push_str(text.as_str())
 }
 
-/// Whether an `and` needs parentheses at a place.
+/// Whether an `and` needs parentheses at a position.
 fn closes_and(part: Part) -> bool
     ensures { result ≡ closes_and part }
 {
     matches!(part, Part::OfAnd)
 }
 
-/// Whether an `or` needs parentheses at a place.
+/// Whether an `or` needs parentheses at a position.
 fn closes_or(part: Part) -> bool
     ensures { result ≡ closes_or part }
 {

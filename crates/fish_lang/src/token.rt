@@ -61,7 +61,7 @@ pub enum Token {
     Other,
 }
 
-/// A token and the place of its first byte in the source.
+/// A token and the position of its first byte in the source.
 #[derive(Drop)]
 pub struct Placed {
     /// The token.

@@ -44,13 +44,13 @@ byte_in : (ws : List ℕ) (o : ℕ) → o / 8 < length ws →
     get_or (flat_map (to_le_bytes w64) ws) o 0 ≡ get_or ws (o / 8) 0 / 256 ^ (o % 8) % 256
 byte_in ws o within =
     let front = flat_map (to_le_bytes w64) (take (o / 8) ws) in
-    let place : o ≡ length front + o % 8 =
+    let position : o ≡ length front + o % 8 =
     omega (arith, length_words (take (o / 8) ws), length-take-le (o / 8) ws) in
-    ap (λ n. get_or (flat_map (to_le_bytes w64) ws) n 0) place
+    ap (λ n. get_or (flat_map (to_le_bytes w64) ws) n 0) position
     ∙ get_or-flat_map (to_le_bytes w64) ws (o / 8) (o % 8) 0 0 within (omega arith)
     ∙ byte_of (get_or ws (o / 8) 0) (o % 8) (omega arith)
 
--- a byte behind a place of words, among so many that stand there
+-- a byte behind a position of words, among so many that stand there
 byte_there : (e : ℕ → ℕ) (ws : List ℕ) (at n o : ℕ) → ((i : ℕ) → e i ≡ get_or ws i 0) →
     at + words_for n ≤ length ws → o < n → byte_behind e at o ≡ get_or (bytes_in (drop at ws) n) o 0
 byte_there e ws at n o words room within =
@@ -83,7 +83,7 @@ value_byte ks c k j within is in_value =
 
 -- ---- keys
 
--- a key that is found is in the list, and is what stands at its place
+-- a key that is found is in the list, and is what stands at its position
 found_at : (ks : List KeyPart) (c : ℕ) (k : KeyPart) → slice_get ks c ≡ Some k →
     (c < length ks) × (k ≡ get_or ks c k)
 found_at ks c k found = (slice_get_within ks c k found, sym (get_or_from_slice_get ks c k k found))
@@ -105,7 +105,7 @@ pub entry_number-key : {p : BodyParts} {e : ℕ → ℕ} (c : ℕ) (k : KeyPart)
     slice_get p.keys c ≡ Some k → entry_number (e (entry_at c + 1)) ≡ p.number
 entry_number-key {p} {e} c k s found = (says_key c k s found).number
 
--- so many bytes behind a place are the value's
+-- so many bytes behind a position are the value's
 value_there : {p : BodyParts} {e : ℕ → ℕ} (c : ℕ) (k : KeyPart) → Spells p e →
     slice_get p.keys c ≡ Some k →
     map (λ j. byte_behind e (entry_at (length p.keys)) (length (values_of (take c p.keys)) + j))

@@ -18,7 +18,7 @@ use Rattle.std.proofs.Math.Seq.{drop-append-add, take-append-add, take-append_se
 use Rattle.fish_layout.specs.Bytes.{bytes_in, word_at, words_for, words_of_bytes}
 use Rattle.fish_layout.proofs.Sizes.{length-words_of_bytes}
 
--- a word is made of the eight bytes at its place
+-- a word is made of the eight bytes at its position
 pub word_of : (b : List ℕ) (i : ℕ) → i < words_for (length b) → get_or (words_of_bytes b) i 0 ≡ word_at b i
 unfolding words_of_bytes
 word_of b i h = get_or-map-range_with_len (word_at b) 0 (words_for (length b)) i i 0 h (omega arith)

@@ -29,7 +29,7 @@ choose_alike (no n) x = refl
 pub head_stays : (n : ℕ) → ¬ IsKeyWord n 0
 head_stays n key = omega arith
 
--- regions that agree off the first words of their key entries have the same cleared word at each place
+-- regions that agree off the first words of their key entries have the same cleared word at each position
 cleared_same_at : (f g : ℕ → ℕ) → Agrees f g → (i : ℕ) → cleared g i ≡ cleared f i
 unfolding cleared
 cleared_same_at f g same i =

@@ -12,29 +12,29 @@ use Rattle.fish_layout.specs.declared.parts.KeyPart.{KeyPart}
 use Rattle.fish_layout.proofs.Sizes.{few_value_bytes}
 
 -- the words of one entry more
-pub key_words-push : (number place offset : ℕ) (ks : List KeyPart) (k : KeyPart) →
-    key_words number place offset (ks ++ k ∷ []) ≡
-    key_words number place offset ks ++
-    (k.prev ∷ entry_word number k.id (place + length ks) ∷ value_word k.value (offset + length (values_of ks))
+pub key_words-push : (number position offset : ℕ) (ks : List KeyPart) (k : KeyPart) →
+    key_words number position offset (ks ++ k ∷ []) ≡
+    key_words number position offset ks ++
+    (k.prev ∷ entry_word number k.id (position + length ks) ∷ value_word k.value (offset + length (values_of ks))
     ∷ [])
-key_words-push number place offset [] k =
-    let here : place ≡ place + 0 = omega arith in
+key_words-push number position offset [] k =
+    let here : position ≡ position + 0 = omega arith in
     let there : offset ≡ offset + 0 = omega arith in
     ap (λ n. k.prev ∷ entry_word number k.id n ∷ value_word k.value offset ∷ []) here
-    ∙ ap (λ n. k.prev ∷ entry_word number k.id (place + 0) ∷ value_word k.value n ∷ []) there
-key_words-push number place offset (x ∷ ks) k =
+    ∙ ap (λ n. k.prev ∷ entry_word number k.id (position + 0) ∷ value_word k.value n ∷ []) there
+key_words-push number position offset (x ∷ ks) k =
     let size = length (value_bytes x.value) in
-    let next : place + 1 + length ks ≡ place + length (x ∷ ks) = omega arith in
+    let next : position + 1 + length ks ≡ position + length (x ∷ ks) = omega arith in
     let after : offset + size + length (values_of ks) ≡ offset + length (values_of (x ∷ ks)) =
     omega (arith, length-append (value_bytes x.value) (values_of ks)) in
-    let front = λ (l : List ℕ). x.prev ∷ entry_word number x.id place ∷ value_word x.value offset ∷ l in
-    let behind = key_words number (place + 1) (offset + size) ks in
-    ap front (key_words-push number (place + 1) (offset + size) ks k)
+    let front = λ (l : List ℕ). x.prev ∷ entry_word number x.id position ∷ value_word x.value offset ∷ l in
+    let behind = key_words number (position + 1) (offset + size) ks in
+    ap front (key_words-push number (position + 1) (offset + size) ks k)
     ∙ ap (λ n.
     front (behind ++
     (k.prev ∷ entry_word number k.id n ∷ value_word k.value (offset + size + length (values_of ks)) ∷ []))) next
     ∙ ap (λ n.
-    front (behind ++ (k.prev ∷ entry_word number k.id (place + length (x ∷ ks)) ∷ value_word k.value n ∷ [])))
+    front (behind ++ (k.prev ∷ entry_word number k.id (position + length (x ∷ ks)) ∷ value_word k.value n ∷ [])))
     after
 
 -- the values' bytes of one entry more
@@ -90,13 +90,13 @@ pub key_words-more : (number : ℕ) (ks : List KeyPart) (i : ℕ) (k : KeyPart) 
     key_words number 0 0 (take i ks) ++ (k.prev ∷ entry ∷ value_word k.value offset ∷ [])
 key_words-more number ks i k offset entry within is entry_is offset_is =
     let front = key_words number 0 0 (take i ks) in
-    let place : 0 + length (take i ks) ≡ i = omega (arith, length-take-le i ks (omega arith)) in
+    let position : 0 + length (take i ks) ≡ i = omega (arith, length-take-le i ks (omega arith)) in
     let there : 0 + length (values_of (take i ks)) ≡ offset = omega arith in
     ap (key_words number 0 0) (take_more_is ks i k within is)
     ∙ key_words-push number 0 0 (take i ks) k
     ∙ ap (λ n.
     front ++
-    (k.prev ∷ entry_word number k.id n ∷ value_word k.value (0 + length (values_of (take i ks))) ∷ [])) place
+    (k.prev ∷ entry_word number k.id n ∷ value_word k.value (0 + length (values_of (take i ks))) ∷ [])) position
     ∙ ap (λ n. front ++ (k.prev ∷ entry_word number k.id i ∷ value_word k.value n ∷ [])) there
     ∙ ap (λ e. front ++ (k.prev ∷ e ∷ value_word k.value offset ∷ [])) (sym entry_is)
 

@@ -22,40 +22,40 @@ pub record SaysKey (p : BodyParts) (e : ℕ → ℕ) (c : ℕ) (k : KeyPart) : T
   pub prev : e (entry_at c) ≡ k.prev
   pub number : entry_number (e (entry_at c + 1)) ≡ p.number
   pub id : entry_id (e (entry_at c + 1)) ≡ k.id
-  pub place : entry_place (e (entry_at c + 1)) ≡ c
+  pub position : entry_place (e (entry_at c + 1)) ≡ c
   pub kind : value_kind (e (entry_at c + 2)) ≡ kind_code k.value
   pub size : value_size (e (entry_at c + 2)) ≡ length (value_bytes k.value)
   pub offset : value_offset (e (entry_at c + 2)) ≡ length (values_of (take c p.keys))
 
 -- the words from the entry c on begin with its three
-entries_from : (number place offset : ℕ) (ks : List KeyPart) (t : List ℕ) (c : ℕ) (k : KeyPart) → c < length ks →
+entries_from : (number position offset : ℕ) (ks : List KeyPart) (t : List ℕ) (c : ℕ) (k : KeyPart) → c < length ks →
     k ≡ get_or ks c k →
-    (rest : List ℕ) × (drop (3 * c) (key_words number place offset ks ++ t) ≡
-    k.prev ∷ entry_word number k.id (place + c) ∷ value_word k.value (offset + length (values_of (take c ks))) ∷ rest)
-entries_from number place offset [] t c k within is = absurd (omega arith)
-entries_from number place offset (x ∷ ks) t zero k within is =
-    let rest = key_words number (place + 1) (offset + length (value_bytes x.value)) ks ++ t in
-    let here : place ≡ place + 0 = omega arith in
+    (rest : List ℕ) × (drop (3 * c) (key_words number position offset ks ++ t) ≡
+    k.prev ∷ entry_word number k.id (position + c) ∷ value_word k.value (offset + length (values_of (take c ks))) ∷ rest)
+entries_from number position offset [] t c k within is = absurd (omega arith)
+entries_from number position offset (x ∷ ks) t zero k within is =
+    let rest = key_words number (position + 1) (offset + length (value_bytes x.value)) ks ++ t in
+    let here : position ≡ position + 0 = omega arith in
     let there : offset ≡ offset + 0 = omega arith in (
       rest,
-      ap (λ y. y.prev ∷ entry_word number y.id place ∷ value_word y.value offset ∷ rest) (sym is)
+      ap (λ y. y.prev ∷ entry_word number y.id position ∷ value_word y.value offset ∷ rest) (sym is)
           ∙ ap (λ n. k.prev ∷ entry_word number k.id n ∷ value_word k.value offset ∷ rest) here
-          ∙ ap (λ n. k.prev ∷ entry_word number k.id (place + 0) ∷ value_word k.value n ∷ rest) there,
+          ∙ ap (λ n. k.prev ∷ entry_word number k.id (position + 0) ∷ value_word k.value n ∷ rest) there,
     )
-entries_from number place offset (x ∷ ks) t (suc c) k within is =
+entries_from number position offset (x ∷ ks) t (suc c) k within is =
     let size = length (value_bytes x.value) in
-    let more = entries_from number (place + 1) (offset + size) ks t c k (omega arith) is in
+    let more = entries_from number (position + 1) (offset + size) ks t c k (omega arith) is in
     let further : 3 * suc c ≡ suc (suc (suc (3 * c))) = omega arith in
-    let here : place + 1 + c ≡ place + suc c = omega arith in
+    let here : position + 1 + c ≡ position + suc c = omega arith in
     let there : offset + size + length (values_of (take c ks)) ≡ offset + length (values_of (take (suc c) (x ∷ ks))) =
     omega (arith, length-append (value_bytes x.value) (values_of (take c ks))) in (
       more.0,
-      ap (λ n. drop n (key_words number place offset (x ∷ ks) ++ t)) further
+      ap (λ n. drop n (key_words number position offset (x ∷ ks) ++ t)) further
           ∙ more.1
           ∙ ap (λ n.
           k.prev ∷ entry_word number k.id n ∷ value_word k.value
           (offset + size + length (values_of (take c ks))) ∷ more.0) here
-          ∙ ap (λ n. k.prev ∷ entry_word number k.id (place + suc c) ∷ value_word k.value n ∷ more.0) there,
+          ∙ ap (λ n. k.prev ∷ entry_word number k.id (position + suc c) ∷ value_word k.value n ∷ more.0) there,
     )
 
 -- the words of a record from the entry c on begin with its three
@@ -78,20 +78,20 @@ body_from p c k within is =
           ∙ ap (λ n. k.prev ∷ entry_word p.number k.id c ∷ value_word k.value n ∷ from.0) there,
     )
 
--- a word of a list behind a place
+-- a word of a list behind a position
 word_behind : (ws : List ℕ) (n i m : ℕ) (l : List ℕ) → drop n ws ≡ l → m ≡ n + i → get_or ws m 0 ≡ get_or l i 0
 word_behind ws n i m l is at = ap (λ j. get_or ws j 0) at ∙ sym (get_or-drop n ws i 0) ∙ ap (λ b. get_or b i 0) is
 
 -- ---- fields
 
 -- the fields of the second word
-entry_fields : (number id place w : ℕ) → number < 2 ^ 28 → id < 2 ^ 8 → place < 2 ^ 9 → w ≡ entry_word number id place →
-    (entry_number w ≡ number) × (entry_id w ≡ id) × (entry_place w ≡ place)
+entry_fields : (number id position w : ℕ) → number < 2 ^ 28 → id < 2 ^ 8 → position < 2 ^ 9 → w ≡ entry_word number id position →
+    (entry_number w ≡ number) × (entry_id w ≡ id) × (entry_place w ≡ position)
 unfolding entry_number entry_id entry_place
-entry_fields number id place w n i c is = (
-  field_is (id + place * 2 ^ 8) 28 number 0 0 w (omega arith) (omega arith) n,
-  field_is place 8 id 28 number w (omega arith) n i,
-  field_is 0 9 place 36 (number + id * 2 ^ 28) w (omega arith) (omega arith) c,
+entry_fields number id position w n i c is = (
+  field_is (id + position * 2 ^ 8) 28 number 0 0 w (omega arith) (omega arith) n,
+  field_is position 8 id 28 number w (omega arith) n i,
+  field_is 0 9 position 36 (number + id * 2 ^ 28) w (omega arith) (omega arith) c,
 )
 
 -- the fields of the third word
@@ -134,7 +134,7 @@ words_say p e c k h same within is =
       prev = same (entry_at c) ∙ first;
       number = entry.0;
       id = entry.1;
-      place = entry.2;
+      position = entry.2;
       kind = value.0;
       size = value.1;
       offset = value.2;

@@ -12,7 +12,7 @@ use Rattle.fish_layout.specs.declared.parts.BodyParts.{BodyParts}
 use Rattle.fish_layout.specs.declared.parts.KeyPart.{KeyPart}
 use Rattle.fish_layout.proofs.Sizes.{length-words_behind}
 
--- key entries from a place on whose previous nodes are what a function gives for their places
+-- key entries from a position on whose previous nodes are what a function gives for their positions
 abbrev pub relink : (ℕ → ℕ) → ℕ → List KeyPart → List KeyPart
 relink r c [] = []
 relink r c (k ∷ ks) = record k { prev = r c } ∷ relink r (c + 1) ks
@@ -68,27 +68,27 @@ AreUnlinked-unlink [] = tt
 AreUnlinked-unlink (k ∷ ks) = (refl, AreUnlinked-unlink ks)
 
 -- a word that is the first of no entry stays
-relink_at : (r : ℕ → ℕ) (c number place offset : ℕ) (ks : List KeyPart) (t : List ℕ) (i : ℕ) →
+relink_at : (r : ℕ → ℕ) (c number position offset : ℕ) (ks : List KeyPart) (t : List ℕ) (i : ℕ) →
     ¬ ((i < 3 * length ks) × (i % 3 ≡ 0)) →
-    get_or (key_words number place offset (relink r c ks) ++ t) i 0 ≡ get_or (key_words number place offset ks ++ t) i 0
-relink_at r c number place offset [] t i h = refl
-relink_at r c number place offset (k ∷ ks) t zero h = absurd (h (omega arith, omega arith))
-relink_at r c number place offset (k ∷ ks) t (suc zero) h = refl
-relink_at r c number place offset (k ∷ ks) t (suc (suc zero)) h = refl
-relink_at r c number place offset (k ∷ ks) t (suc (suc (suc i))) h =
-    relink_at r (c + 1) number (place + 1) (offset + length (value_bytes k.value)) ks t i
+    get_or (key_words number position offset (relink r c ks) ++ t) i 0 ≡ get_or (key_words number position offset ks ++ t) i 0
+relink_at r c number position offset [] t i h = refl
+relink_at r c number position offset (k ∷ ks) t zero h = absurd (h (omega arith, omega arith))
+relink_at r c number position offset (k ∷ ks) t (suc zero) h = refl
+relink_at r c number position offset (k ∷ ks) t (suc (suc zero)) h = refl
+relink_at r c number position offset (k ∷ ks) t (suc (suc (suc i))) h =
+    relink_at r (c + 1) number (position + 1) (offset + length (value_bytes k.value)) ks t i
     (λ key. h (omega arith, omega arith))
 
 -- the first word of an entry is its previous node
-relink_key : (r : ℕ → ℕ) (c number place offset : ℕ) (ks : List KeyPart) (t : List ℕ) (i : ℕ) → i < 3 * length ks →
+relink_key : (r : ℕ → ℕ) (c number position offset : ℕ) (ks : List KeyPart) (t : List ℕ) (i : ℕ) → i < 3 * length ks →
     i % 3 ≡ 0 →
-    get_or (key_words number place offset (relink r c ks) ++ t) i 0 ≡ r (c + i / 3)
-relink_key r c number place offset [] t i h first = absurd (omega arith)
-relink_key r c number place offset (k ∷ ks) t zero h first = ap r (omega arith)
-relink_key r c number place offset (k ∷ ks) t (suc zero) h first = absurd (omega arith)
-relink_key r c number place offset (k ∷ ks) t (suc (suc zero)) h first = absurd (omega arith)
-relink_key r c number place offset (k ∷ ks) t (suc (suc (suc i))) h first =
-    relink_key r (c + 1) number (place + 1) (offset + length (value_bytes k.value)) ks t i (omega arith)
+    get_or (key_words number position offset (relink r c ks) ++ t) i 0 ≡ r (c + i / 3)
+relink_key r c number position offset [] t i h first = absurd (omega arith)
+relink_key r c number position offset (k ∷ ks) t zero h first = ap r (omega arith)
+relink_key r c number position offset (k ∷ ks) t (suc zero) h first = absurd (omega arith)
+relink_key r c number position offset (k ∷ ks) t (suc (suc zero)) h first = absurd (omega arith)
+relink_key r c number position offset (k ∷ ks) t (suc (suc (suc i))) h first =
+    relink_key r (c + 1) number (position + 1) (offset + length (value_bytes k.value)) ks t i (omega arith)
     (omega arith) ∙ ap r (omega arith)
 
 -- ---- records

@@ -16,25 +16,25 @@ use Rattle.fish_layout.proofs.Outlines.{body_length}
 use Rattle.fish_layout.proofs.Sizes.{length-body_words, length-words_behind}
 
 -- a word that is the second of no entry has no number
-number_at : (m n place offset : ℕ) (ks : List KeyPart) (t : List ℕ) (i : ℕ) → ¬ ((i < 3 * length ks) × (i % 3 ≡ 1)) →
-    get_or (key_words m place offset ks ++ t) i 0 ≡ get_or (key_words n place offset ks ++ t) i 0
-number_at m n place offset [] t i h = refl
-number_at m n place offset (k ∷ ks) t zero h = refl
-number_at m n place offset (k ∷ ks) t (suc zero) h = absurd (h (omega arith, omega arith))
-number_at m n place offset (k ∷ ks) t (suc (suc zero)) h = refl
-number_at m n place offset (k ∷ ks) t (suc (suc (suc i))) h =
-    number_at m n (place + 1) (offset + length (value_bytes k.value)) ks t i (λ key. h (omega arith, omega arith))
+number_at : (m n position offset : ℕ) (ks : List KeyPart) (t : List ℕ) (i : ℕ) → ¬ ((i < 3 * length ks) × (i % 3 ≡ 1)) →
+    get_or (key_words m position offset ks ++ t) i 0 ≡ get_or (key_words n position offset ks ++ t) i 0
+number_at m n position offset [] t i h = refl
+number_at m n position offset (k ∷ ks) t zero h = refl
+number_at m n position offset (k ∷ ks) t (suc zero) h = absurd (h (omega arith, omega arith))
+number_at m n position offset (k ∷ ks) t (suc (suc zero)) h = refl
+number_at m n position offset (k ∷ ks) t (suc (suc (suc i))) h =
+    number_at m n (position + 1) (offset + length (value_bytes k.value)) ks t i (λ key. h (omega arith, omega arith))
 
 -- the second word of an entry, with another number
-number_key : (m n place offset : ℕ) (ks : List KeyPart) (t : List ℕ) (i : ℕ) → n < 2 ^ 28 → i < 3 * length ks →
+number_key : (m n position offset : ℕ) (ks : List KeyPart) (t : List ℕ) (i : ℕ) → n < 2 ^ 28 → i < 3 * length ks →
     i % 3 ≡ 1 →
-    get_or (key_words m place offset ks ++ t) i 0 ≡ renumbered (get_or (key_words n place offset ks ++ t) i 0) m
-number_key m n place offset [] t i fits h second = absurd (omega arith)
-number_key m n place offset (k ∷ ks) t zero fits h second = absurd (omega arith)
-number_key m n place offset (k ∷ ks) t (suc zero) fits h second = omega arith
-number_key m n place offset (k ∷ ks) t (suc (suc zero)) fits h second = absurd (omega arith)
-number_key m n place offset (k ∷ ks) t (suc (suc (suc i))) fits h second =
-    number_key m n (place + 1) (offset + length (value_bytes k.value)) ks t i fits (omega arith) (omega arith)
+    get_or (key_words m position offset ks ++ t) i 0 ≡ renumbered (get_or (key_words n position offset ks ++ t) i 0) m
+number_key m n position offset [] t i fits h second = absurd (omega arith)
+number_key m n position offset (k ∷ ks) t zero fits h second = absurd (omega arith)
+number_key m n position offset (k ∷ ks) t (suc zero) fits h second = omega arith
+number_key m n position offset (k ∷ ks) t (suc (suc zero)) fits h second = absurd (omega arith)
+number_key m n position offset (k ∷ ks) t (suc (suc (suc i))) fits h second =
+    number_key m n (position + 1) (offset + length (value_bytes k.value)) ks t i fits (omega arith) (omega arith)
 
 -- the same parts with another number
 abbrev numbered : ℕ → BodyParts → BodyParts

@@ -84,7 +84,7 @@ values_once {p} {q} {ws} hp hq =
     ∙ ap (bytes_in (drop (entry_at (length q.keys)) ws)) (values_size hp hq)
     ∙ body_values hq
 
--- the keys at one place are the same
+-- the keys at one position are the same
 key_once : {p q : BodyParts} {ws : List ℕ} (c : ℕ) (k l : KeyPart) → IsBody p ws → IsBody q ws → c < length p.keys →
     c < length q.keys →
     k ≡ get_or p.keys c k → l ≡ get_or q.keys c l → k ≡ l
@@ -106,7 +106,7 @@ key_once {p} {q} {ws} c k l hp hq in_p in_q is_k is_l =
     ∙ ap (λ x. record k { prev = l.prev; id = x }) (sym sp.id ∙ sq.id)
     ∙ ap (λ x. record { prev = l.prev; id = l.id; value = x }) value
 
--- lists of keys that are the same at each place are the same
+-- lists of keys that are the same at each position are the same
 same_keys : (ks ls : List KeyPart) → length ks ≡ length ls →
     ((c : ℕ) (k l : KeyPart) → c < length ks → c < length ls → k ≡ get_or ks c k → l ≡ get_or ls c l → k ≡ l) → ks ≡ ls
 same_keys [] [] size same = refl
@@ -137,10 +137,10 @@ body_once {p} {q} {ws} hp hq number =
     let size : length p.keys ≡ length q.keys = sym sp.keys ∙ sq.keys in
     let keys : p.keys ≡ q.keys =
     same_keys p.keys q.keys size (λ c k l in_p in_q is_k is_l. key_once c k l hp hq in_p in_q is_k is_l) in
-    let place : payload_place p ≡ payload_place q = omega (arith, ap length (values_once hp hq)) in
+    let position : payload_place p ≡ payload_place q = omega (arith, ap length (values_once hp hq)) in
     let payload : p.payload ≡ q.payload =
     sym (body_payload hp)
-    ∙ ap (λ n. bytes_in (drop n ws) (length p.payload)) place
+    ∙ ap (λ n. bytes_in (drop n ws) (length p.payload)) position
     ∙ ap (bytes_in (drop (payload_place q) ws)) (sym sp.length ∙ sq.length)
     ∙ body_payload hq in
     ap (λ x. record p { form = x }) form

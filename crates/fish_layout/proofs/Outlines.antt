@@ -82,8 +82,8 @@ last_key : {p : BodyParts} {ws : List ℕ} → IsBody p ws → (k : KeyPart) (n 
     value_offset (get_or ws (3 * (n + 1)) 0) + value_size (get_or ws (3 * (n + 1)) 0) ≡ length (values_of p.keys)
 last_key {p} {ws} h k n last is =
     let says = body_key n k h (omega arith) is in
-    let place : 3 * (n + 1) ≡ entry_at n + 2 = omega arith in
-    let word = ap (λ i. get_or ws i 0) place in
+    let position : 3 * (n + 1) ≡ entry_at n + 2 = omega arith in
+    let word = ap (λ i. get_or ws i 0) position in
     let whole : values_of p.keys ≡ values_of (take n p.keys) ++ value_bytes k.value =
     ap values_of (sym (take_all (n + 1) p.keys (omega arith))) ∙ values_of-more p.keys n k (omega arith) is in
     omega (
@@ -119,9 +119,9 @@ pub outline_payload : {p : BodyParts} {ws : List ℕ} {o : Outline} → IsBody p
     n ≡ 1 + 3 * o.keys + words_for o.values →
     bytes_in (take (length ws - n) (drop n ws)) o.payload ≡ p.payload
 outline_payload {p} {ws} {o} h is n at =
-    let place : n ≡ payload_place p = omega (arith, is.keys, is.values) in
+    let position : n ≡ payload_place p = omega (arith, is.keys, is.values) in
     ap (λ b. bytes_in b o.payload) (range_from ws n)
-    ∙ ap (λ m. bytes_in (drop m ws) o.payload) place
+    ∙ ap (λ m. bytes_in (drop m ws) o.payload) position
     ∙ ap (bytes_in (drop (payload_place p) ws)) is.payload
     ∙ body_payload h
 
@@ -130,8 +130,8 @@ pub outline_values : {p : BodyParts} {ws : List ℕ} {o : Outline} → IsBody p 
     n ≡ 1 + 3 * o.keys →
     bytes_in (take (length ws - n) (drop n ws)) o.values ≡ values_of p.keys
 outline_values {p} {ws} {o} h is n at =
-    let place : n ≡ entry_at (length p.keys) = omega (arith, is.keys) in
+    let position : n ≡ entry_at (length p.keys) = omega (arith, is.keys) in
     ap (λ b. bytes_in b o.values) (range_from ws n)
-    ∙ ap (λ m. bytes_in (drop m ws) o.values) place
+    ∙ ap (λ m. bytes_in (drop m ws) o.values) position
     ∙ ap (bytes_in (drop (entry_at (length p.keys)) ws)) is.values
     ∙ body_values h

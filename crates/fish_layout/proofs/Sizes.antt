@@ -13,11 +13,11 @@ use Rattle.fish_layout.specs.declared.parts.BodyParts.{BodyParts}
 use Rattle.fish_layout.specs.declared.parts.KeyPart.{KeyPart}
 
 -- a key entry has three words
-pub length-key_words : (number place offset : ℕ) (ks : List KeyPart) →
-    length (key_words number place offset ks) ≡ 3 * length ks
-length-key_words number place offset [] = refl
-length-key_words number place offset (k ∷ ks) =
-    omega (arith, length-key_words number (place + 1) (offset + length (value_bytes k.value)) ks)
+pub length-key_words : (number position offset : ℕ) (ks : List KeyPart) →
+    length (key_words number position offset ks) ≡ 3 * length ks
+length-key_words number position offset [] = refl
+length-key_words number position offset (k ∷ ks) =
+    omega (arith, length-key_words number (position + 1) (offset + length (value_bytes k.value)) ks)
 
 -- eight bytes a word
 pub length-words_of_bytes : (b : List ℕ) → length (words_of_bytes b) ≡ words_for (length b)

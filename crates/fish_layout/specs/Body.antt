@@ -15,9 +15,9 @@ use Rattle.fish_layout.specs.declared.parts.KeyPart.{KeyPart}
 -- ---- key entries
 
 -- the second word of a key entry: the record's number in bits 0 to 27, the definition's id in 28 to 35, the
--- entry's place in 36 to 44
+-- entry's position in 36 to 44
 abbrev pub entry_word : ℕ → ℕ → ℕ → ℕ
-entry_word number id place = number + id * 2 ^ 28 + place * 2 ^ 36
+entry_word number id position = number + id * 2 ^ 28 + position * 2 ^ 36
 
 -- the third word: the value's kind in bits 0 and 1, the length of its bytes in 2 to 10, their offset in 11 to 28
 abbrev pub packed_value : ℕ → ℕ → ℕ → ℕ
@@ -27,12 +27,12 @@ packed_value code size offset = code + size * 2 ^ 2 + offset * 2 ^ 11
 abbrev pub value_word : Value → ℕ → ℕ
 value_word v offset = packed_value (kind_code v) (length (value_bytes v)) offset
 
--- the words of key entries from a place on, whose values' bytes begin at an offset
+-- the words of key entries from a position on, whose values' bytes begin at an offset
 abbrev pub key_words : ℕ → ℕ → ℕ → List KeyPart → List ℕ
-key_words number place offset [] = []
-key_words number place offset (k ∷ ks) =
-    k.prev ∷ entry_word number k.id place ∷ value_word k.value offset
-    ∷ key_words number (place + 1) (offset + length (value_bytes k.value)) ks
+key_words number position offset [] = []
+key_words number position offset (k ∷ ks) =
+    k.prev ∷ entry_word number k.id position ∷ value_word k.value offset
+    ∷ key_words number (position + 1) (offset + length (value_bytes k.value)) ks
 
 -- the values' bytes, one after the other
 abbrev pub values_of : List KeyPart → List ℕ

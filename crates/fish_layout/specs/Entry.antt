@@ -10,7 +10,7 @@ entry_number w = field w 0 28
 unfoldable pub entry_id : ℕ → ℕ
 entry_id w = field w 28 8
 
--- the entry's place in its record: bits 36 to 44 of the second word
+-- the entry's position in its record: bits 36 to 44 of the second word
 unfoldable pub entry_place : ℕ → ℕ
 entry_place w = field w 36 9
 

@@ -67,8 +67,8 @@ fn renumber_keys(words: &mut Vec<u64>, keys: usize, number: u32)
     ensures entries { (i : ℕ) → IsNumberWord keys i →
         slice_index words.new.items i ≡ renumbered (slice_index words.old.items i) number }
 {
-    for place in 0..keys {
-        let at = 2 + 3 * place;
+    for position in 0..keys {
+        let at = 2 + 3 * position;
         words[at] = renumber(words[at], number);
     }
 }

@@ -32,8 +32,8 @@ pub(crate) fn read_keys(
     ensures count { IfOk result (λ o. IfSome o (λ ks. length ks ≡ count)) }
 {
     let mut keys = Sequence::new(alloc);
-    for place in 0..count {
-        let Some(key) = read_key(alloc, words, place, values)? else {
+    for position in 0..count {
+        let Some(key) = read_key(alloc, words, position, values)? else {
             return Ok(None);
         };
         keys.push(key)?;
@@ -41,19 +41,19 @@ pub(crate) fn read_keys(
     Ok(Some(keys))
 }
 
-/// The key entry at a place, or none where the words can be none.
+/// The key entry at a position, or none where the words can be none.
 fn read_key(
     alloc: Global,
     words: &[u64],
-    place: usize,
+    position: usize,
     values: &[u8],
 ) -> Result<Option<KeyPart>, AllocError>
-    requires few { place < 2 ^ 9 }
-    requires room { 3 * place + 3 < length words.now }
+    requires few { position < 2 ^ 9 }
+    requires room { 3 * position + 3 < length words.now }
     ensures { IfOk result (λ o. (p : BodyParts) (k : KeyPart) → IsBody p words.now → values.now ≡ values_of p.keys →
-        place < length p.keys → k ≡ slice_index_or p.keys place k → o ≡ Some k) }
+        position < length p.keys → k ≡ slice_index_or p.keys position k → o ≡ Some k) }
 {
-    let at = 1 + 3 * place;
+    let at = 1 + 3 * position;
     let third = words[at + 2];
     let from = offset_in(third);
     let end = from + size_in(third);
@@ -70,20 +70,24 @@ fn read_key(
     }))
 }
 
-/// The key entry at a place of what may be a record, or none where the words are no record that has it. Of the
+/// The key entry at a position of what may be a record, or none where the words are no record that has it. Of the
 /// words it reads the header, the three of the entry, and those in which its value lies: 37 at most.
-pub fn find_key(alloc: Global, words: &[u64], place: usize) -> Result<Option<KeyPart>, AllocError>
-    ensures { IfOk result (λ o. (p : BodyParts) (k : KeyPart) → IsBody p words.now → place < length p.keys
-        → k ≡ slice_index_or p.keys place k → o ≡ Some k) }
+pub fn find_key(
+    alloc: Global,
+    words: &[u64],
+    position: usize,
+) -> Result<Option<KeyPart>, AllocError>
+    ensures { IfOk result (λ o. (p : BodyParts) (k : KeyPart) → IsBody p words.now → position < length p.keys
+        → k ≡ slice_index_or p.keys position k → o ≡ Some k) }
 {
     if words.is_empty() {
         return Ok(None);
     }
     let keys = usize::from(keys_in(words[0]));
-    if keys <= place || words.len() <= 3 * keys {
+    if keys <= position || words.len() <= 3 * keys {
         return Ok(None);
     }
-    let at = 1 + 3 * place;
+    let at = 1 + 3 * position;
     let third = words[at + 2];
     let Some(value) = find_value(alloc, &words[1 + 3 * keys..], third)? else {
         return Ok(None);

@@ -101,14 +101,14 @@ pub(crate) fn pack_void(lines: u64) -> u64
     lines + 0x2_0000
 }
 
-/// The second word of a key entry: the record's number, the definition and the entry's place.
-pub(crate) fn pack_entry(number: u32, id: u16, place: usize) -> u64
+/// The second word of a key entry: the record's number, the definition and the entry's position.
+pub(crate) fn pack_entry(number: u32, id: u16, position: usize) -> u64
     requires number { number < 2 ^ 28 }
     requires id { id < 2 ^ 8 }
-    requires place { place < 2 ^ 9 }
-    ensures { result ≡ entry_word number id place }
+    requires position { position < 2 ^ 9 }
+    ensures { result ≡ entry_word number id position }
 {
-    u64::from(number) + u64::from(id) * 0x1000_0000 + (place as u64) * 0x10_0000_0000
+    u64::from(number) + u64::from(id) * 0x1000_0000 + (position as u64) * 0x10_0000_0000
 }
 
 /// The third word of a key entry: the value's kind, the length of its bytes and their offset.
@@ -138,7 +138,7 @@ pub fn id_in(entry: u64) -> u16
     (entry / 0x1000_0000 % 0x100) as u16
 }
 
-/// The entry's place in its record, by its second word.
+/// The entry's position in its record, by its second word.
 #[tactic(auto, unfolding(crate::specs::Entry::entry_place, crate::specs::Header::field))]
 pub fn place_in(entry: u64) -> u16
     ensures value { result ≡ entry_place entry }

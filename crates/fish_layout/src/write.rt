@@ -138,8 +138,8 @@ fn push_keys(words: &mut Vec<u64>, number: u32, keys: &[KeyPart]) -> Result<(), 
     ensures { OnOk result (words.new.items ≡ words.old.items ++ key_words number 0 0 keys.now) }
 {
     let mut offset = 0;
-    for (place, key) in keys.iter().enumerate() {
-        push_key(words, key, pack_entry(number, key.id, place), offset)?;
+    for (position, key) in keys.iter().enumerate() {
+        push_key(words, key, pack_entry(number, key.id, position), offset)?;
         offset += byte_len(&key.value);
     }
     Ok(())
@@ -230,9 +230,9 @@ fn last_word(bytes: &[u8]) -> u64
     ])
 }
 
-/// The byte at a place, or 0 behind the end.
-fn byte_at(bytes: &[u8], place: usize) -> u8
-    ensures { result ≡ slice_index bytes.now place }
+/// The byte at a position, or 0 behind the end.
+fn byte_at(bytes: &[u8], position: usize) -> u8
+    ensures { result ≡ slice_index bytes.now position }
 {
-    bytes.get(place).copied().unwrap_or(0)
+    bytes.get(position).copied().unwrap_or(0)
 }

@@ -1,3 +1,3 @@
 pub mod CauseLemmas
 pub mod SourceLemmas
-pub mod ToldLemmas
+pub mod ContentLemmas

@@ -4,7 +4,7 @@ use Rattle.std.specs.List.{list_any}
 use Rattle.std.specs.Option.{option_map}
 use Rattle.std.specs.Str.{bytes_eq}
 use Rattle.fish_outside.specs.Causes.{counted_on}
-use Rattle.fish_outside.specs.Told.{Files}
+use Rattle.fish_outside.specs.Content.{Files}
 use Rattle.fish_outside.specs.declared.plan.FaultPlan.{FaultPlan}
 use Rattle.fish_outside.specs.declared.memory.HostFile.{HostFile}
 

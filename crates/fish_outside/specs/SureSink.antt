@@ -11,5 +11,5 @@ abbrev pub kept_of : SureSink → List ℕ
 kept_of sink = sink.bytes.items
 
 -- all that was written, as long as nothing of it was dropped
-abbrev pub told_of : SureSink → Option (List ℕ)
-told_of sink = if sink.told then Some sink.bytes.items else None
+abbrev pub content_in : SureSink → Option (List ℕ)
+content_in sink = if sink.told then Some sink.bytes.items else None

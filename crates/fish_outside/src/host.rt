@@ -2,7 +2,7 @@
 
 ghost use Rattle.std.specs.Prelude.{◌≡◌, ℕ, Option, IfOk, IfSome, IsSome, OnErr};
 ghost use Rattle.fish_outside.specs.Causes.{counted_on, HasFeedCause};
-ghost use Rattle.fish_outside.specs.Told.{Files, HasFile, StillTold};
+ghost use Rattle.fish_outside.specs.Content.{Files, HasFile, SameFiles};
 
 use crate::fault::FeedRefusal;
 use crate::source::Source;
@@ -26,14 +26,14 @@ pub trait Host {
         ensures rest { IfOk result (λ feed.
             IfSome (files self.new) (λ told. HasFile told name.now (Self.Feed.left feed))) }
         ensures fresh { IfOk result (λ feed. Self.Feed.faults feed ≡ 0) }
-        ensures told { StillTold (files self.old) (files self.new) }
+        ensures content { SameFiles (files self.old) (files self.new) }
 
         ensures refused { OnErr result (files self.new ≡ files self.old) }
         ensures cause { HasFeedCause (faults self.old) (faults self.new) result };
 
     /// Takes a feed back, and counts its faults as the host's.
     fn done(&mut self, feed: Self::Feed)
-        ensures told { StillTold (files self.old) (files self.new) }
+        ensures content { SameFiles (files self.old) (files self.new) }
         // A host that is still told had a feed that was told to its end.
         ensures feed { IsSome (files self.new) → IsSome (Self.Feed.left feed) }
         ensures faults { faults self.new ≡ counted_on (faults self.old) (Self.Feed.faults feed) };

@@ -3,7 +3,7 @@
 ghost use Rattle.std.specs.Prelude.{◌≡◌, ◌≤◌, ◌↔◌, [], Some, length, is_err, option_copied, option_map, IfOk, IsErr, IsErrOf, IsTrue};
 ghost use Rattle.std.specs.Str.{bytes_eq};
 ghost use Rattle.fish_outside.specs.Causes.{counted_on, HasCause};
-ghost use Rattle.fish_outside.specs.Told.{Reads, Writes};
+ghost use Rattle.fish_outside.specs.Content.{Reads, Writes};
 ghost use Rattle.fish_outside.specs.Memory.{after_call, file_of, files_of, is_planned, new_plan};
 
 use crate::fault::{Failed, FeedRefusal};

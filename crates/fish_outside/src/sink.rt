@@ -2,7 +2,7 @@
 
 ghost use Rattle.std.specs.Prelude.{◌≤◌, ℕ, List, Option, length, IfOk, OnOk, OnErr};
 ghost use Rattle.fish_outside.specs.Causes.{HasCause};
-ghost use Rattle.fish_outside.specs.Told.{Gained, GainedPart, Writes};
+ghost use Rattle.fish_outside.specs.Content.{Gained, GainedPart, Writes};
 
 use crate::fault::Failed;
 

@@ -2,7 +2,7 @@
 
 ghost use Rattle.std.specs.Prelude.{◌≤◌, ℕ, List, Option, length, IfOk};
 ghost use Rattle.fish_outside.specs.Causes.{HasCause};
-ghost use Rattle.fish_outside.specs.Told.{Reads};
+ghost use Rattle.fish_outside.specs.Content.{Reads};
 
 use crate::fault::Failed;
 

@@ -2,8 +2,8 @@
 
 ghost use Rattle.std.specs.Prelude.{◌≡◌, ◌≤◌, ◌++◌, [], Some, length, take, vec_capacity, option_map, IfOk, IfSome};
 ghost use Rattle.fish_outside.specs.Causes.{HasCause};
-ghost use Rattle.fish_outside.specs.Told.{Writes};
-ghost use Rattle.fish_outside.specs.Room.{told_within};
+ghost use Rattle.fish_outside.specs.Content.{Writes};
+ghost use Rattle.fish_outside.specs.Room.{content_within};
 
 use crate::fault::Failed;
 use crate::sink::Sink;
@@ -21,12 +21,12 @@ pub struct SureSink {
 }
 
 impl SureSink {
-    ghost use Rattle.fish_outside.specs.SureSink.{kept_of, room_of, told_of};
+    ghost use Rattle.fish_outside.specs.SureSink.{kept_of, room_of, content_in};
 
     /// A sink with room for so many bytes, for which it takes the memory.
     pub fn new(alloc: Global, room: u64) -> Result<SureSink, AllocError>
         ensures room { IfOk result (λ sink. room_of sink ≡ room) }
-        ensures told { IfOk result (λ sink. told_of sink ≡ Some []) }
+        ensures content { IfOk result (λ sink. content_in sink ≡ Some []) }
     {
         Ok(SureSink {
             bytes: Vec::with_capacity(alloc, room as usize)?,
@@ -38,27 +38,27 @@ impl SureSink {
     /// What was written, as far as it fits the room.
     pub fn as_bytes(&self) -> &[u8]
         ensures kept { result.now ≡ kept_of self.now }
-        ensures told { IfSome (told_of self.now) (λ all. result.now ≡ all) }
+        ensures content { IfSome (content_in self.now) (λ all. result.now ≡ all) }
     {
         self.bytes.as_slice()
     }
 }
 
 impl Sink for SureSink {
-    ghost use Rattle.fish_outside.specs.SureSink.{kept_of, room_of, told_of};
+    ghost use Rattle.fish_outside.specs.SureSink.{kept_of, room_of, content_in};
 
-    ghost written = { told_of };
+    ghost written = { content_in };
 
     ghost faults = { λ _. 0 };
 
     /// Takes the whole piece, and keeps what the room has place for.
     fn write(&mut self, piece: &[u8]) -> Result<usize, Failed>
         ensures bound { IfOk result (λ n. n ≤ length piece.now) }
-        ensures bytes { Writes (told_of self.old) (told_of self.new) result piece.now }
+        ensures bytes { Writes (content_in self.old) (content_in self.new) result piece.now }
         ensures cause { HasCause 0 0 result }
 
-        ensures told { told_of self.new
-            ≡ told_within (room_of self.old) (option_map (λ all. all ++ piece.now) (told_of self.old)) }
+        ensures content { content_in self.new
+            ≡ content_within (room_of self.old) (option_map (λ all. all ++ piece.now) (content_in self.old)) }
         ensures kept { kept_of self.new ≡ take (room_of self.old) (kept_of self.old ++ piece.now) }
         ensures room { room_of self.new ≡ room_of self.old }
     {

@@ -81,7 +81,7 @@ built_next pieces from end settled to xs x h left new = record {
   apart = λ k a b c first second. elim (push_cases pieces x (k + 1) (Full a b) second) [
     | inl old ↦ elim (push_cases pieces x k (Full b c) first) [
       | inl old_too ↦ h.apart k a b c old_too old
-      | inr e ↦ (let inside = slice_get_within pieces (k + 1) (Full a b) old in let place = e.0 in absurd (omega arith))
+      | inr e ↦ (let inside = slice_get_within pieces (k + 1) (Full a b) old in let position = e.0 in absurd (omega arith))
     ]
     | inr e ↦ elim (push_cases pieces x k (Full b c) first) [
       | inl old ↦ touch a b c k old e.1

@@ -41,7 +41,7 @@ below_before n m (Some to) less h = omega arith
 -- each number of an index piece lies in an interval of its id
 pub index_inside : (ps : List Piece) (from settled to : ℕ) (xs : List Interval) → IsCover ps from settled to xs
     → (k id p q : ℕ) → slice_get ps k ≡ Some (Index id p q)
-    → (from ≤ p) × (q ≤ settled) × (q ≤ to) × (place : ℕ) × (x : Interval) × (slice_get xs place ≡ Some x)
+    → (from ≤ p) × (q ≤ settled) × (q ≤ to) × (position : ℕ) × (x : Interval) × (slice_get xs position ≡ Some x)
     × (x.id ≡ id) × ((n : ℕ) → p ≤ n → n < q → Holds x n)
 index_inside ps from settled to xs h k id p q there =
     let i : IsIndexed xs from settled id p q = h.right k (Index id p q) there in
@@ -49,7 +49,7 @@ index_inside ps from settled to xs h k id p q there =
       w.0,
       i.below,
       w.2,
-      i.oldest.place,
+      i.oldest.position,
       i.interval,
       i.oldest.there,
       i.named,

@@ -39,12 +39,12 @@ cover_rest x ps from settled to xs h = record {
 -- two oldest intervals begin at one number under one id
 oldest_same : (xs : List Interval) (n : ℕ) (x y : Interval) → IsOldest xs n x → IsOldest xs n y
     → (x.from ≡ y.from) × (x.id ≡ y.id)
-oldest_same xs n x y one other = elim (one.ahead other.place y other.there other.holds) [
-  | inl less ↦ elim (other.ahead one.place x one.there one.holds) [
+oldest_same xs n x y one other = elim (one.ahead other.position y other.there other.holds) [
+  | inl less ↦ elim (other.ahead one.position x one.there one.holds) [
     | inl more ↦ absurd (omega arith)
     | inr same ↦ absurd (omega (arith, same.0))
   ]
-  | inr same ↦ elim (other.ahead one.place x one.there one.holds) [
+  | inr same ↦ elim (other.ahead one.position x one.there one.holds) [
     | inl more ↦ absurd (omega (arith, same.0))
     | inr too ↦ (same.0, omega (arith, same.1, too.1))
   ]
@@ -52,7 +52,7 @@ oldest_same xs n x y one other = elim (one.ahead other.place y other.there other
 
 -- a number whose oldest interval is there is held
 held_by : (xs : List Interval) (n : ℕ) (x : Interval) → IsOldest xs n x → IsHeld xs n
-held_by xs n x h = record { place = h.place; interval = x; there = h.there; holds = h.holds }
+held_by xs n x h = record { position = h.position; interval = x; there = h.there; holds = h.holds }
 
 -- where a full piece below settled begins above the range's beginning, an interval holds the number in front of it
 above_low : (ps : List Piece) (p q : ℕ) (from settled to : ℕ) (xs : List Interval) → IsCover (Full p q ∷ ps) from settled to xs
@@ -146,7 +146,7 @@ one_plan (x ∷ ps) (y ∷ qs) from settled to xs h k =
     λ t. same t ∷ rest t
 
 -- a number of the range is in one of the pieces
-piece_of : (ps : List Piece) (from to n : ℕ) → Fill ps from to → from ≤ n → n < to → (place : ℕ) × IsIn ps n place
+piece_of : (ps : List Piece) (from to n : ℕ) → Fill ps from to → from ≤ n → n < to → (position : ℕ) × IsIn ps n position
 piece_of [] from to n h least most = absurd (omega (arith, h))
 piece_of (x ∷ ps) from to n h least most = elim (dec_lt n (piece_from x)) [
   | yes less ↦ (let at = piece_of ps from (piece_from x) n h.2 least less in
@@ -155,13 +155,13 @@ piece_of (x ∷ ps) from to n h least most = elim (dec_lt n (piece_from x)) [
 ]
 
 -- what is in a piece lies below the end of what all fill
-below_end : (ps : List Piece) (from to n place : ℕ) → Fill ps from to → IsIn ps n place → n < to
-below_end [] from to n place h is = absurd (let no = is.there in cc)
+below_end : (ps : List Piece) (from to n position : ℕ) → Fill ps from to → IsIn ps n position → n < to
+below_end [] from to n position h is = absurd (let no = is.there in cc)
 below_end (x ∷ ps) from to n zero h is =
     let e : x ≡ is.piece = same_Some x is.piece is.there in omega (arith, h.0, ap piece_to e, is.ends)
-below_end (x ∷ ps) from to n (suc place) h is = omega (arith, h.1, below_end ps from (piece_from x) n place h.2 (rest is))
+below_end (x ∷ ps) from to n (suc position) h is = omega (arith, h.1, below_end ps from (piece_from x) n position h.2 (rest is))
   where
-    rest : IsIn (x ∷ ps) n (suc place) → IsIn ps n place
+    rest : IsIn (x ∷ ps) n (suc position) → IsIn ps n position
     rest i = record { piece = i.piece; there = i.there; begins = i.begins; ends = i.ends }
 
 -- and in no second one
@@ -192,7 +192,7 @@ one_place (x ∷ ps) from to n (suc j) (suc k) h at_j at_k = ap (λ (i : ℕ). s
 
 -- each number of the range is in one piece
 pub each_in_one : (ps : List Piece) (from to n : ℕ) → Fill ps from to → from ≤ n → n < to
-    → (place : ℕ) × IsIn ps n place × ((other : ℕ) → IsIn ps n other → other ≡ place)
+    → (position : ℕ) × IsIn ps n position × ((other : ℕ) → IsIn ps n other → other ≡ position)
 each_in_one ps from to n h least most =
     let at = piece_of ps from to n h least most in
     (at.0, at.1, λ other is. one_place ps from to n other at.0 h is at.1)

@@ -12,16 +12,16 @@ use Rattle.fish_plan.specs.Next.{IsLowEnd, KeepsLowEnd}
 -- a number that is held stays so
 pub held_longer : (xs : List Interval) (x : Interval) (n : ℕ) → IsHeld xs n → IsHeld (xs ++ x ∷ []) n
 held_longer xs x n h =
-    record { place = h.place; interval = h.interval; there = longer xs x h.interval h.place h.there; holds = h.holds }
+    record { position = h.position; interval = h.interval; there = longer xs x h.interval h.position h.there; holds = h.holds }
 
 -- the new interval holds its own
 pub held_last : (xs : List Interval) (x : Interval) (n : ℕ) → Holds x n → IsHeld (xs ++ x ∷ []) n
-held_last xs x n h = record { place = length xs; interval = x; there = last xs x; holds = h }
+held_last xs x n h = record { position = length xs; interval = x; there = last xs x; holds = h }
 
 -- and no other number is held
 pub held_cases : (xs : List Interval) (x : Interval) (n : ℕ) → IsHeld (xs ++ x ∷ []) n → IsHeld xs n ⊎ Holds x n
-held_cases xs x n h = elim (push_cases xs x h.place h.interval h.there) [
-  | inl old ↦ inl (record { place = h.place; interval = h.interval; there = old; holds = h.holds })
+held_cases xs x n h = elim (push_cases xs x h.position h.interval h.there) [
+  | inl old ↦ inl (record { position = h.position; interval = h.interval; there = old; holds = h.holds })
   | inr new ↦ inr (subst (λ (z : Interval). Holds z n) (sym new.1) h.holds)
 ]
 
@@ -82,7 +82,7 @@ pub low_turn : (xs : List Interval) (i : ℕ) (d : Interval) (from end old new :
 low_turn xs i d from end old new inside free keeps h =
     subst (λ (ys : List Interval). IsLowEnd ys from end new) (sym (take_more xs i d inside))
     (keeps (take i xs) from (λ holds. free (record {
-      place = i;
+      position = i;
       interval = get_or xs i d;
       there = slice_get-get_or xs i d inside;
       holds = holds;

@@ -14,9 +14,9 @@ pub record Holds (x : Interval) (n : ℕ) : Type 0 where
 
 -- one of the intervals holds the number
 pub record IsHeld (xs : List Interval) (n : ℕ) : Type 0 where
-  pub place : ℕ
+  pub position : ℕ
   pub interval : Interval
-  pub there : slice_get xs place ≡ Some interval
+  pub there : slice_get xs position ≡ Some interval
   pub holds : Holds interval n
 
 -- the interval begins before the other, or with it and under no greater id
@@ -25,7 +25,7 @@ IsAhead x y = (x.from < y.from) ⊎ ((x.from ≡ y.from) × (x.id ≤ y.id))
 
 -- of the intervals that hold the number this one begins first; of those that begin there it has the least id
 pub record IsOldest (xs : List Interval) (n : ℕ) (x : Interval) : Type 0 where
-  pub place : ℕ
-  pub there : slice_get xs place ≡ Some x
+  pub position : ℕ
+  pub there : slice_get xs position ≡ Some x
   pub holds : Holds x n
   pub ahead : (k : ℕ) (y : Interval) → slice_get xs k ≡ Some y → Holds y n → IsAhead x y

@@ -16,13 +16,13 @@ OnePlan = (ps qs : List Piece) (from settled to : ℕ) (xs : List Interval) → 
 abbrev pub EachInOne : Type 0
 EachInOne = (pieces : List Piece) (from settled to : ℕ) (xs : List Interval) → IsCover pieces from settled to xs
     → (n : ℕ) → from ≤ n → n < to
-    → (place : ℕ) × IsIn pieces n place × ((other : ℕ) → IsIn pieces n other → other ≡ place)
+    → (position : ℕ) × IsIn pieces n position × ((other : ℕ) → IsIn pieces n other → other ≡ position)
 
 -- each number of an index piece lies in the range, below settled and in an interval of the piece's id
 abbrev pub IndexInside : Type 0
 IndexInside = (pieces : List Piece) (from settled to : ℕ) (xs : List Interval) → IsCover pieces from settled to xs
     → (k id p q : ℕ) → slice_get pieces k ≡ Some (Index id p q)
-    → (from ≤ p) × (q ≤ settled) × (q ≤ to) × (place : ℕ) × (x : Interval) × (slice_get xs place ≡ Some x)
+    → (from ≤ p) × (q ≤ settled) × (q ≤ to) × (position : ℕ) × (x : Interval) × (slice_get xs position ≡ Some x)
     × (x.id ≡ id) × ((n : ℕ) → p ≤ n → n < q → Holds x n)
 
 -- a number below settled that an interval holds is in an index piece

@@ -18,10 +18,10 @@ abbrev pub Fill : List Piece → ℕ → ℕ → Type 0
 Fill [] from to = from ≡ to
 Fill (x ∷ xs) from to = (piece_to x ≡ to) × (piece_from x < to) × Fill xs from (piece_from x)
 
--- the piece at this place holds the number
-pub record IsIn (pieces : List Piece) (n place : ℕ) : Type 0 where
+-- the piece at this position holds the number
+pub record IsIn (pieces : List Piece) (n position : ℕ) : Type 0 where
   pub piece : Piece
-  pub there : slice_get pieces place ≡ Some piece
+  pub there : slice_get pieces position ≡ Some piece
   pub begins : piece_from piece ≤ n
   pub ends : n < piece_to piece
 

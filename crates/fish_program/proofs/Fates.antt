@@ -1,7 +1,7 @@
 -- How a script that was read and the run of it make an end.
 use Rattle.std.proofs.Common.{◌≡◌, ℕ, inl, inr, List, [], append-nil, ap, refl, sym, subst, ◌∙◌}
 use Rattle.std.specs.Prelude.{Bool, Option, Some, None, IfSome, IsSome}
-use Rattle.fish_outside.specs.Told.{Files, Gained, StillTold}
+use Rattle.fish_outside.specs.Content.{Files, Gained, SameFiles}
 use Rattle.fish_recover.specs.declared.opened.Opened.{Opened}
 use Rattle.fish_recover.specs.declared.refusal.Asked.{Asked}
 use Rattle.fish_recover.specs.declared.refusal.OpenRefusal.{OpenRefusal}
@@ -22,13 +22,13 @@ use Rattle.fish_program.specs.declared.fault.Fault.TheVariants as fault
 use Rattle.fish_program.specs.declared.outcome.Outcome.{Outcome}
 
 -- what is so of files that are still told was so of them before
-pub still : (P : Files → Type 0) (old new : Option Files) → StillTold old new → IfSome old P → IfSome new P
+pub still : (P : Files → Type 0) (old new : Option Files) → SameFiles old new → IfSome old P → IfSome new P
 still P old None same h = tt
 still P None (Some files) same h = absurd cc
 still P (Some before) (Some files) same h = let is : before ≡ files = cc in subst P is h
 
 -- a script that was read is that of the file also behind its run
-pub script_still : (file : List ℕ) (old new : Option Files) (script : List Block) → StillTold old new
+pub script_still : (file : List ℕ) (old new : Option Files) (script : List Block) → SameFiles old new
     → HasScript file old script → HasScript file new script
 script_still file old new script same h = record {
   text = h.text;
@@ -126,7 +126,7 @@ module _ {D : Type 0} (content : D → Option (List ℕ)) (images : D → List �
   run_end o (Some ran.Memory) went = inr (stopped_end o ran.Memory went)
   run_end o (Some ran.Disk) went = inr (stopped_end o ran.Disk went)
   run_end o (Some (ran.Damaged n)) went =
-      inr (n, refl, record { stopped = stopped_end o (ran.Damaged n) went; untold = went.damaged })
+      inr (n, refl, record { stopped = stopped_end o (ran.Damaged n) went; no_content = went.damaged })
 
   -- what the run ensures is so of an outcome that has its parts
   pub went_as : (o : Opened) (r : Ran) → Opens content images since moment disk mid disk' asked o

@@ -1,7 +1,7 @@
 -- What the opening and the run of a script say of the disk, put together.
 use Rattle.std.proofs.Common.{◌≡◌, ℕ, List, ◌++◌, ap, subst}
 use Rattle.std.specs.Prelude.{Bool, true, Option, Some, None, IsSome}
-use Rattle.fish_outside.specs.Told.{Files}
+use Rattle.fish_outside.specs.Content.{Files}
 use Rattle.fish_recover.specs.declared.opened.Opened.{Opened}
 use Rattle.fish_recover.specs.declared.refusal.Asked.{Asked}
 use Rattle.fish_rule.specs.declared.close.Remains.{Remains}

@@ -1,7 +1,7 @@
 -- A sample that failed ends by its fault.
 use Rattle.std.proofs.Common.{◌≡◌, ℕ, List, [], refl}
 use Rattle.std.specs.Prelude.{Option, None, Err, IsErrOf}
-use Rattle.fish_outside.proofs.ToldLemmas.{Gained_refl}
+use Rattle.fish_outside.proofs.ContentLemmas.{Gained_refl}
 use Rattle.fish_rule.specs.declared.close.Remains.{Remains}
 use Rattle.fish_sample.specs.Printed.{HasPrintedSome}
 use Rattle.fish_sample.specs.declared.printing.SampleFault.{SampleFault}

@@ -18,7 +18,7 @@ use Rattle.fish_lines.specs.File.{accepted, outcomes}
 use Rattle.fish_lines.specs.Resuming.{outcomes_from}
 use Rattle.fish_lines.specs.declared.resuming.Begin.{Begin}
 use Rattle.fish_lines.specs.declared.resuming.Begin.TheVariants.{After, Start}
-use Rattle.fish_outside.specs.Told.{Took}
+use Rattle.fish_outside.specs.Content.{Took}
 use Rattle.fish_program.specs.Answer.{PassesLimits}
 use Rattle.fish_program.specs.within.Selecting.{HasSelected, IsPassed, IsSelected}
 use Rattle.fish_select.specs.Selection.{HasFound, most_records}

@@ -3,7 +3,7 @@ use Rattle.std.specs.Prelude.{◌≡◌, ◌<◌, ◌⊎◌, ℕ, List, [], ◌�
 use Rattle.fish_feed.specs.Parts.{IsTooLong}
 use Rattle.fish_lang.specs.Definition.{Definition, definition_of}
 use Rattle.fish_lines.specs.File.{accepted, outcomes}
-use Rattle.fish_outside.specs.Told.{Files}
+use Rattle.fish_outside.specs.Content.{Files}
 use Rattle.fish_report.specs.declared.item.Item.{Item}
 use Rattle.fish_report.specs.declared.item.Item.TheVariants as item
 use Rattle.fish_select.specs.Selection.{most_records, selection_of}

@@ -31,15 +31,15 @@ fault_line fault.Output = codes "fault output"
 fault_line fault.Memory = codes "fault memory"
 
 -- the fault that standard error tells of: each, but for none
-abbrev pub told_fault : Fault → Option Fault
-told_fault fault.None = None
-told_fault (fault.Usage cause) = Some (fault.Usage cause)
-told_fault (fault.Script refusal) = Some (fault.Script refusal)
-told_fault (fault.Store refusal) = Some (fault.Store refusal)
-told_fault fault.Disk = Some fault.Disk
-told_fault fault.Input = Some fault.Input
-told_fault fault.Output = Some fault.Output
-told_fault fault.Memory = Some fault.Memory
+abbrev pub printed_fault : Fault → Option Fault
+printed_fault fault.None = None
+printed_fault (fault.Usage cause) = Some (fault.Usage cause)
+printed_fault (fault.Script refusal) = Some (fault.Script refusal)
+printed_fault (fault.Store refusal) = Some (fault.Store refusal)
+printed_fault fault.Disk = Some fault.Disk
+printed_fault fault.Input = Some fault.Input
+printed_fault fault.Output = Some fault.Output
+printed_fault fault.Memory = Some fault.Memory
 
 -- ---- the faults of refusals
 

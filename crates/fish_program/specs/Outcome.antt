@@ -1,7 +1,7 @@
 -- How a run ends, and what each end tells of the words, the files, the disk, the output and the log.
 use Rattle.std.specs.Prelude.{◌≡◌, ◌⊎◌, ℕ, List, [], Bool, Option, None, Ok, Err, IfSome, ⊤, if◌then◌else◌}
 use Rattle.std.specs.List.{list_any}
-use Rattle.fish_outside.specs.Told.{Files, Gained, GainedPart}
+use Rattle.fish_outside.specs.Content.{Files, Gained, GainedPart}
 use Rattle.fish_report.specs.ReportText.{is_refusal, report_text}
 use Rattle.fish_report.specs.declared.item.Item.{Item}
 use Rattle.fish_recover.specs.Opening.{IsOfStore}

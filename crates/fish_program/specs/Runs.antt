@@ -1,7 +1,7 @@
 -- What a run of a script tells of the file that the script stands in, of the disk, of the output and of the log.
 use Rattle.std.specs.Prelude.{◌≡◌, ◌≢◌, ℕ, List, [], Option, Some, None, IfSome, IsSome, ⊤}
 use Rattle.fish_outside.specs.Causes.{Rose}
-use Rattle.fish_outside.specs.Told.{Files}
+use Rattle.fish_outside.specs.Content.{Files}
 use Rattle.fish_recover.specs.declared.opened.Opened.{Opened}
 use Rattle.fish_recover.specs.declared.refusal.Asked.{Asked}
 use Rattle.fish_rule.specs.declared.close.Remains.{Remains}
@@ -109,4 +109,4 @@ pub record IsDamagedRun
     (disk disk' : D) (asked : Asked) (told : Option Files) (script : List Block) (old new : Option (List ℕ))
     (number : ℕ) (o : Outcome) : Type 0 where
   pub stopped : IsStoppedRun content images since moment disk disk' asked told script old new (ran.Damaged number) o
-  pub untold : IsSome (content disk') → ⊥
+  pub no_content : IsSome (content disk') → ⊥

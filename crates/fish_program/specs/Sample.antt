@@ -1,6 +1,6 @@
 -- How a `sample` ends.
 use Rattle.std.specs.Prelude.{◌≡◌, ℕ, List, [], Option, Some, None, false}
-use Rattle.fish_outside.specs.Told.{Gained}
+use Rattle.fish_outside.specs.Content.{Gained}
 use Rattle.fish_rule.specs.declared.close.Remains.{Remains}
 use Rattle.fish_sample.specs.Printed.{HasPrinted, HasPrintedSome}
 use Rattle.fish_sample.specs.declared.printing.SampleFault.{SampleFault}

@@ -2,7 +2,7 @@
 
 ghost use Rattle.std.specs.Prelude.{◌≡◌};
 ghost use Rattle.fish_outside.specs.Causes.{Rose};
-ghost use Rattle.fish_outside.specs.Told.{StillTold};
+ghost use Rattle.fish_outside.specs.Content.{SameFiles};
 ghost use Rattle.fish_command.specs.Command.{asked_of};
 ghost use Rattle.fish_program.specs.Outcome.{Ends, IsEnd, IsUsage, status_of};
 
@@ -39,7 +39,7 @@ where
     ensures usage { IsUsage words.now result.fault }
     ensures ended { IsEnd D.content D.images D.since D.moment disk.old disk.new words.now (H.files host.new)
         (W.written out.old) (W.written out.new) result }
-    ensures told { StillTold (H.files host.old) (H.files host.new) }
+    ensures content { SameFiles (H.files host.old) (H.files host.new) }
     ensures input { result.fault ≡ Fault.Input → Rose (H.faults host.old) (H.faults host.new) }
     ensures output { result.fault ≡ Fault.Output → Rose (W.faults out.old) (W.faults out.new) }
     ensures disk { result.fault ≡ Fault.Disk → Rose (D.faults disk.old) (D.faults disk.new) }
@@ -63,7 +63,7 @@ where
     ensures usage { IsUsage words.now result.fault }
     ensures ended { IsEnd D.content D.images D.since D.moment disk.old disk.new words.now (H.files host.new)
         (W.written out.old) (W.written out.new) result }
-    ensures told { StillTold (H.files host.old) (H.files host.new) }
+    ensures content { SameFiles (H.files host.old) (H.files host.new) }
     ensures input { result.fault ≡ Fault.Input → Rose (H.faults host.old) (H.faults host.new) }
     ensures output { result.fault ≡ Fault.Output → Rose (W.faults out.old) (W.faults out.new) }
     ensures disk { result.fault ≡ Fault.Disk → Rose (D.faults disk.old) (D.faults disk.new) }
@@ -93,7 +93,7 @@ where
     ensures status { result.status ≡ status_of result.fault result.refused }
     ensures ended { Ends D.content D.images D.since D.moment disk.old disk.new (asked_of command.now) (H.files host.new)
         (W.written out.old) (W.written out.new) result }
-    ensures told { StillTold (H.files host.old) (H.files host.new) }
+    ensures content { SameFiles (H.files host.old) (H.files host.new) }
     ensures input { result.fault ≡ Fault.Input → Rose (H.faults host.old) (H.faults host.new) }
     ensures output { result.fault ≡ Fault.Output → Rose (W.faults out.old) (W.faults out.new) }
     ensures disk { result.fault ≡ Fault.Disk → Rose (D.faults disk.old) (D.faults disk.new) }

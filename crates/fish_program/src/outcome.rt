@@ -2,7 +2,7 @@
 
 ghost use Rattle.std.specs.Prelude.{◌≡◌, [], None};
 ghost use Rattle.std.specs.Process.{exit_status};
-ghost use Rattle.fish_program.specs.Faults.{told_fault};
+ghost use Rattle.fish_program.specs.Faults.{printed_fault};
 ghost use Rattle.fish_program.specs.Outcome.{status_of};
 
 use crate::fault::Fault;
@@ -55,7 +55,7 @@ impl Outcome {
 
     /// The fault whose line goes to standard error, where there is one.
     pub fn told(&self) -> Option<Fault>
-        ensures { result ≡ told_fault self.now.fault }
+        ensures { result ≡ printed_fault self.now.fault }
     {
         match self.fault {
             Fault::None => None,

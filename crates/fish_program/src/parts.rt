@@ -7,7 +7,7 @@ ghost use Rattle.fish_lang.specs.Definition.{definition_of};
 ghost use Rattle.fish_lines.specs.File.{accepted};
 ghost use Rattle.fish_lines.specs.Resuming.{outcomes_from};
 ghost use Rattle.fish_lines.specs.declared.resuming.Begin.TheVariants.{Start};
-ghost use Rattle.fish_outside.specs.Told.{StillTold};
+ghost use Rattle.fish_outside.specs.Content.{SameFiles};
 ghost use Rattle.fish_program.specs.Answer.{AnswersTo};
 ghost use Rattle.fish_program.specs.Faults.{IsStepFault};
 ghost use Rattle.fish_program.specs.declared.fault.Fault.TheVariants as fault;
@@ -49,7 +49,7 @@ where
     H::Feed: Drop,
     ensures answer { IfOk result (λ item. IfSome (H.files host.new)
         (λ files. (b : List ℕ) × (files command.now.file ≡ Some b) × AnswersTo command.now b item)) }
-    ensures told { StillTold (H.files host.old) (H.files host.new) }
+    ensures content { SameFiles (H.files host.old) (H.files host.new) }
     ensures refused { IfErr result (IsStepFault (H.faults host.old) (H.faults host.new)) }
 {
     let name = command.file.again(alloc)?;
@@ -79,7 +79,7 @@ fn select_open<F: Source + Drop>(
     requires can { CanRead F.faults file.old }
     ensures answer { IfOk result (λ item. OfFile F.left (F.left file.old.feed) file.new
         (λ b. AnswersTo command.now b item)) }
-    ensures told { IsSome (F.left file.new.feed) → IsSome (F.left file.old.feed) }
+    ensures content { IsSome (F.left file.new.feed) → IsSome (F.left file.old.feed) }
     ensures refused { IfErr result (IsStepFault 0 (F.faults file.new.feed)) }
 {
     let mut found = begin_select(alloc);
@@ -119,7 +119,7 @@ fn add_next<F: Source + Drop>(
         → HasSelected F.left at_first command.now file.old found.old
         → IsPassed F.left at_first command.now file.new) }
     ensures can { OnOk result (CanRead F.faults file.new) }
-    ensures told { IsSome (F.left file.new.feed) → IsSome (F.left file.old.feed) }
+    ensures content { IsSome (F.left file.new.feed) → IsSome (F.left file.old.feed) }
     ensures refused { IfErr result (IsStepFault 0 (F.faults file.new.feed)) }
 {
     let Part { work, last } = read_part(alloc, file, AT_ONCE)?;

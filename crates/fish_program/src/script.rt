@@ -2,7 +2,7 @@
 
 ghost use Rattle.std.specs.Prelude.{◌≡◌, ◌≤◌, [], IfErr, IfOk};
 ghost use Rattle.fish_outside.specs.Causes.{Rose};
-ghost use Rattle.fish_outside.specs.Told.{StillTold};
+ghost use Rattle.fish_outside.specs.Content.{SameFiles};
 ghost use Rattle.fish_recover.specs.Stores.{asked_shape};
 ghost use Rattle.fish_rule.specs.Start.{IsShape};
 ghost use Rattle.fish_script.specs.Runnable.{CanRun};
@@ -41,7 +41,7 @@ where
     ensures ended { EndsRun D.content D.images D.since D.moment disk.old disk.new
         (shape_asked command.now.pages command.now.bits) command.now.script (H.files host.new) (W.written out.old)
         (W.written out.new) result }
-    ensures told { StillTold (H.files host.old) (H.files host.new) }
+    ensures content { SameFiles (H.files host.old) (H.files host.new) }
     ensures input { result.fault ≡ Fault.Input → Rose (H.faults host.old) (H.faults host.new) }
     ensures output { result.fault ≡ Fault.Output → Rose (W.faults out.old) (W.faults out.new) }
     ensures disk { result.fault ≡ Fault.Disk → Rose (D.faults disk.old) (D.faults disk.new) }
@@ -69,7 +69,7 @@ where
 /// Reads the script that the file with a name is.
 fn read_script<H: Host>(alloc: Global, host: &mut H, name: &Text) -> Result<Script, Fault>
     ensures script { IfOk result (HasScript name.now (H.files host.new)) }
-    ensures told { StillTold (H.files host.old) (H.files host.new) }
+    ensures content { SameFiles (H.files host.old) (H.files host.new) }
     ensures later { H.faults host.old ≤ H.faults host.new }
 
     ensures refused { IfErr result (IsScriptFault name.now (H.files host.new) (H.faults host.old) (H.faults host.new)) }
@@ -108,7 +108,7 @@ where
     ensures status { result.status ≡ status_of result.fault result.refused }
     ensures ended { EndsScript D.content D.images D.since D.moment disk.old disk.new asked (H.files host.new) script.now
         (W.written out.old) (W.written out.new) result result.fault }
-    ensures told { StillTold (H.files host.old) (H.files host.new) }
+    ensures content { SameFiles (H.files host.old) (H.files host.new) }
     ensures input { result.fault ≡ Fault.Input → Rose (H.faults host.old) (H.faults host.new) }
     ensures output { result.fault ≡ Fault.Output → Rose (W.faults out.old) (W.faults out.new) }
     ensures disk { result.fault ≡ Fault.Disk → Rose (D.faults disk.old) (D.faults disk.new) }

@@ -3,7 +3,7 @@
 ghost use Rattle.std.specs.Prelude.{◌≡◌, ◌∷◌, [], IfErr, IfOk, IfSome, None};
 ghost use Rattle.std.specs.List.{list_any};
 ghost use Rattle.fish_outside.specs.Causes.{Rose};
-ghost use Rattle.fish_outside.specs.Told.{StillTold};
+ghost use Rattle.fish_outside.specs.Content.{SameFiles};
 ghost use Rattle.fish_report.specs.ReportText.{is_refusal, report_text};
 ghost use Rattle.fish_program.specs.Answer.{AnswersTo, IsAnswer};
 ghost use Rattle.fish_program.specs.Faults.{IsStepFault};
@@ -30,7 +30,7 @@ where
     ensures status { result.status ≡ status_of result.fault result.refused }
     ensures ended { EndsSelect (AnswersTo command.now) command.now.file (H.files host.new) (W.written out.old)
         (W.written out.new) result result.fault }
-    ensures told { StillTold (H.files host.old) (H.files host.new) }
+    ensures content { SameFiles (H.files host.old) (H.files host.new) }
     ensures input { result.fault ≡ Fault.Input → Rose (H.faults host.old) (H.faults host.new) }
     ensures output { result.fault ≡ Fault.Output → Rose (W.faults out.old) (W.faults out.new) }
 {
@@ -76,7 +76,7 @@ where
     ensures answer { IfOk result (λ prepared. IfSome (H.files host.new)
         (λ files. IsAnswer (AnswersTo command.now) command.now.file files prepared.report.items)) }
     ensures text { IfOk result (λ prepared. prepared.text ≡ report_text prepared.report.items) }
-    ensures told { StillTold (H.files host.old) (H.files host.new) }
+    ensures content { SameFiles (H.files host.old) (H.files host.new) }
     ensures refused { IfErr result (IsStepFault (H.faults host.old) (H.faults host.new)) }
 {
     let item = select_file(alloc, command, host)?;

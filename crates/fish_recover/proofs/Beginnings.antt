@@ -29,7 +29,7 @@ use Rattle.fish_lang.specs.Definition.{Definition}
 use Rattle.fish_lang.specs.Language.{IsAccepted}
 use Rattle.fish_layout.specs.declared.parts.BodyParts.{BodyParts}
 use Rattle.fish_psf.specs.Records.{evaluation}
-use Rattle.fish_rule.specs.Logs.{AreTold}
+use Rattle.fish_rule.specs.Logs.{AreKnown}
 use Rattle.fish_rule.specs.Parts.{IsOlder}
 use Rattle.fish_rule.specs.Start.{table_lines}
 use Rattle.fish_rule.specs.Table.{first_view}
@@ -48,10 +48,10 @@ means_once : (text : List ℕ) (d e : Definition) → IsAccepted text d → IsAc
 means_once text d e p q = (let same = sym (outcome-only text (Ok d) p) ∙ outcome-only text (Ok e) q in cc)
 
 -- nothing is told of no entries
-none_told : (v : View) (n : ℕ) (log : List Entry) → length log ≡ n → AreTold v n (drop n log)
+none_told : (v : View) (n : ℕ) (log : List Entry) → length log ≡ n → AreKnown v n (drop n log)
 none_told v n log size =
     let none : drop n log ≡ [] = drop_all n log (omega arith) in
-    subst (AreTold v n) (sym none) (λ i e there. absurd (some-ne-none e (sym there)))
+    subst (AreKnown v n) (sym none) (λ i e there. absurd (some-ne-none e (sym there)))
 
 -- the heads of a commit are those of its records
 older_heads : (c : Commit) (w : List ℕ) (end : Reached) (heads : List ℕ) → Agrees c w c.count end → end.line ≡ c.lines

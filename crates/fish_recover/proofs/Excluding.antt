@@ -6,12 +6,12 @@ use Rattle.fish_catalog.specs.declared.entry.Entry.{Entry}
 use Rattle.fish_image.proofs.Agreement.{agrees_once, no_log, one_damage}
 use Rattle.fish_image.specs.Log.{Agrees, IsDamaged}
 use Rattle.fish_image.specs.Reached.{Reached}
-use Rattle.fish_image.specs.Reading.{IsTold}
+use Rattle.fish_image.specs.Reading.{IsBodyOf}
 use Rattle.fish_image.specs.Stands.{Stands, words_in}
 use Rattle.fish_rule.specs.declared.table.Shape.{Shape}
 use Rattle.fish_slots.proofs.Commits.{one_commit}
 use Rattle.fish_slots.specs.Commits.{Counts, HasCommit}
-use Rattle.fish_slots.specs.Places.{gate_at}
+use Rattle.fish_slots.specs.Offsets.{gate_at}
 use Rattle.fish_slots.specs.Slots.{IsOpen}
 use Rattle.fish_recover.proofs.Once.{told_once}
 use Rattle.fish_recover.specs.Opening.{IsFound, IsOfStore, IsOpenCause, IsOther, IsOtherShape}
@@ -22,11 +22,11 @@ use Rattle.fish_recover.specs.declared.refusal.OpenRefusal.{OpenRefusal}
 use Rattle.fish_recover.specs.declared.refusal.OpenRefusal.TheVariants.{Damaged, DiskFault, NotAStore, OutOfMemory, ShapeDiffers}
 
 -- an image has one commit that is told, and one list of lines
-once : (image b w d v : List ℕ) (c e : Commit) → HasCommit b w image → HasCommit d v image → IsTold c b → IsTold e d
+once : (image b w d v : List ℕ) (c e : Commit) → HasCommit b w image → HasCommit d v image → IsBodyOf c b → IsBodyOf e d
     → (c ≡ e) × (w ≡ v)
 once image b w d v c e has other told too =
     let same = one_commit b w d v image has other in
-    (told_once c e d (subst (IsTold c) same.0 told) too, same.1)
+    (told_once c e d (subst (IsBodyOf c) same.0 told) too, same.1)
 
 -- the slot that counts is open
 not_closed : (slot : ℕ) (b w image : List ℕ) → slot ≤ 1 → Counts slot b w image → (IsOpen 0 image → ⊥) → (IsOpen 1 image → ⊥) → ⊥

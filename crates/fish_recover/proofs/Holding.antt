@@ -5,7 +5,7 @@ use Rattle.fish_catalog.specs.declared.commit.Commit.{Commit}
 use Rattle.fish_image.proofs.Spelling.{told_word}
 use Rattle.fish_image.specs.Checking.{HasChecked}
 use Rattle.fish_image.specs.Log.{IsDamaged}
-use Rattle.fish_image.specs.Reading.{IsTold}
+use Rattle.fish_image.specs.Reading.{IsBodyOf}
 use Rattle.fish_image.specs.Slot.{number}
 use Rattle.fish_slots.specs.Slots.{body_of, line_count, lines_of}
 use Rattle.fish_recover.proofs.Slots.{newer_commit}
@@ -17,7 +17,7 @@ use Rattle.fish_recover.specs.declared.refusal.OpenRefusal.{OpenRefusal}
 use Rattle.fish_recover.specs.declared.refusal.OpenRefusal.TheVariants.{Damaged, DiskFault, NotAStore, OutOfMemory, ShapeDiffers}
 
 -- the lines that a body counts are its commit's
-pub body_lines : (c : Commit) (b : List ℕ) → IsTold c b → line_count b ≡ c.lines
+pub body_lines : (c : Commit) (b : List ℕ) → IsBodyOf c b → line_count b ≡ c.lines
 unfolding line_count number
 body_lines c b h = told_word c b h 5 (omega arith)
 

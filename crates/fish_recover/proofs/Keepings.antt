@@ -14,10 +14,10 @@ use Rattle.fish_image.specs.Checking.{HasChecked}
 use Rattle.fish_image.specs.Log.{Agrees}
 use Rattle.fish_image.specs.Progress.{AreHeads}
 use Rattle.fish_image.specs.Reached.{Reached}
-use Rattle.fish_image.specs.Reading.{IsTold}
+use Rattle.fish_image.specs.Reading.{IsBodyOf}
 use Rattle.fish_image.specs.Stands.{Stands, words_in}
 use Rattle.fish_slots.specs.Commits.{Counts, Rests}
-use Rattle.fish_slots.specs.Places.{lines_at}
+use Rattle.fish_slots.specs.Offsets.{lines_at}
 use Rattle.fish_slots.specs.Slots.{IsOpen, line_count, lines_of}
 use Rattle.fish_recover.proofs.Holding.{body_lines}
 use Rattle.fish_recover.proofs.Words.{length-words_of}
@@ -58,7 +58,7 @@ pub record KeptIn (x : Option (List ℕ)) (f : Found) : Type 0 where
   pub body : List ℕ
   pub lines : List ℕ
   pub slot_is : f.slot ≤ 1
-  pub told : IsTold f.commit body
+  pub told : IsBodyOf f.commit body
   pub held : HasChecked f.commit (words_in lines) f.checked
   pub size : length lines ≡ 32 * f.commit.lines
   pub counts : IfSome x (Counts f.slot body lines)
@@ -122,7 +122,7 @@ module _ (x : Option (List ℕ)) (f : Found) (k : KeptIn x f) where
 -- ---- what is kept of it
 
 -- a flusher that goes on with what was found keeps its commit
-pub kept_committed : (f : Found) (body lines : List ℕ) (told : IsTold f.commit body)
+pub kept_committed : (f : Found) (body lines : List ℕ) (told : IsBodyOf f.commit body)
     (held : HasChecked f.commit (words_in lines) f.checked) (g : Flusher) → length lines ≡ 32 * f.commit.lines
     → IsKeptOf f.slot f.commit f.checked.heads f.checked.starts g → IsCommitted g f.commit body lines held.end.entries
 kept_committed f body lines told held g size kept = record {

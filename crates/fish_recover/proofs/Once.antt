@@ -7,7 +7,7 @@ use Rattle.fish_catalog.specs.declared.commit.Commit.{Commit}
 use Rattle.fish_catalog.specs.declared.row.CatRow.{CatRow}
 use Rattle.fish_image.proofs.Spelling.{name_length, name_read, next_row, row_word, text_length, text_read, told_rows, told_word}
 use Rattle.fish_image.specs.Commits.{IsBoundary}
-use Rattle.fish_image.specs.Reading.{AreRowsOf, IsRowOf, IsTold}
+use Rattle.fish_image.specs.Reading.{AreRowsOf, IsRowOf, IsBodyOf}
 use Rattle.fish_image.specs.Slot.{boundary_word, bytes_behind, row_bytes, zeros}
 
 -- a word says one boundary
@@ -63,7 +63,7 @@ module _ (rows others : List CatRow) (more rest b : List ℕ) (h : AreRowsOf row
       sym (take_all (length rows) rows (omega arith)) ∙ all.front ∙ take_all (length rows) others (omega arith)
 
 -- a body tells one commit
-pub told_once : (c d : Commit) (b : List ℕ) → IsTold c b → IsTold d b → c ≡ d
+pub told_once : (c d : Commit) (b : List ℕ) → IsBodyOf c b → IsBodyOf d b → c ≡ d
 told_once c d b h g =
     let signs = sym (told_word c b h 0 (omega arith)) ∙ told_word d b g 0 (omega arith) in
     let formats : c.format ≡ d.format = omega arith in

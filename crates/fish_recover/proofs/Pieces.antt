@@ -8,7 +8,7 @@ use Rattle.byteorder.specs.Endian.{little_from, little_number}
 use Rattle.byteorder.specs.Numbers.{little_from-take}
 use Rattle.fish_disk.specs.Content.{part}
 use Rattle.fish_slots.specs.Commits.{turn_of}
-use Rattle.fish_slots.specs.Places.{body_at, body_bytes}
+use Rattle.fish_slots.specs.Offsets.{body_at, body_bytes}
 use Rattle.fish_slots.specs.Slots.{body_of}
 
 -- as many as there are and fit are all that fit

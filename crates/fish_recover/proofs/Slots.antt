@@ -4,7 +4,7 @@ use Rattle.std.specs.Prelude.{◌↔◌, Option, Some, None, IfSome, IsTrue}
 use Rattle.fish_catalog.specs.declared.commit.Commit.{Commit}
 use Rattle.fish_disk.specs.Content.{StillReads}
 use Rattle.fish_disk.proofs.Regions.{told_at}
-use Rattle.fish_image.specs.Reading.{IsTold}
+use Rattle.fish_image.specs.Reading.{IsBodyOf}
 use Rattle.fish_slots.proofs.Commits.{one_commit}
 use Rattle.fish_slots.specs.Commits.{Counts, HasCommit, next_turn, turn_of}
 use Rattle.fish_slots.specs.Slots.{IsOpen, body_of, line_count, lines_of}
@@ -75,7 +75,7 @@ slot_cause slot c (Damaged n) le h cause = (
     some = open_slot slot c le h;
     none = λ body lines commit has told.
         let same = one_commit body lines _ _ c has (newer_commit slot c le h) in
-        cause.1 commit (subst (IsTold commit) same.0 told);
+        cause.1 commit (subst (IsBodyOf commit) same.0 told);
   },
 )
 slot_cause slot c (ShapeDiffers kept asked) le h cause = absurd cause
@@ -99,7 +99,7 @@ older_gate (suc (suc slot)) c first second both le gate one two is = absurd (ome
 -- the slot that counts, with its commit
 pub chosen : (x : Option (List ℕ)) (slot : ℕ) (first second both : Bool) (commit : Commit) → slot ≤ 1
     → IfSome x (λ c. IsTrue first ↔ IsOpen 0 c) → IfSome x (λ c. IsTrue second ↔ IsOpen 1 c)
-    → (IsTrue both ↔ (IsTrue first × IsTrue second)) → IfSome x (IsNewer slot) → IfSome x (λ c. IsTold commit (body_of slot c))
+    → (IsTrue both ↔ (IsTrue first × IsTrue second)) → IfSome x (IsNewer slot) → IfSome x (λ c. IsBodyOf commit (body_of slot c))
     → IfSome x (λ c. IsChosen c slot both commit)
 chosen None slot first second both commit le one two is newer told = tt
 chosen (Some c) slot first second both commit le one two is newer told = record {

@@ -10,7 +10,7 @@ use Rattle.byteorder.specs.Numbers.{little_from-append}
 use Rattle.fish_disk.specs.Content.{part}
 use Rattle.fish_image.specs.Slot.{number}
 use Rattle.fish_image.specs.Stands.{words_in, words_of}
-use Rattle.fish_slots.specs.Places.{lines_at}
+use Rattle.fish_slots.specs.Offsets.{lines_at}
 use Rattle.fish_recover.specs.Opening.{first_words}
 
 -- so many words

@@ -1,7 +1,7 @@
 -- Which slot of an image an opening takes, and why it takes none.
 use Rattle.std.specs.Prelude.{ℕ, ◌≡◌, ◌-◌, ◌≤◌, ◌↔◌, ◌⊎◌, List, Bool, Result, IsErrOf, IsTrue, ⊤}
 use Rattle.fish_catalog.specs.declared.commit.Commit.{Commit}
-use Rattle.fish_image.specs.Reading.{IsTold}
+use Rattle.fish_image.specs.Reading.{IsBodyOf}
 use Rattle.fish_outside.specs.Causes.{Rose}
 use Rattle.fish_slots.specs.Commits.{HasCommit, next_turn, turn_of}
 use Rattle.fish_slots.specs.Slots.{IsOpen, body_of}
@@ -22,19 +22,19 @@ pub record IsNewer (slot : ℕ) (image : List ℕ) : Type 0 where
 pub record IsChosen (image : List ℕ) (slot : ℕ) (both : Bool) (commit : Commit) : Type 0 where
   pub slot_is : slot ≤ 1
   pub newer : IsNewer slot image
-  pub told : IsTold commit (body_of slot image)
+  pub told : IsBodyOf commit (body_of slot image)
   pub older : IsTrue both ↔ IsOpen (1 - slot) image
 
 -- whatever the disk tells of its content: it is one of the two slots, and some body tells the commit
 pub record IsSlotRead (slot : ℕ) (commit : Commit) : Type 0 where
   pub slot_is : slot ≤ 1
   pub body : List ℕ
-  pub told : IsTold commit body
+  pub told : IsBodyOf commit body
 
 -- a gate is open, and yet no slot counts whose body tells a commit
 pub record IsSlotless (image : List ℕ) : Type 0 where
   pub some : IsOpen 0 image ⊎ IsOpen 1 image
-  pub none : (body lines : List ℕ) (commit : Commit) → HasCommit body lines image → IsTold commit body → ⊥
+  pub none : (body lines : List ℕ) (commit : Commit) → HasCommit body lines image → IsBodyOf commit body → ⊥
 
 -- why no slot is taken: no gate is open; or one is, and yet no slot counts whose body tells a commit; or the disk failed, or
 -- memory ran out
@@ -48,7 +48,7 @@ IsSlotCause image OutOfMemory = ⊤
 -- why no commit is read from a body: it tells none; or the disk failed, or memory ran out
 abbrev pub IsBodyCause : List ℕ → OpenRefusal → Type 0
 IsBodyCause body NotAStore = ⊥
-IsBodyCause body (Damaged n) = (n ≡ 0) × ((commit : Commit) → IsTold commit body → ⊥)
+IsBodyCause body (Damaged n) = (n ≡ 0) × ((commit : Commit) → IsBodyOf commit body → ⊥)
 IsBodyCause body (ShapeDiffers kept asked) = ⊥
 IsBodyCause body DiskFault = ⊤
 IsBodyCause body OutOfMemory = ⊤

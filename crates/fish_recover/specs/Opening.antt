@@ -4,7 +4,7 @@ use Rattle.fish_catalog.specs.declared.commit.Checked.{Checked}
 use Rattle.fish_catalog.specs.declared.commit.Commit.{Commit}
 use Rattle.fish_image.specs.Checking.{HasChecked, HasSeen}
 use Rattle.fish_image.specs.Log.{IsDamaged}
-use Rattle.fish_image.specs.Reading.{IsTold}
+use Rattle.fish_image.specs.Reading.{IsBodyOf}
 use Rattle.fish_image.specs.Stands.{words_in}
 use Rattle.fish_image.specs.Steps.{Breaks}
 use Rattle.fish_image.specs.declared.checker.Checker.{Checker}
@@ -91,7 +91,7 @@ pub record IsFound (image : List ℕ) (asked : Asked) (found : Found) : Type 0 w
   pub lines : List ℕ
   pub commit : HasCommit body lines image
   pub slot : commit.slot ≡ found.slot
-  pub told : IsTold found.commit body
+  pub told : IsBodyOf found.commit body
   pub shape : IsOtherShape asked found.commit → ⊥
   pub checked : HasChecked found.commit (words_in lines) found.checked
   pub older : IsTrue found.both ↔ IsOpen (1 - found.slot) image
@@ -107,7 +107,7 @@ pub record IsOther (image : List ℕ) (asked : Asked) (pages bits : ℕ) : Type 
   pub lines : List ℕ
   pub commit : Commit
   pub has : HasCommit body lines image
-  pub told : IsTold commit body
+  pub told : IsBodyOf commit body
   pub shape : IsOtherShape asked commit
   pub pages_are : commit.pages ≡ pages
   pub bits_are : commit.bucket_bits ≡ bits
@@ -119,7 +119,7 @@ pub record IsBroken (image : List ℕ) (asked : Asked) (number : ℕ) : Type 0 w
   pub lines : List ℕ
   pub commit : Commit
   pub has : HasCommit body lines image
-  pub told : IsTold commit body
+  pub told : IsBodyOf commit body
   pub shape : IsOtherShape asked commit → ⊥
   pub damaged : IsDamaged commit (words_in lines) number
 

@@ -1,7 +1,7 @@
 -- A store that was found, and one that is at rest, over bytes alone.
 use Rattle.std.specs.Prelude.{ℕ, ◌≡◌, ◌+◌, ◌-◌, ◌*◌, ◌≤◌, ◌↔◌, List, Bool, IsTrue, length}
 use Rattle.fish_slots.specs.Commits.{Counts, Rests}
-use Rattle.fish_slots.specs.Places.{body_bytes, lines_at}
+use Rattle.fish_slots.specs.Offsets.{body_bytes, lines_at}
 use Rattle.fish_slots.specs.Slots.{IsOpen, line_count}
 
 -- the body is a whole one, and so are the lines that it counts

@@ -4,7 +4,7 @@ ghost use Rattle.std.specs.Prelude.{◌≡◌, ◌≤◌, ◌+◌, ◌↔◌, �
 ghost use Rattle.fish_outside.specs.Causes.{HasCause};
 ghost use Rattle.fish_disk.specs.Content.{StillReads};
 ghost use Rattle.fish_disk.specs.Crash.{LeavesOnly};
-ghost use Rattle.fish_image.specs.Reading.{IsTold};
+ghost use Rattle.fish_image.specs.Reading.{IsBodyOf};
 ghost use Rattle.fish_slots.specs.Commits.{next_turn, turn_of};
 ghost use Rattle.fish_slots.specs.Slots.{IsOpen, body_of};
 ghost use Rattle.fish_recover.specs.Choosing.{HasOpenCause, IsBodyCause, IsChosen, IsNewer, IsSlotCause, IsSlotRead};
@@ -155,8 +155,8 @@ fn are_both(gates: Gates) -> bool
 /// The commit that a slot's body tells. One call of the disk.
 fn read_commit<D: Disk>(alloc: Global, disk: &mut D, slot: u8) -> Result<Commit, OpenRefusal>
     requires { slot ≤ 1 }
-    ensures told { IfOk result (λ commit. IfSome (D.content disk.new) (λ c. IsTold commit (body_of slot c))) }
-    ensures read { IfOk result (λ commit. (b : List ℕ) × IsTold commit b) }
+    ensures body { IfOk result (λ commit. IfSome (D.content disk.new) (λ c. IsBodyOf commit (body_of slot c))) }
+    ensures read { IfOk result (λ commit. (b : List ℕ) × IsBodyOf commit b) }
     ensures refused { IfErr result (λ e. IfSome (D.content disk.new) (λ c. IsBodyCause (body_of slot c) e)) }
     ensures content { StillReads (D.content disk.old) (D.content disk.new) }
     ensures crash { LeavesOnly D.images D.since D.moment disk.old disk.new (D.images disk.old) }

@@ -6,7 +6,7 @@ ghost use Rattle.std.specs.Prelude.{◌≡◌, ◌≤◌, ◌*◌, ◌+◌, ℕ,
 ghost use Rattle.fish_outside.specs.Causes.{HasCause};
 ghost use Rattle.fish_disk.specs.Crash.{LeavesOnly};
 ghost use Rattle.fish_slots.specs.Commits.{HasCommit, Rests};
-ghost use Rattle.fish_slots.specs.Places.{lines_at};
+ghost use Rattle.fish_slots.specs.Offsets.{lines_at};
 ghost use Rattle.fish_slots.specs.Slots.{line_count};
 ghost use Rattle.fish_recover.specs.Choosing.{HasOpenCause};
 ghost use Rattle.fish_recover.specs.Opening.{IsOutside};
@@ -35,7 +35,7 @@ pub(crate) fn rest_store<D: Disk>(
     ensures crash { (b w : List ℕ) → AreStored (D.images disk.old) slot both b w
         → LeavesOnly D.images D.since D.moment disk.old disk.new (HasCommit b w) }
     ensures calls { D.moment disk.new ≤ D.moment disk.old + 5 }
-    ensures told { (i : List ℕ) → D.images disk.new i → (o : List ℕ) × D.images disk.old o }
+    ensures before { (i : List ℕ) → D.images disk.new i → (o : List ℕ) × D.images disk.old o }
     ensures refused { IfErr result IsOutside }
 
     ensures cause { HasOpenCause (D.faults disk.old) (D.faults disk.new) result }
@@ -55,7 +55,7 @@ fn close_other<D: Disk>(disk: &mut D, slot: u8, both: bool) -> Result<(), Failed
     ensures crash { (b w : List ℕ) → AreStored (D.images disk.old) slot both b w
         → LeavesOnly D.images D.since D.moment disk.old disk.new (HasCommit b w) }
     ensures calls { D.moment disk.new ≤ D.moment disk.old + 2 }
-    ensures told { (i : List ℕ) → D.images disk.new i → (o : List ℕ) × D.images disk.old o }
+    ensures before { (i : List ℕ) → D.images disk.new i → (o : List ℕ) × D.images disk.old o }
     ensures cause { HasCause (D.faults disk.old) (D.faults disk.new) result }
 {
     if both { begin(disk, 1 - slot) } else { Ok(()) }
@@ -70,7 +70,7 @@ fn fill<D: Disk>(alloc: Global, disk: &mut D, slot: u8) -> Result<(), OpenRefusa
     ensures crash { (b w : List ℕ) → AreAtRest (D.images disk.old) slot b w
         → LeavesOnly D.images D.since D.moment disk.old disk.new (Rests slot b w) }
     ensures calls { D.moment disk.new ≤ D.moment disk.old + 3 }
-    ensures told { (i : List ℕ) → D.images disk.new i → (o : List ℕ) × D.images disk.old o }
+    ensures before { (i : List ℕ) → D.images disk.new i → (o : List ℕ) × D.images disk.old o }
     ensures refused { IfErr result IsOutside }
     ensures cause { HasOpenCause (D.faults disk.old) (D.faults disk.new) result }
 {

@@ -120,7 +120,7 @@ fn open_kept<D: Disk>(alloc: Global, asked: Asked, disk: &mut D) -> Result<Opene
     ensures crash { (i : List ℕ) (c : Told) (log : List Entry) → ((e : List ℕ) → D.images disk.old e → e ≡ i) → Stands c i log
         → LeavesOnly D.images D.since D.moment disk.old disk.new (λ e. Stands c e log) }
     ensures few { IfOk result (λ o. D.moment disk.new ≤ D.moment disk.old + pages_of o.log.key.line + 11) }
-    ensures told { IfSome (D.content disk.new) (λ _. (i : List ℕ) × (D.content disk.old ≡ Some i)) }
+    ensures before { IfSome (D.content disk.new) (λ _. (i : List ℕ) × (D.content disk.old ≡ Some i)) }
     ensures refused { IfErr result (λ e. IfSome (D.content disk.new) (λ c. IsOpenCause c asked e)) }
     ensures reads { IfErr result (λ e. IsOfStore e → StillReads (D.content disk.old) (D.content disk.new)) }
     ensures cause { HasOpenCause (D.faults disk.old) (D.faults disk.new) result }

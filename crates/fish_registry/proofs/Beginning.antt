@@ -26,8 +26,8 @@ last_is (x ∷ rows) new d = last_is rows new d
 -- the row at the id is the one that was added
 pub added_row : (rows now : List CatRow) (new row : CatRow) (id : ℕ) → now ≡ rows ++ new ∷ [] → id ≡ length rows
     → row ≡ get_or now id row → row ≡ new
-added_row rows now new row id is place found =
-    found ∙ ap (λ (xs : List CatRow). get_or xs id row) is ∙ ap (λ (n : ℕ). get_or (rows ++ new ∷ []) n row) place
+added_row rows now new row id is position found =
+    found ∙ ap (λ (xs : List CatRow). get_or xs id row) is ∙ ap (λ (n : ℕ). get_or (rows ++ new ∷ []) n row) position
     ∙ last_is rows new row
 
 -- a definition that some source says has a canonical text
@@ -60,10 +60,10 @@ pub may_register : (v : View) (rows now : List CatRow) (name : List ℕ) (def : 
     → KnowsRows v rows None → now ≡ rows ++ new_row (length rows) name (definition_text (definition_of def)) ∷ []
     → IsCatalog now → id ≡ length rows → row ≡ get_or now id row → length rows < 256 → IsName name → IsSaid def
     → count_by is_active rows < most_active → ¬ HasActive rows name → MayRegister v row
-may_register v rows now name def row id h is catalog place found room is_name said few free =
+may_register v rows now name def row id h is catalog position found room is_name said few free =
     let text : List ℕ = definition_text (definition_of def) in
     let new : CatRow = new_row (length rows) name text in
-    let same : row ≡ new = added_row rows now new row id is place found in
+    let same : row ≡ new = added_row rows now new row id is position found in
     let size : length v.rows ≡ length rows = ap (λ (ls : List Listed). length ls) (sym h.listed)
     ∙ length-map rows listed_of in
     subst (MayRegister v) (sym same) (record {
@@ -77,5 +77,5 @@ may_register v rows now name def row id h is catalog place found room is_name sa
 -- and what was registered is this one
 pub registered_new : (v u : View) (rows now : List CatRow) (new row : CatRow) (id : ℕ) → now ≡ rows ++ new ∷ []
     → id ≡ length rows → row ≡ get_or now id row → HasRegistered v row u → HasRegistered v new u
-registered_new v u rows now new row id is place found h = subst (λ (z : CatRow). HasRegistered v z u)
-    (added_row rows now new row id is place found) h
+registered_new v u rows now new row id is position found h = subst (λ (z : CatRow). HasRegistered v z u)
+    (added_row rows now new row id is position found) h

@@ -10,40 +10,40 @@ use Rattle.fish_rule.specs.Registry.{main_word, row_at}
 use Rattle.fish_rule.specs.declared.view.View.{View}
 
 -- the control pass may store the next one
-pub can_draft : (v u : View) (words : List ℕ) (place x : ℕ) → v.lane ≡ 1 → length v.rows < 256 → 2 ≤ place → place < 39
-    → HasDrafted v words place u → CanDefineWord u (row_at (length v.rows) place) x
-can_draft v u words place x main room behind within h =
+pub can_draft : (v u : View) (words : List ℕ) (position x : ℕ) → v.lane ≡ 1 → length v.rows < 256 → 2 ≤ position → position < 39
+    → HasDrafted v words position u → CanDefineWord u (row_at (length v.rows) position) x
+can_draft v u words position x main room behind within h =
     let rows : v.rows ≡ u.rows = sym (ap (λ (z : View). z.rows) h.only) in
     record {
       main = ap (λ (z : View). z.lane) h.only ∙ main;
       next = inr (
-        place,
+        position,
         subst (λ ls. length ls < 256) rows room,
         within,
-        ap (λ ls. row_at (length ls) place) rows,
+        ap (λ ls. row_at (length ls) position) rows,
         inl behind,
       );
     }
 
--- and then the words up to the place behind it are stored
-pub drafted_next : (v u : View) (words : List ℕ) (place x : ℕ) → 2 ≤ place → place < 39 → HasDrafted v words place u
-    → x ≡ slice_index words place
-    → HasDrafted v words (place + 1) (after_define_word u (row_at (length v.rows) place) x)
-drafted_next v u words place x low high h is =
+-- and then the words up to the position behind it are stored
+pub drafted_next : (v u : View) (words : List ℕ) (position x : ℕ) → 2 ≤ position → position < 39 → HasDrafted v words position u
+    → x ≡ slice_index words position
+    → HasDrafted v words (position + 1) (after_define_word u (row_at (length v.rows) position) x)
+drafted_next v u words position x low high h is =
     let n : ℕ = length v.rows in
-    let next : View = after_define_word u (row_at n place) x in
-    let each : (i : ℕ) → 2 ≤ i → i < place + 1 → Dec (i ≡ place)
+    let next : View = after_define_word u (row_at n position) x in
+    let each : (i : ℕ) → 2 ≤ i → i < position + 1 → Dec (i ≡ position)
     → main_word next.main_words (row_at n i) ≡ slice_index words i =
     λ i behind within d. elim d [
-      | yes e ↦ choose_first (ℕ_discrete (row_at n i) (row_at n place)) x (main_word u.main_words (row_at n i)) (ap (row_at n) e)
+      | yes e ↦ choose_first (ℕ_discrete (row_at n i) (row_at n position)) x (main_word u.main_words (row_at n i)) (ap (row_at n) e)
           ∙ is ∙ ap (slice_index words) (sym e)
-      | no ne ↦ choose_second (ℕ_discrete (row_at n i) (row_at n place)) x (main_word u.main_words (row_at n i))
+      | no ne ↦ choose_second (ℕ_discrete (row_at n i) (row_at n position)) x (main_word u.main_words (row_at n i))
           (λ same. ne (omega arith)) ∙ h.row i behind (omega arith)
     ] in
     record {
       only = ap (λ (z : View). record z { main_words = next.main_words; clock = next.clock }) h.only;
-      row = λ i behind within. each i behind within (ℕ_discrete i place);
-      bounds = λ m i small. choose_second (ℕ_discrete (row_at m i) (row_at n place)) x (main_word u.main_words (row_at m i))
+      row = λ i behind within. each i behind within (ℕ_discrete i position);
+      bounds = λ m i small. choose_second (ℕ_discrete (row_at m i) (row_at n position)) x (main_word u.main_words (row_at m i))
           (λ same. omega arith) ∙ h.bounds m i small;
       clock = later_both v.clock u.clock next.clock h.clock (later_ticked u.clock);
       loads = h.loads;

@@ -123,16 +123,16 @@ knows_first r settled k same begun =
       listed = ap (map listed_of) (sym same);
       bounds = λ id row there.
           let at = ap (λ (xs : List CatRow). slice_get xs id) same ∙ there in
-          let place : 0 + id ≡ id = omega arith in
+          let position : 0 + id ≡ id = omega arith in
           let h = row_has (HasBegunBy k.number) rows begun id row there in
           record {
-            from = ap (λ (n : ℕ). main_word (boundaries_of 0 k.rows.value) (row_at n 0)) (sym place)
+            from = ap (λ (n : ℕ). main_word (boundaries_of 0 k.rows.value) (row_at n 0)) (sym position)
                 ∙ drafted_here 0 id 0 k.rows.value row at (omega arith) ∙ from_is row;
-            to = ap (λ (n : ℕ). main_word (boundaries_of 0 k.rows.value) (row_at n 1)) (sym place)
+            to = ap (λ (n : ℕ). main_word (boundaries_of 0 k.rows.value) (row_at n 1)) (sym position)
                 ∙ drafted_here 0 id 1 k.rows.value row at (omega arith) ∙ to_is row;
-            read_from = λ n is. subst (λ (m : ℕ). Among (record { index = row_at m 0; value = suc n }) v.learned.words) place
+            read_from = λ n is. subst (λ (m : ℕ). Among (record { index = row_at m 0; value = suc n }) v.learned.words) position
                 (set_here 0 id 0 n k.rows.value row at (omega arith) (from_is row ∙ ap bound_word is));
-            read_to = λ n is. subst (λ (m : ℕ). Among (record { index = row_at m 1; value = suc n }) v.learned.words) place
+            read_to = λ n is. subst (λ (m : ℕ). Among (record { index = row_at m 1; value = suc n }) v.learned.words) position
                 (set_here 0 id 1 n k.rows.value row at (omega arith) (to_is row ∙ ap bound_word is));
             counted = λ n is. (let e : h.from ≡ n = same_Some h.from n (sym h.begins ∙ is) in
                 let early = h.early in omega arith);
@@ -176,7 +176,7 @@ knows_begun v u rows name def id version h is_id is_version made unset room =
               read_to = λ m is. made.changes.words _ (o.read_to m is);
               counted = λ m is. (let most = o.counted m is in let up = made.changes.count in omega arith);
             })
-        | inr new ↦ (let place = new.0 in
+        | inr new ↦ (let position = new.0 in
             record {
               from = made.bounds n 0 (omega arith) ∙ unset n 0 (omega arith) (omega arith) (omega arith)
                   ∙ ap (λ (r : CatRow). bound_word r.from) new.1;
@@ -255,13 +255,13 @@ knows_bound v u z rows w from h looks bound =
       bounds = λ n b there. let was = with_from_at rows w.id from n b there in
           let o = h.bounds n was.0 was.1 in
           elim was.2 [
-            | inl same ↦ (let place = same.0 in
+            | inl same ↦ (let position = same.0 in
                 record {
                   from = here (row_at n 0) (omega arith) ∙ ap (λ (r : CatRow). bound_word r.from) same.1;
                   to = other (row_at n 1) (λ e. omega arith) ∙ o.to ∙ ap (λ (r : CatRow). bound_word r.to) same.1;
                   read_from = λ m is. (let e : from ≡ m = same_Some from m (ap (λ (r : CatRow). r.from) same.1 ∙ is) in
                       subst (λ (y : ℕ × ℕ). Among (record { index = row_at y.0 0; value = suc y.1 }) z.learned.words)
-                      (λ i. (sym place i, e i)) bound.read);
+                      (λ i. (sym position i, e i)) bound.read);
                   read_to = λ m is. reread _ (o.read_to m (ap (λ (r : CatRow). r.to) same.1 ∙ is));
                   counted = λ m is. (let e : from ≡ m = same_Some from m (ap (λ (r : CatRow). r.from) same.1 ∙ is) in
                       omega arith);
@@ -303,7 +303,7 @@ may_close v rows id to row h there active more = by row.from refl
       upto = (let most = (h.bounds id row there).counted n is in omega arith);
     }
 
--- a row's definition stands at its place
+-- a row's definition stands at its position
 listed_there : (xs : List CatRow) (k : ℕ) (x : CatRow) → slice_get xs k ≡ Some x
     → slice_get (map listed_of xs) k ≡ Some (listed_of x)
 listed_there [] k x at = absurd cc

@@ -47,12 +47,12 @@ pub record HasBegun (v : View) (r : Registrar) (name : List ℕ) (def : Def) (u 
 
 -- what a look at the lanes tells, and what it leaves: an index that begins now begins at the count of the tail, which is
 -- all that the pass has counted; else the rows stay, and so does the registration that waits
-abbrev pub PollTells : View → Registrar → View → Registrar → Poll → Type 0
-PollTells v r u s poll.Idle = (r.waiting ≡ None) × (s ≡ r) × (u ≡ v)
-PollTells v r u s (poll.NotYet seat version) = (w : Waiting) × (r.waiting ≡ Some w)
+abbrev pub PollSays : View → Registrar → View → Registrar → Poll → Type 0
+PollSays v r u s poll.Idle = (r.waiting ≡ None) × (s ≡ r) × (u ≡ v)
+PollSays v r u s (poll.NotYet seat version) = (w : Waiting) × (r.waiting ≡ Some w)
     × (s.waiting ≡ Some (at_lane w seat)) × (s.catalog ≡ r.catalog)
     × HasLoaded v.clock u.clock (Epoch seat) (suc version) × (version < w.version)
-PollTells v r u s (poll.Bound id from) = IsWaiting r id × (s.waiting ≡ None) × (s.catalog ≡ with_from r.catalog id from)
+PollSays v r u s (poll.Bound id from) = IsWaiting r id × (s.waiting ≡ None) × (s.catalog ≡ with_from r.catalog id from)
     × HasCounted v u from × (u.learned.count ≡ from)
 
 -- no lane was found at an older version

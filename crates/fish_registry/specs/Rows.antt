@@ -12,7 +12,7 @@ use Rattle.fish_rule.specs.World.{high}
 use Rattle.fish_rule.specs.declared.view.Epoch.TheVariants.{Out}
 use Rattle.fish_rule.specs.declared.view.View.{View}
 
--- the words of the next row from place 2 up to a place are these, the boundaries are as before, and else only what
+-- the words of the next row from 2 up to a position are these, the boundaries are as before, and else only what
 -- was stored and the clock changed
 pub record HasDrafted (v : View) (words : List ℕ) (upto : ℕ) (u : View) : Type 0 where
   pub only : u ≡ record v { main_words = u.main_words; clock = u.clock }

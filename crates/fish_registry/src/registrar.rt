@@ -10,7 +10,7 @@ ghost use Rattle.fish_lang.specs.Definition.{definition_of};
 ghost use Rattle.fish_registry.specs.Changing.{Changes, HasCounted, IsAtTail, Stays};
 ghost use Rattle.fish_registry.specs.Knowing.{IsWaiting, Knows, KnowsFirst};
 ghost use Rattle.fish_registry.specs.Refusing.{BeginsAtTail, HasBegun, IsClear, IsOfEnds, IsOfRows, IsOfVersions, IsSaid};
-ghost use Rattle.fish_registry.specs.Refusing.{MayChange, PollTells};
+ghost use Rattle.fish_registry.specs.Refusing.{MayChange, PollSays};
 ghost use Rattle.fish_rule.specs.Passes.{IsPassOf, view};
 ghost use Rattle.fish_rule.specs.LoadSteps.{IsAlone};
 ghost use Rattle.fish_rule.specs.declared.view.Epoch.TheVariants.{Out};
@@ -127,7 +127,7 @@ impl Registrar {
         ensures pass { IsPassOf log.now pass.new }
         ensures knows { Knows (view pass.new) self.new }
         ensures changes { Changes (view pass.old) (view pass.new) }
-        ensures tells { PollTells (view pass.old) self.old (view pass.new) self.new result }
+        ensures tells { PollSays (view pass.old) self.old (view pass.new) self.new result }
         ensures alone { IsAlone (view pass.old) → (view pass.old).epoch ≡ Out → IsClear result }
         ensures begins { IsAlone (view pass.old) → BeginsAtTail (view pass.old) result }
     {

@@ -39,8 +39,8 @@ fn define_row(log: &Log, pass: &mut Pass, id: u64, words: &[u64; ROW_WORDS])
     ensures pass { IsPassOf log.now pass.new }
     ensures drafted { HasDrafted (view pass.old) words.now 39 (view pass.new) }
 {
-    for place in 2..ROW_WORDS {
-        define_row_word(log, pass, id, place as u64, words[place]);
+    for position in 2..ROW_WORDS {
+        define_row_word(log, pass, id, position as u64, words[position]);
     }
 }
 

@@ -6,8 +6,8 @@ use Rattle.std.specs.Prelude.{Option, Result, Ok, Err, OnErr}
 use Rattle.std.specs.List.{flat_map}
 use Rattle.std.proofs.lemmas.Grind.{common_steps, flat_map-append}
 use Rattle.std.proofs.lemmas.List.{take-append-drop, take_all}
-use Rattle.fish_outside.specs.Told.{Gained, GainedPart}
-use Rattle.fish_outside.proofs.ToldLemmas.{Gained_refl, Gained_trans}
+use Rattle.fish_outside.specs.Content.{Gained, GainedPart}
+use Rattle.fish_outside.proofs.ContentLemmas.{Gained_refl, Gained_trans}
 use Rattle.fish_report.specs.within.Writing.{Passes, PassesPart}
 
 -- a text that only waits

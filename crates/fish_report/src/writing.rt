@@ -4,7 +4,7 @@
 //! piece is held, and at most the line of one row or of one item past it.
 
 ghost use Rattle.std.specs.Prelude.{◌≡◌, ◌<◌, [], OnOk, OnErr, string_bytes, string_len};
-ghost use Rattle.fish_outside.specs.Told.{Gained, GainedPart};
+ghost use Rattle.fish_outside.specs.Content.{Gained, GainedPart};
 ghost use Rattle.fish_report.specs.Parts.{row_text, rows_text};
 ghost use Rattle.fish_report.specs.ReportText.{item_text, report_text};
 ghost use Rattle.fish_report.specs.Writing.{HasWriteCause};

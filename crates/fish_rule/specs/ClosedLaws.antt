@@ -3,7 +3,7 @@ use Rattle.std.specs.Prelude.{ℕ, ◌≡◌, ◌+◌, ◌≤◌, ◌↔◌, Lis
 use Rattle.fish_catalog.specs.declared.entry.Entry.{Entry}
 use Rattle.fish_catalog.specs.declared.entry.Entry.TheVariants as entry
 use Rattle.fish_rule.specs.ClosedLog.{IsClosed}
-use Rattle.fish_rule.specs.Logs.{Learns, Tells}
+use Rattle.fish_rule.specs.Logs.{Learns, KnowsAs}
 use Rattle.fish_rule.specs.declared.close.Remains.{Remains}
 use Rattle.fish_rule.specs.Parts.{IsOlder}
 use Rattle.fish_rule.specs.Registry.{definitions_at}
@@ -18,9 +18,9 @@ abbrev pub IsOfLane : List Entry → ℕ → ℕ → Type 0
 IsOfLane entries l i = (form : Form) × (payload : List ℕ) × (slice_get entries i ≡ Some (entry.Stored l form payload))
 
 -- an entry that a pass was told of is the one at its number in each log that is closed for a pass that knows as much
-abbrev pub ToldIsClosed : Type 0
-ToldIsClosed = (v u : View) (i : ℕ) (e : Entry) (remains : Remains) → Learns v u → IsClosed u remains
-    → Tells v (u.about.number + i) e → slice_get remains.log i ≡ Some e
+abbrev pub KnownIsClosed : Type 0
+KnownIsClosed = (v u : View) (i : ℕ) (e : Entry) (remains : Remains) → Learns v u → IsClosed u remains
+    → KnowsAs v (u.about.number + i) e → slice_get remains.log i ≡ Some e
 
 -- the records of a lane that a closed log has are exactly those that the closing pass has as its lane's own
 abbrev pub OwnIsClosed : Type 0

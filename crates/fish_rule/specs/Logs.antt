@@ -70,8 +70,8 @@ pub record Learns (v u : View) : Type 0 where
   pub opens : (x : Opens) → Among x v.learned.opens → Among x u.learned.opens
 
 -- in every moment of a view that knows as much, this stands at number n
-abbrev pub Tells : View → ℕ → Entry → Type 0
-Tells v n e = (u : View) → Learns v u → (w : World) → Rule u.about w → (j : ℕ) → get_elem? w.views j ≡ some u
+abbrev pub KnowsAs : View → ℕ → Entry → Type 0
+KnowsAs v n e = (u : View) → Learns v u → (w : World) → Rule u.about w → (j : ℕ) → get_elem? w.views j ≡ some u
     → IsEntry w n e
 
 -- the words are those of a region that was found: each that is no first word of a key entry was read
@@ -94,28 +94,28 @@ pub record Extends (v u : View) : Type 0 where
 
 -- word i of the region at a line, which has n key entries, became known by one load, or it is the
 -- first of a key entry and nothing was loaded
-abbrev pub IsWordTold : View → View → ℕ → ℕ → ℕ → Option ℕ → Type 0
-IsWordTold v u n line i None = IsKeyWord n i × (u.clock.loads ≡ v.clock.loads)
-IsWordTold v u n line i (Some x) = Among (record { place = line * 4 + i; value = x }) u.learned.known
+abbrev pub IsWordKnown : View → View → ℕ → ℕ → ℕ → Option ℕ → Type 0
+IsWordKnown v u n line i None = IsKeyWord n i × (u.clock.loads ≡ v.clock.loads)
+IsWordKnown v u n line i (Some x) = Among (record { place = line * 4 + i; value = x }) u.learned.known
     × (u.clock.loads ≡ suc v.clock.loads)
 
 -- this became of a word that was asked for, and else the view is as it was
 pub record IsWordRead (v u : View) (keys line offset : ℕ) (word : Option ℕ) : Type 0 where
   pub extends : Extends v u
-  pub told : IsWordTold v u keys line offset word
+  pub told : IsWordKnown v u keys line offset word
 
 -- ---- one log
 
 -- the number at which the log ends, in every moment of a view that knows as much
-abbrev pub TellsMark : View → ℕ → Type 0
-TellsMark v n = (u : View) → Learns v u → (w : World) → Rule u.about w → (j : ℕ) → get_elem? w.views j ≡ some u
+abbrev pub KnowsMark : View → ℕ → Type 0
+KnowsMark v n = (u : View) → Learns v u → (w : World) → Rule u.about w → (j : ℕ) → get_elem? w.views j ≡ some u
     → high (w.dir n) ≡ code Mark
 
 -- what a number was found to be: an entry, or a mark
-abbrev pub TellsNext : View → ℕ → Option Entry → Type 0
-TellsNext v n None = TellsMark v n
-TellsNext v n (Some e) = Tells v n e
+abbrev pub KnowsNext : View → ℕ → Option Entry → Type 0
+KnowsNext v n None = KnowsMark v n
+KnowsNext v n (Some e) = KnowsAs v n e
 
 -- each of the entries stands at its number
-abbrev pub AreTold : View → ℕ → List Entry → Type 0
-AreTold v base entries = (i : ℕ) (e : Entry) → get_elem? entries i ≡ some e → Tells v (base + i) e
+abbrev pub AreKnown : View → ℕ → List Entry → Type 0
+AreKnown v base entries = (i : ℕ) (e : Entry) → get_elem? entries i ≡ some e → KnowsAs v (base + i) e

@@ -1,7 +1,7 @@
 //! The laws of the log: the theorem over every schedule, what a closed log has of what passes knew, and what
 //! passes know together. No call of the program needs them.
 
-ghost use Rattle.fish_rule.specs.ClosedLaws.{DefinitionsAreClosed, EndsWhereNextBegins, OwnIsClosed, ToldIsClosed};
+ghost use Rattle.fish_rule.specs.ClosedLaws.{DefinitionsAreClosed, EndsWhereNextBegins, OwnIsClosed, KnownIsClosed};
 ghost use Rattle.fish_rule.specs.Comparing.{OneLineIsOneClaim, OneNumberIsOneClaim, RegionsFollow};
 ghost use Rattle.fish_rule.specs.Intervals.{CoveredAreBetween, IntervalsAreCovered, IntervalsAreIndexed, IntervalsStay};
 ghost use Rattle.fish_rule.specs.Machine.{EverySchedule, EveryStepIsFinal};
@@ -22,7 +22,7 @@ pub fn law_every_schedule()
 ///
 /// Its contract is that law.
 pub fn law_closed_log()
-    ensures told { ToldIsClosed }
+    ensures known { KnownIsClosed }
     ensures own { OwnIsClosed }
     ensures definitions { DefinitionsAreClosed }
     ensures next { EndsWhereNextBegins }

@@ -8,9 +8,9 @@ use Rattle.fish_lanes.proofs.Lists.{some_once}
 use Rattle.fish_lanes.proofs.Plans.{plans_so}
 use Rattle.fish_lanes.proofs.Single.{singles_whole}
 use Rattle.fish_lanes.specs.Blocks.{AreEnded, AreLanes, HasRegistered, IsBlockSpan, IsMarkItem, NameMarks, control_items}
-use Rattle.fish_lanes.specs.Blocks.{TellsBlock}
+use Rattle.fish_lanes.specs.Blocks.{SaysBlock}
 use Rattle.fish_lanes.specs.Controlling.{IsCommitted}
-use Rattle.fish_lanes.specs.Outcome.{LanesSayPlans, TellsAlone, TellsShutBy}
+use Rattle.fish_lanes.specs.Outcome.{LanesSayPlans, SaysAlone, SaysShutBy}
 use Rattle.fish_lanes.specs.Ending.{HasEnd}
 use Rattle.fish_lanes.specs.Gains.{IsMarkAt}
 use Rattle.fish_lanes.specs.Plans.{KnowsRows, RowsAre}
@@ -30,7 +30,7 @@ use Rattle.fish_rule.specs.Views.{AllOf, Among}
 use Rattle.fish_rule.specs.ChainFacts.{Always}
 use Rattle.fish_rule.specs.declared.view.Key.{Key}
 use Rattle.fish_rule.specs.declared.view.View.{View}
-use Rattle.fish_run.specs.Blocks.{AreAcknowledged, AreMarked, FullsAgree, IsFullOf, Round, TellsPart, after_round, first_items}
+use Rattle.fish_run.specs.Blocks.{AreAcknowledged, AreMarked, FullsAgree, IsFullOf, Round, SaysPart, after_round, first_items}
 use Rattle.fish_run.specs.Blocks.{lanes_controls}
 use Rattle.fish_run.specs.Steps.{AreWhole, HasCutOne, HasRunOne, Leaves}
 use Rattle.fish_whole.proofs.Wholes.{may_hold, sure_rows}
@@ -156,10 +156,10 @@ pub leaves_of : (Past : Whole → Type 0) (count : ℕ) (v u : View) (r s : Regi
     (items lanes : List Lane) (end : BlockEnd) → AreLanes items → length lanes ≡ length items
     → HasEnd v from
     → ((past : Whole) → Past past → (k : Span) → IsBlockSpan v u end.to k → k.lanes ≡ length lanes
-    → (k.from ≤ k.to) × Will past u (λ w. TellsBlock w k lanes))
+    → (k.from ≤ k.to) × Will past u (λ w. SaysBlock w k lanes))
     → ((x : Lane) → slice_get lanes 0 ≡ Some x → HasRegistered v u r s x end) → AreEnded lanes → NameMarks u lanes
-    → TellsShutBy v u lanes → LanesSayPlans (KnowsRows u) (registry_of v r) s.catalog from lanes → r.waiting ≡ None
-    → TellsAlone Past v u r lanes → ((x : Lane) → slice_get lanes 0 ≡ Some x → AllOf (IsCommitted count) x.items)
+    → SaysShutBy v u lanes → LanesSayPlans (KnowsRows u) (registry_of v r) s.catalog from lanes → r.waiting ≡ None
+    → SaysAlone Past v u r lanes → ((x : Lane) → slice_get lanes 0 ≡ Some x → AllOf (IsCommitted count) x.items)
     → Leaves Past count v u r s from lanes end
 leaves_of Past count v u r s from items lanes end are many begins tells has ended marks shuts plans settled alone committed = record {
   some = (let some_ = are.some in omega arith);
@@ -188,7 +188,7 @@ module _ (Past : Whole → Type 0) (count : ℕ) (v u : View) (r s : Registrar) 
   spans : IsBlockSpan v u end.to left.span
   spans = record { begins = h.begins; ends = refl; first = omega arith; last = omega arith; full = refl }
 
-  part_of : (past w : Whole) → Past past → MayEnd past u w → TellsPart w from (registry_of v r) left
+  part_of : (past w : Whole) → Past past → MayEnd past u w → SaysPart w from (registry_of v r) left
   part_of past w p m =
       let t = h.tells past p left.span spans refl in
       record {

@@ -6,7 +6,7 @@ use Rattle.fish_catalog.specs.declared.commit.Commit.{Commit}
 use Rattle.fish_catalog.specs.declared.entry.Entry.{Entry}
 use Rattle.fish_catalog.specs.declared.row.CatRow.{CatRow}
 use Rattle.fish_lanes.specs.Ending.{HasEnd}
-use Rattle.fish_outside.specs.Told.{Files, Gained, GainedPart}
+use Rattle.fish_outside.specs.Content.{Files, Gained, GainedPart}
 use Rattle.fish_recover.specs.Stores.{IsOpened}
 use Rattle.fish_recover.specs.declared.opened.Opened.{Opened}
 use Rattle.fish_report.specs.ReportText.{report_text}

@@ -10,7 +10,7 @@ use Rattle.std.proofs.lemmas.List.Folds.{list_any-append}
 use Rattle.fish_feed.specs.Works.{Pairs}
 use Rattle.fish_lanes.specs.Ending.{HasEnd}
 use Rattle.fish_lanes.specs.Registering.{Registry}
-use Rattle.fish_outside.specs.Told.{Files, Gained, GainedPart, StillTold}
+use Rattle.fish_outside.specs.Content.{Files, Gained, GainedPart, SameFiles}
 use Rattle.fish_report.specs.ReportText.{report_text}
 use Rattle.fish_report.specs.declared.item.Item.{Item}
 use Rattle.fish_rule.specs.Logs.{Learns}
@@ -54,12 +54,12 @@ refused_more blocks b = list_any-append (λ (x : Block). said_refused (block_sai
     ∙ ap (λ z. are_refused blocks || z) (or_none (said_refused (block_said b.rounds)))
 
 -- rounds over files that are still told
-pub rounds_later : (old new : Option Files) → StillTold old new → (s : script.Block) (rounds : List Round)
+pub rounds_later : (old new : Option Files) → SameFiles old new → (s : script.Block) (rounds : List Round)
     → AreRounds old s.lanes rounds → AreRounds new s.lanes rounds
 rounds_later old new still s [] h = tt
 rounds_later old new still s (a ∷ rounds) h = (h.0, first_later old new still s.lanes (given_in (a ∷ rounds)) h.1)
 
-block_later : (old new : Option Files) → StillTold old new → (s : script.Block) (b : Block) → IsBlockOf old s b → IsBlockOf new s b
+block_later : (old new : Option Files) → SameFiles old new → (s : script.Block) (b : Block) → IsBlockOf old s b → IsBlockOf new s b
 block_later old new still s b h = record {
   several = h.several;
   follow = h.follow;
@@ -67,7 +67,7 @@ block_later old new still s b h = record {
   all = h.all;
 }
 
-blocks_later : (old new : Option Files) → StillTold old new → (text : List script.Block) (blocks : List Block)
+blocks_later : (old new : Option Files) → SameFiles old new → (text : List script.Block) (blocks : List Block)
     → Pairs (IsBlockOf old) text blocks → Pairs (IsBlockOf new) text blocks
 blocks_later old new still text blocks h =
     pairs_map (IsBlockOf old) (IsBlockOf new) (block_later old new still) text blocks h
@@ -108,7 +108,7 @@ module _
   writes_first p told a b refused none written accepted =
       record { blocks = []; are = tt; ran = none; renewed = tt; written = written; refused_is = accepted }
 
-  module _ (p m q : Point D) (mid : ℕ) (s : Registry) (old new : Option Files) (still : StillTold old new) (a b c : Option (List ℕ)) where
+  module _ (p m q : Point D) (mid : ℕ) (s : Registry) (old new : Option Files) (still : SameFiles old new) (a b c : Option (List ℕ)) where
     -- one more ran, and was written
     pub writes_more : (text : List script.Block) (x : script.Block) (to : ℕ) (t : Registry) (before now : Bool) (y : Block)
         → WritesBlocks content images since moment p m from r begin old text mid s a b before → IsBlockOf new x y

@@ -56,7 +56,7 @@ use Rattle.fish_store.specs.declared.store.Store.{Store}
 use Rattle.fish_walk.proofs.Looking.{ends_later}
 use Rattle.fish_walk.specs.Looks.{IsTailCount}
 use Rattle.fish_walk.specs.Settling.{EndsAt}
-use Rattle.fish_rule.specs.Logs.{TellsMark}
+use Rattle.fish_rule.specs.Logs.{KnowsMark}
 use Rattle.fish_whole.specs.Whole.{Later}
 
 -- ---- in front of the first block
@@ -280,7 +280,7 @@ not_less v a b s h k less =
     let here : high t.0 ≡ s.moment.count = rests.0 in
     let count : high t.0 ≡ h.count = t.2 in
     ⊎_elim (λ (e : a ≡ h.count). (let bad : ⊥ = omega arith in bad))
-    (λ (m : (a < h.count) × TellsMark v a).
+    (λ (m : (a < h.count) × KnowsMark v a).
     (r.settling.below a (let same : v.about.number ≤ a = above in omega arith) (omega arith)).unmarked
     (m.1 v (learns_self v) s.moment r s.seat s.at)) h.ends
 

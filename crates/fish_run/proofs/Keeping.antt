@@ -15,7 +15,7 @@ use Rattle.fish_rule.specs.ClosedLog.{IsClosed}
 use Rattle.fish_rule.specs.declared.close.Remains.{Remains}
 use Rattle.fish_rule.specs.declared.view.View.{View}
 use Rattle.fish_run.proofs.Turns.{none_full}
-use Rattle.fish_run.specs.Blocks.{Round, TellsFirst, TellsRun, first_registry}
+use Rattle.fish_run.specs.Blocks.{Round, SaysFirst, SaysRun, first_registry}
 use Rattle.fish_run.specs.Ran.{Keeps, StillKeeps, StoodFor, entries_of}
 use Rattle.fish_run.specs.Steps.{HasRunFirst}
 use Rattle.fish_store.proofs.Ending.{run_lost, run_shown}
@@ -122,10 +122,10 @@ module _
     }
       where
         Told : Whole → Type 0
-        Told w = TellsFirst w o.count (first_registry rows) rounds cut end
+        Told w = SaysFirst w o.count (first_registry rows) rounds cut end
 
         Here : Whole → Type 0
-        Here w = TellsRun w (length log) (map (clamped c.count) c.rows) rounds cut (length w.log)
+        Here w = SaysRun w (length log) (map (clamped c.count) c.rows) rounds cut (length w.log)
 
         first : o.count ≡ length log
         first = s.is.count ∙ sym (size Told h.runs c log t s)
@@ -133,10 +133,10 @@ module _
         so : (w : Whole) → length w.log ≡ entries_of remains → Told w → Here w
         so w long tells = record {
           tells =
-              subst (λ (z : ℕ). TellsFirst w (length log) (first_registry (map (clamped c.count) c.rows)) rounds cut z)
+              subst (λ (z : ℕ). SaysFirst w (length log) (first_registry (map (clamped c.count) c.rows)) rounds cut z)
               (sym (long ∙ entries_end q.view end remains h.ends closed))
-              (subst (λ (z : List CatRow). TellsFirst w (length log) (first_registry z) rounds cut end) (same ∙ s.is.catalog)
-              (subst (λ (z : ℕ). TellsFirst w z (first_registry rows) rounds cut end) first tells));
+              (subst (λ (z : List CatRow). SaysFirst w (length log) (first_registry z) rounds cut end) (same ∙ s.is.catalog)
+              (subst (λ (z : ℕ). SaysFirst w z (first_registry rows) rounds cut end) first tells));
           fulls = h.fulls [] (none_full p.view.shut unshut);
         }
 
@@ -150,5 +150,5 @@ module _
     still_keeps c log t s = record {
       count = q.flusher.count;
       acknowledged = h.committed;
-      lost = lost_of (λ w. TellsFirst w o.count (first_registry rows) rounds cut end) h.runs c log t s;
+      lost = lost_of (λ w. SaysFirst w o.count (first_registry rows) rounds cut end) h.runs c log t s;
     }

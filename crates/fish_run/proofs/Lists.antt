@@ -21,7 +21,7 @@ module _ {A B : Type 0} (R : A → B → Type 0) where
   pairs_length (w ∷ xs) [] h = elim h [ ]
   pairs_length (w ∷ xs) (z ∷ ys) h = ap suc (pairs_length xs ys h.1)
 
-  -- what stands at a place stands beside another
+  -- what stands at a position stands beside another
   pub pairs_at : (xs : List A) (ys : List B) (i : ℕ) (y : B) → Pairs R xs ys → slice_get ys i ≡ Some y
       → (x : A) × (slice_get xs i ≡ Some x) × R x y
   pairs_at [] [] i y h at = absurd cc
@@ -62,11 +62,11 @@ pairs_triples R S T f (x ∷ xs) (y ∷ ys) [] zs h k = elim k [ ]
 pairs_triples R S T f (x ∷ xs) (y ∷ ys) (g ∷ gs) [] h k = elim k [ ]
 pairs_triples R S T f (x ∷ xs) (y ∷ ys) (g ∷ gs) (z ∷ zs) h k = (f x y g z h.0 k.0, pairs_triples R S T f xs ys gs zs h.1 k.1)
 
--- an element that was read is at its place
+-- an element that was read is at its position
 pub get_at : {A : Type 0} (xs : List A) (i : ℕ) (x : A) → i < length xs → x ≡ get_or xs i x → slice_get xs i ≡ Some x
 get_at xs i x less is = slice_get_read xs (length xs) i x refl less is
 
--- what is so of those below a place, and of the one there, is so of those below the next one
+-- what is so of those below a position, and of the one there, is so of those below the next one
 pub below_push : {A : Type 0} (P : A → Type 0) (xs : List A) (n : ℕ) (x : A) → slice_get xs n ≡ Some x → P x
     → ((i : ℕ) (y : A) → i < n → slice_get xs i ≡ Some y → P y) → (i : ℕ) (y : A) → i < n + 1 → slice_get xs i ≡ Some y → P y
 below_push P xs n x at one h i y less is = pick (dec_lt i n)
@@ -78,7 +78,7 @@ below_push P xs n x at one h i y less is = pick (dec_lt i n)
         let same : Some x ≡ Some y = sym at ∙ ap (slice_get xs) (sym here) ∙ is in
         subst P (let e : x ≡ y = cc in e) one
 
--- what is so of each place is so with one more behind
+-- what is so of each position is so with one more behind
 pub at_push : {A : Type 0} (P : ℕ → A → Type 0) (xs : List A) (x : A) → ((i : ℕ) (y : A) → slice_get xs i ≡ Some y → P i y)
     → P (length xs) x → (i : ℕ) (y : A) → slice_get (xs ++ x ∷ []) i ≡ Some y → P i y
 at_push P [] x h one zero y at = subst (P 0) (let e : x ≡ y = cc in e) one

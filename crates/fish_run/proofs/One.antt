@@ -6,8 +6,8 @@ use Rattle.fish_feed.specs.Works.{AreDone, AreFirstOf, Pairs}
 use Rattle.fish_lanes.specs.Ending.{HasEnd}
 use Rattle.fish_lanes.specs.Registering.{Registry, registry_of}
 use Rattle.fish_lanes.specs.declared.work.Work.{Work}
-use Rattle.fish_outside.proofs.ToldLemmas.{Gained_refl}
-use Rattle.fish_outside.specs.Told.{Files, Gained, GainedPart}
+use Rattle.fish_outside.proofs.ContentLemmas.{Gained_refl}
+use Rattle.fish_outside.specs.Content.{Files, Gained, GainedPart}
 use Rattle.fish_report.specs.ReportText.{report_text}
 use Rattle.fish_report.specs.declared.item.Item.{Item}
 use Rattle.fish_rule.proofs.laws.Learning.{learns_self}

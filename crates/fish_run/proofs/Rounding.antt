@@ -13,7 +13,7 @@ use Rattle.fish_lanes.specs.declared.block.BlockEnd.{BlockEnd}
 use Rattle.fish_lanes.specs.declared.block.Boundary.{Boundary}
 use Rattle.fish_lanes.specs.declared.lane.Lane.{Lane}
 use Rattle.fish_lanes.specs.declared.work.Work.{Work}
-use Rattle.fish_outside.specs.Told.{Files}
+use Rattle.fish_outside.specs.Content.{Files}
 use Rattle.fish_rule.proofs.laws.Learning.{learns_self}
 use Rattle.fish_rule.specs.Passes.{view}
 use Rattle.fish_rule.specs.declared.table.Log.{Log}

@@ -10,7 +10,7 @@ use Rattle.fish_rule.specs.Views.{Among}
 use Rattle.fish_rule.specs.declared.view.Key.{Key}
 use Rattle.fish_rule.specs.declared.view.View.{View}
 use Rattle.fish_run.specs.Blocks.{AreInOne, Round}
-use Rattle.fish_run.specs.within.Turning.{FindNoneFull, tells_full}
+use Rattle.fish_run.specs.within.Turning.{FindNoneFull, says_full}
 use Rattle.fish_run.specs.Steps.{IsTableAfter}
 use Rattle.fish_run.specs.Tables.{AreRenewed, IsNearLimits, is_next_new}
 
@@ -102,14 +102,14 @@ renewed_join (x ∷ []) more fresh h k =
 renewed_join (x ∷ y ∷ rounds) more fresh h k = (h.0, renewed_join (y ∷ rounds) more fresh h.1 k)
 
 -- an item of those of which none tells it doesn't
-none_tells : (items : List Item) (x : Item) → list_any tells_full items ≡ false → Among x items → tells_full x ≡ true → ⊥
+none_tells : (items : List Item) (x : Item) → list_any says_full items ≡ false → Among x items → says_full x ≡ true → ⊥
 none_tells [] x none among is = elim among [ ]
-none_tells (y ∷ items) x none among is = by (λ rest m. none_tells items x rest m is) (tells_full y) refl none among
+none_tells (y ∷ items) x none among is = by (λ rest m. none_tells items x rest m is) (says_full y) refl none among
   where
-    by : (list_any tells_full items ≡ false → Among x items → ⊥) → (b : Bool) → tells_full y ≡ b
-        → (b || list_any tells_full items) ≡ false → Among x (y ∷ items) → ⊥
+    by : (list_any says_full items ≡ false → Among x items → ⊥) → (b : Bool) → says_full y ≡ b
+        → (b || list_any says_full items) ≡ false → Among x (y ∷ items) → ⊥
     by others true here bad m = absurd cc
-    by others false here rest (inl same) = absurd (let bad : true ≡ false = sym is ∙ ap tells_full (sym same) ∙ here in cc)
+    by others false here rest (inl same) = absurd (let bad : true ≡ false = sym is ∙ ap says_full (sym same) ∙ here in cc)
     by others false here rest (inr m) = others rest m
 
 -- where no item of these lanes tells that the table is full, none of them was refused by a claim

@@ -12,8 +12,8 @@ use Rattle.fish_rule.specs.declared.view.Shut.{Shut}
 use Rattle.fish_rule.specs.declared.view.View.{View}
 use Rattle.fish_run.proofs.Blocks.{committed_later, committed_more, marked_later, marks_more}
 use Rattle.fish_run.proofs.Tables.{table_both, table_cut, table_more, table_on, table_rolled, table_self}
-use Rattle.fish_run.specs.Blocks.{AreAcknowledged, AreFullSince, AreMarked, HasFoundFull, IsFullOf, Round, TellsCut, TellsFirst, TellsOne}
-use Rattle.fish_run.specs.Blocks.{TellsRest, TellsRounds, after_round, after_rounds, begun, begun_for, first_items, in_table, last_table}
+use Rattle.fish_run.specs.Blocks.{AreAcknowledged, AreFullSince, AreMarked, HasFoundFull, IsFullOf, Round, SaysCut, SaysFirst, SaysOne}
+use Rattle.fish_run.specs.Blocks.{SaysRest, SaysRounds, after_round, after_rounds, begun, begun_for, first_items, in_table, last_table}
 use Rattle.fish_run.specs.Blocks.{left_table, with_cut}
 use Rattle.fish_run.specs.Steps.{HasCutOne, HasRounds, HasRunFirst, HasRunOne, IsTableAfter}
 use Rattle.fish_store.proofs.Running.{runs_both}
@@ -24,19 +24,19 @@ use Rattle.fish_whole.specs.Whole.{Later, Whole, Will}
 -- ---- what rounds tell
 
 -- one more, which begins where they end
-tells_push : (w : Whole) (from mid : ℕ) (r : Registry) (rounds : List Round) (b : Round) → b.span.from ≡ mid
-    → TellsRounds w from r rounds mid → TellsOne w mid (begun_for b (after_rounds r rounds)) b
-    → TellsRounds w from r (rounds ++ b ∷ []) b.span.to
-tells_push w from mid r [] b at h one = (subst (λ (z : ℕ). TellsOne w z (begun_for b r) b) (sym h) one, refl)
-tells_push w from mid r (x ∷ rounds) b at h one =
-    (h.0, tells_push w x.span.to mid (after_round (begun_for x r) x) rounds b at h.1 one)
+says_push : (w : Whole) (from mid : ℕ) (r : Registry) (rounds : List Round) (b : Round) → b.span.from ≡ mid
+    → SaysRounds w from r rounds mid → SaysOne w mid (begun_for b (after_rounds r rounds)) b
+    → SaysRounds w from r (rounds ++ b ∷ []) b.span.to
+says_push w from mid r [] b at h one = (subst (λ (z : ℕ). SaysOne w z (begun_for b r) b) (sym h) one, refl)
+says_push w from mid r (x ∷ rounds) b at h one =
+    (h.0, says_push w x.span.to mid (after_round (begun_for x r) x) rounds b at h.1 one)
 
 -- and others
-tells_join : (w : Whole) (from mid to : ℕ) (r : Registry) (rounds more : List Round) → TellsRounds w from r rounds mid
-    → TellsRounds w mid (after_rounds r rounds) more to → TellsRounds w from r (rounds ++ more) to
-tells_join w from mid to r [] more h next = subst (λ (z : ℕ). TellsRounds w z r more to) (sym h) next
-tells_join w from mid to r (x ∷ rounds) more h next =
-    (h.0, tells_join w x.span.to mid to (after_round (begun_for x r) x) rounds more h.1 next)
+says_join : (w : Whole) (from mid to : ℕ) (r : Registry) (rounds more : List Round) → SaysRounds w from r rounds mid
+    → SaysRounds w mid (after_rounds r rounds) more to → SaysRounds w from r (rounds ++ more) to
+says_join w from mid to r [] more h next = subst (λ (z : ℕ). SaysRounds w z r more to) (sym h) next
+says_join w from mid to r (x ∷ rounds) more h next =
+    (h.0, says_join w x.span.to mid to (after_round (begun_for x r) x) rounds more h.1 next)
 
 -- the registry after one more, and after others
 after_push : (r : Registry) (rounds : List Round) (b : Round)
@@ -161,7 +161,7 @@ module _
   pub rounds_none : (p : Point D) (from : ℕ) (r : Registry) → GoesOnHere content images since moment p p → Later p.view p.view
       → HasRounds content images since moment p p from r [] false from r
   rounds_none p from r h later = record {
-    runs = runs_self p (λ w. TellsRounds w from r [] from) h later (λ w. refl);
+    runs = runs_self p (λ w. SaysRounds w from r [] from) h later (λ w. refl);
     after = refl;
     committed = λ b among. elim among [ ];
     fulls = λ before full. tt;
@@ -186,12 +186,12 @@ module _
     pub rounds_more : HasRunOne (IsSoundBehind content images m (content q.disk)) q.flusher.count fresh m.view.shut q.view s t mid to b
         → HasRounds content images since moment p q from r (rounds ++ b ∷ []) false to t
     rounds_more one = record {
-      runs = runs_both content images since moment p m q (λ w. TellsRounds w from r rounds mid) (λ w. TellsOne w mid s b)
-          (λ w. TellsRounds w from r (rounds ++ b ∷ []) to)
-          (λ w before now. subst (TellsRounds w from r (rounds ++ b ∷ [])) one.ends
-          (tells_push w from mid r rounds b one.begins before
-          (subst (λ (z : Registry). TellsOne w mid z b) (began one.fresh_is one.begins) now)))
-          h.runs (runs_step m q (λ w. TellsOne w mid s b) goes later one.tells);
+      runs = runs_both content images since moment p m q (λ w. SaysRounds w from r rounds mid) (λ w. SaysOne w mid s b)
+          (λ w. SaysRounds w from r (rounds ++ b ∷ []) to)
+          (λ w before now. subst (SaysRounds w from r (rounds ++ b ∷ [])) one.ends
+          (says_push w from mid r rounds b one.begins before
+          (subst (λ (z : Registry). SaysOne w mid z b) (began one.fresh_is one.begins) now)))
+          h.runs (runs_step m q (λ w. SaysOne w mid s b) goes later one.tells);
       after = one.after ∙ ap (λ (z : Registry). after_round z b) (began one.fresh_is one.begins) ∙ sym (after_push r rounds b);
       committed = committed_more q.flusher.count rounds b acknowledged one.committed;
       fulls = λ before full. since_push before rounds b (h.fulls before full) (found before full);
@@ -221,14 +221,14 @@ module _
     pub rounds_cut : HasCutOne (IsSoundBehind content images m (content q.disk)) q.flusher.count fresh m.view.shut q.view s mid to b
         → HasEnd q.view to → HasRunFirst content images since moment p q from r rounds fresh (Some b) to
     rounds_cut one ends = record {
-      runs = runs_both content images since moment p m q (λ w. TellsRounds w from r rounds mid) (λ w. TellsCut w mid s b)
-          (λ w. TellsFirst w from r rounds (Some b) to)
+      runs = runs_both content images since moment p m q (λ w. SaysRounds w from r rounds mid) (λ w. SaysCut w mid s b)
+          (λ w. SaysFirst w from r rounds (Some b) to)
           (λ w before now. record {
             to = mid;
             whole = before;
-            rest = (subst (λ (z : Registry). TellsCut w mid z b) (began one.fresh_is one.begins) now, one.ends);
+            rest = (subst (λ (z : Registry). SaysCut w mid z b) (began one.fresh_is one.begins) now, one.ends);
           })
-          h.runs (runs_step m q (λ w. TellsCut w mid s b) goes later one.tells);
+          h.runs (runs_step m q (λ w. SaysCut w mid s b) goes later one.tells);
       committed = committed_more q.flusher.count rounds b acknowledged one.committed;
       fulls = λ before full. since_push before rounds b (h.fulls before full)
           (subst (HasFoundFull (in_table b.fresh (last_table before rounds))) (sym one.full_is)
@@ -250,8 +250,8 @@ module _
         → q.shape ≡ m.shape → m.view.about.number < q.view.about.number
         → HasRounds content images since moment p q from r rounds true mid t
     rounds_rolled t h runs is unshut shape higher = record {
-      runs = runs_both content images since moment p m q (λ w. TellsRounds w from r rounds mid) (λ w. Unit {0})
-          (λ w. TellsRounds w from r rounds mid) (λ w before now. before) h.runs runs;
+      runs = runs_both content images since moment p m q (λ w. SaysRounds w from r rounds mid) (λ w. Unit {0})
+          (λ w. SaysRounds w from r rounds mid) (λ w before now. before) h.runs runs;
       after = is ∙ ap (begun true mid) h.after;
       committed = acknowledged_later m.flusher.count q.flusher.count rounds runs.rises h.committed;
       fulls = h.fulls;
@@ -266,8 +266,8 @@ module _
         → Runs content images since moment m q (λ w. Unit {0}) → Learns m.view q.view → HasEnd q.view mid → q.shape ≡ m.shape
         → HasRunFirst content images since moment p q from r rounds fresh None mid
     rounds_end fresh h runs learns ends shape = record {
-      runs = runs_both content images since moment p m q (λ w. TellsRounds w from r rounds mid) (λ w. Unit {0})
-          (λ w. TellsFirst w from r rounds None mid) (λ w before now. record { to = mid; whole = before; rest = refl }) h.runs runs;
+      runs = runs_both content images since moment p m q (λ w. SaysRounds w from r rounds mid) (λ w. Unit {0})
+          (λ w. SaysFirst w from r rounds None mid) (λ w before now. record { to = mid; whole = before; rest = refl }) h.runs runs;
       committed = acknowledged_later m.flusher.count q.flusher.count rounds runs.rises h.committed;
       fulls = h.fulls;
       marks = λ before marked. marked_later m.view q.view (in_table fresh (last_table before rounds)) learns (h.marks before marked);
@@ -282,8 +282,8 @@ module _
       → Learns m.view q.view → HasEnd q.view to → q.shape ≡ m.shape
       → HasRunFirst content images since moment p q from r rounds fresh cut to
   first_on p m q from to r rounds fresh cut h runs learns ends shape = record {
-    runs = runs_both content images since moment p m q (λ w. TellsFirst w from r rounds cut to) (λ w. Unit {0})
-        (λ w. TellsFirst w from r rounds cut to) (λ w before now. before) h.runs runs;
+    runs = runs_both content images since moment p m q (λ w. SaysFirst w from r rounds cut to) (λ w. Unit {0})
+        (λ w. SaysFirst w from r rounds cut to) (λ w before now. before) h.runs runs;
     committed = acknowledged_later m.flusher.count q.flusher.count (with_cut rounds cut) runs.rises h.committed;
     fulls = h.fulls;
     marks = λ before marked. marked_later m.view q.view (left_table fresh before rounds cut) learns (h.marks before marked);
@@ -298,10 +298,10 @@ module _
     pub rounds_both : (fresh : Bool) → HasRounds content images since moment m q mid s more fresh to t
         → HasRounds content images since moment p q from r (rounds ++ more) fresh to t
     rounds_both fresh k = record {
-      runs = runs_both content images since moment p m q (λ w. TellsRounds w from r rounds mid) (λ w. TellsRounds w mid s more to)
-          (λ w. TellsRounds w from r (rounds ++ more) to)
-          (λ w before now. tells_join w from mid to r rounds more before
-          (subst (λ (z : Registry). TellsRounds w mid z more to) h.after now)) h.runs k.runs;
+      runs = runs_both content images since moment p m q (λ w. SaysRounds w from r rounds mid) (λ w. SaysRounds w mid s more to)
+          (λ w. SaysRounds w from r (rounds ++ more) to)
+          (λ w before now. says_join w from mid to r rounds more before
+          (subst (λ (z : Registry). SaysRounds w mid z more to) h.after now)) h.runs k.runs;
       after = k.after ∙ ap (begun fresh to) (ap (λ (z : Registry). after_rounds z more) h.after ∙ sym (after_join r rounds more));
       committed = acknowledged_join q.flusher.count rounds more
           (acknowledged_later m.flusher.count q.flusher.count rounds k.runs.rises h.committed) k.committed;
@@ -318,13 +318,13 @@ module _
     pub rounds_first : (fresh : Bool) (cut : Option Round) → HasRunFirst content images since moment m q mid s more fresh cut to
         → HasRunFirst content images since moment p q from r (rounds ++ more) fresh cut to
     rounds_first fresh cut k = record {
-      runs = runs_both content images since moment p m q (λ w. TellsRounds w from r rounds mid) (λ w. TellsFirst w mid s more cut to)
-          (λ w. TellsFirst w from r (rounds ++ more) cut to)
+      runs = runs_both content images since moment p m q (λ w. SaysRounds w from r rounds mid) (λ w. SaysFirst w mid s more cut to)
+          (λ w. SaysFirst w from r (rounds ++ more) cut to)
           (λ w before now. record {
             to = now.to;
-            whole = tells_join w from mid now.to r rounds more before
-                (subst (λ (z : Registry). TellsRounds w mid z more now.to) h.after now.whole);
-            rest = subst (λ (z : Registry). TellsRest w now.to z cut to)
+            whole = says_join w from mid now.to r rounds more before
+                (subst (λ (z : Registry). SaysRounds w mid z more now.to) h.after now.whole);
+            rest = subst (λ (z : Registry). SaysRest w now.to z cut to)
                 (ap (λ (z : Registry). after_rounds z more) h.after ∙ sym (after_join r rounds more)) now.rest;
           }) h.runs k.runs;
       committed = subst (AreAcknowledged q.flusher.count) (sym (cut_join rounds more cut))

@@ -10,29 +10,29 @@ use Rattle.fish_lanes.specs.Registering.{IsAcceptable}
 use Rattle.fish_lanes.specs.Running.{IsShared}
 use Rattle.fish_lanes.specs.declared.lane.Lane.{Lane}
 use Rattle.fish_lanes.specs.declared.work.Work.{Work}
-use Rattle.fish_outside.specs.Told.{Files, StillTold}
+use Rattle.fish_outside.specs.Content.{Files, SameFiles}
 use Rattle.fish_run.proofs.Lists.{pairs_at, pairs_length, pairs_map}
 use Rattle.fish_run.specs.within.Parts.{AreNewLanes, AreUngiven}
 use Rattle.fish_script.specs.declared.script.Statement.{Statement}
 
 -- ---- files
 
-pub still_both : (a b c : Option Files) → StillTold a b → StillTold b c → StillTold a c
+pub still_both : (a b c : Option Files) → SameFiles a b → SameFiles b c → SameFiles a c
 still_both a b None p q = tt
 still_both a None (Some files) p q = absurd (let bad : None ≡ Some files = q in cc)
 still_both a (Some before) (Some files) p q = p ∙ q
 
-pub still_self : (a : Option Files) → StillTold a a
+pub still_self : (a : Option Files) → SameFiles a a
 still_self None = tt
 still_self (Some files) = refl
 
 -- what did statements over files that were told did so over those that still are
-pub done_later : (old new : Option Files) → StillTold old new → (texts : List (List Statement)) (given : List (List Work))
+pub done_later : (old new : Option Files) → SameFiles old new → (texts : List (List Statement)) (given : List (List Work))
     → Pairs (AreDone old) texts given → Pairs (AreDone new) texts given
 done_later old new still texts given h =
     pairs_map (AreDone old) (AreDone new) (λ ss ws k. dones_later old new still ss ws k) texts given h
 
-pub first_later : (old new : Option Files) → StillTold old new → (texts : List (List Statement)) (given : List (List Work))
+pub first_later : (old new : Option Files) → SameFiles old new → (texts : List (List Statement)) (given : List (List Work))
     → Pairs (AreFirstOf old) texts given → Pairs (AreFirstOf new) texts given
 first_later old new still texts given h =
     pairs_map (AreFirstOf old) (AreFirstOf new) (λ ss ws k. (k.0, dones_later old new still ss (ws ++ k.0) k.1)) texts given h

@@ -5,8 +5,8 @@ use Rattle.std.specs.Prelude.{OnErr}
 use Rattle.std.specs.List.{flat_map}
 use Rattle.std.proofs.lemmas.Grind.{flat_map-append}
 use Rattle.std.proofs.lemmas.List.{take-append-drop, take_all, take_more}
-use Rattle.fish_outside.proofs.ToldLemmas.{Gained_trans}
-use Rattle.fish_outside.specs.Told.{Gained, GainedPart}
+use Rattle.fish_outside.proofs.ContentLemmas.{Gained_trans}
+use Rattle.fish_outside.specs.Content.{Gained, GainedPart}
 use Rattle.fish_report.specs.ReportText.{item_text, report_text}
 use Rattle.fish_report.specs.declared.item.Item.{Item}
 

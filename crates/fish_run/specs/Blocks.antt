@@ -2,12 +2,12 @@
 use Rattle.std.specs.Prelude.{ℕ, ◌≡◌, ◌<◌, ◌≤◌, ◌+◌, List, [], ◌∷◌, ◌++◌, length, map, slice_get, Bool, true, false, Option, Some, None, ⊤}
 use Rattle.fish_catalog.specs.Clamps.{clamped}
 use Rattle.fish_catalog.specs.declared.row.CatRow.{CatRow}
-use Rattle.fish_lanes.specs.Blocks.{AreEnded, At, NameMarks, TellsBlock, control_items}
+use Rattle.fish_lanes.specs.Blocks.{AreEnded, At, NameMarks, SaysBlock, control_items}
 use Rattle.fish_lanes.specs.Controlling.{IsCommitted}
 use Rattle.fish_lanes.specs.Outcome.{IsFullIn, LanesSayPlans}
 use Rattle.fish_lanes.specs.Plans.{RowsAre}
 use Rattle.fish_lanes.specs.Registering.{AreSo, HasEach, Registry, after_all}
-use Rattle.fish_lanes.specs.Single.{NamesNone, TellsWhole}
+use Rattle.fish_lanes.specs.Single.{NamesNone, SaysWhole}
 use Rattle.fish_lanes.specs.Sizes.{NamesOneClaim}
 use Rattle.fish_lanes.specs.Spans.{Span, answers}
 use Rattle.fish_lanes.specs.declared.block.BlockEnd.{BlockEnd}
@@ -111,30 +111,30 @@ AreFullSince before (b ∷ rounds) = HasFoundFull (in_table b.fresh before) b.sp
 -- what a round of one lane tells besides, where the log has so many numbers before it, the rows are these, and this claim had found the
 -- log full, if any: its items name no open number, and no lane for which a registration waits; and where one statement is all of the
 -- round, its range is all that was asked for of that log, and planned by the rows; or its boundary is the log's end
-pub record TellsOneLane (rows : List CatRow) (full : Option Shut) (from : ℕ) (x : Lane) : Type 0 where
+pub record SaysOneLane (rows : List CatRow) (full : Option Shut) (from : ℕ) (x : Lane) : Type 0 where
   pub none : AllOf NamesNone x.items
-  pub whole : (w : Work) → x.works ≡ w ∷ [] → AllOf (TellsWhole rows full from w) (answers x.items)
+  pub whole : (w : Work) → x.works ≡ w ∷ [] → AllOf (SaysWhole rows full from w) (answers x.items)
 
 -- what a round tells that begins where the log has so many numbers and the registry is this, even one in which a lane stopped at a fault:
 -- its lanes' items are so of the log, and those of its first lane of the definitions; where a statement has no item, neither have those
 -- behind it; and of the items of a lane that a full log refused all name one claim, that of before the round if there was one
-pub record TellsPart (w : Whole) (from : ℕ) (r : Registry) (b : Round) : Type 0 where
+pub record SaysPart (w : Whole) (from : ℕ) (r : Registry) (b : Round) : Type 0 where
   pub begins : b.span.from ≡ from
   pub ends : b.end.to ≡ b.span.to
   pub rises : b.span.from ≤ b.span.to
   pub first : b.span.first ≡ r.version
   pub many : b.span.lanes ≡ length b.lanes
-  pub lanes : TellsBlock w b.span b.lanes
+  pub lanes : SaysBlock w b.span b.lanes
   pub registers : AreSo b.span.from (b.span.to + 16) r (first_items b.lanes)
   pub definitions : HasEach w r (first_items b.lanes)
   pub ended : AreEnded b.lanes
   pub fulls : At (λ i x. NamesOneClaim b.span.full x.items) b.lanes
-  pub alone : (x : Lane) → b.lanes ≡ x ∷ [] → TellsOneLane r.rows b.span.full from x
+  pub alone : (x : Lane) → b.lanes ≡ x ∷ [] → SaysOneLane r.rows b.span.full from x
 
 -- what one tells in which a lane did: by the definitions behind it, which are those that its first lane's items tell unless it was that
 -- lane, pieces by an index lie where the index is complete, and no number is read one by one that was known to be so
-pub record TellsCut (w : Whole) (from : ℕ) (r : Registry) (b : Round) : Type 0 where
-  pub part : TellsPart w from r b
+pub record SaysCut (w : Whole) (from : ℕ) (r : Registry) (b : Round) : Type 0 where
+  pub part : SaysPart w from r b
   pub behind : Registry
   pub last : b.span.last ≡ behind.version
   pub plans : LanesSayPlans (RowsAre w) r behind.rows from b.lanes
@@ -142,8 +142,8 @@ pub record TellsCut (w : Whole) (from : ℕ) (r : Registry) (b : Round) : Type 0
 
 -- what one tells in which none did: every statement has its item; the definitions at each version are those that its first lane's items
 -- tell, with the boundary that was found behind them; and the same of plans, by these definitions
-pub record TellsOne (w : Whole) (from : ℕ) (r : Registry) (b : Round) : Type 0 where
-  pub part : TellsPart w from r b
+pub record SaysOne (w : Whole) (from : ℕ) (r : Registry) (b : Round) : Type 0 where
+  pub part : SaysPart w from r b
   pub whole : At (λ i x. x.fault ≡ cause.None) b.lanes
   pub registers : AreSo b.span.from (b.span.to + 16) r (round_controls b)
   pub definitions : HasEach w r (round_controls b)
@@ -151,21 +151,21 @@ pub record TellsOne (w : Whole) (from : ℕ) (r : Registry) (b : Round) : Type 0
   pub plans : LanesSayPlans (RowsAre w) r (after_round r b).rows from b.lanes
 
 -- what rounds tell: each begins where the one before it ended, with the definitions that it left; the last one ends here
-abbrev pub TellsRounds : Whole → ℕ → Registry → List Round → ℕ → Type 0
-TellsRounds w from r [] end = from ≡ end
-TellsRounds w from r (b ∷ rounds) end =
-    TellsOne w from (begun_for b r) b × TellsRounds w b.span.to (after_round (begun_for b r) b) rounds end
+abbrev pub SaysRounds : Whole → ℕ → Registry → List Round → ℕ → Type 0
+SaysRounds w from r [] end = from ≡ end
+SaysRounds w from r (b ∷ rounds) end =
+    SaysOne w from (begun_for b r) b × SaysRounds w b.span.to (after_round (begun_for b r) b) rounds end
 
 -- what a round tells that a lane's fault cut, and with which the log ends
-abbrev pub TellsRest : Whole → ℕ → Registry → Option Round → ℕ → Type 0
-TellsRest w from r None end = from ≡ end
-TellsRest w from r (Some b) end = TellsCut w from (begun_for b r) b × (b.span.to ≡ end)
+abbrev pub SaysRest : Whole → ℕ → Registry → Option Round → ℕ → Type 0
+SaysRest w from r None end = from ≡ end
+SaysRest w from r (Some b) end = SaysCut w from (begun_for b r) b × (b.span.to ≡ end)
 
 -- what rounds tell, and after them the one that was cut
-pub record TellsFirst (w : Whole) (from : ℕ) (r : Registry) (rounds : List Round) (cut : Option Round) (end : ℕ) : Type 0 where
+pub record SaysFirst (w : Whole) (from : ℕ) (r : Registry) (rounds : List Round) (cut : Option Round) (end : ℕ) : Type 0 where
   pub to : ℕ
-  pub whole : TellsRounds w from r rounds to
-  pub rest : TellsRest w to (after_rounds r rounds) cut end
+  pub whole : SaysRounds w from r rounds to
+  pub rest : SaysRest w to (after_rounds r rounds) cut end
 
 -- the rounds, and the one after them that was cut
 abbrev pub with_cut : List Round → Option Round → List Round
@@ -173,8 +173,8 @@ with_cut rounds None = rounds
 with_cut rounds (Some b) = rounds ++ b ∷ []
 
 -- what all rounds of a run tell, from the number on at which the first table begins, with these rows, and where no claim had found it full
-pub record TellsRun (w : Whole) (first : ℕ) (rows : List CatRow) (rounds : List Round) (cut : Option Round) (end : ℕ) : Type 0 where
-  pub tells : TellsFirst w first (first_registry rows) rounds cut end
+pub record SaysRun (w : Whole) (first : ℕ) (rows : List CatRow) (rounds : List Round) (cut : Option Round) (end : ℕ) : Type 0 where
+  pub tells : SaysFirst w first (first_registry rows) rounds cut end
   pub fulls : AreFullSince [] (with_cut rounds cut)
 
 -- ---- refusals of a full log

@@ -5,13 +5,13 @@ use Rattle.fish_catalog.specs.declared.commit.Commit.{Commit}
 use Rattle.fish_catalog.specs.declared.entry.Entry.{Entry}
 use Rattle.fish_feed.specs.Works.{AreDone, Pairs}
 use Rattle.fish_image.specs.Stands.{Stands}
-use Rattle.fish_outside.specs.Told.{Files, Gained, GainedPart}
+use Rattle.fish_outside.specs.Content.{Files, Gained, GainedPart}
 use Rattle.fish_recover.specs.Stores.{IsOpened}
 use Rattle.fish_recover.specs.declared.opened.Opened.{Opened}
 use Rattle.fish_report.specs.ReportText.{report_text}
 use Rattle.fish_report.specs.declared.item.Item.{Item}
 use Rattle.fish_rule.specs.declared.close.Remains.{Remains}
-use Rattle.fish_run.specs.Blocks.{AreAcknowledged, Block, IsFirstFault, Round, TellsRun}
+use Rattle.fish_run.specs.Blocks.{AreAcknowledged, Block, IsFirstFault, Round, SaysRun}
 use Rattle.fish_run.specs.Blocks.{rounds_of, with_cut}
 use Rattle.fish_run.specs.Rounds.{AreAll, AreRounds, FollowOn, given_in}
 use Rattle.fish_run.specs.Reports.{are_refused, first_item, report_of, whole_report}
@@ -62,7 +62,7 @@ pub record Keeps (now since : List ℕ → Type 0) (c : Commit) (log : List Entr
   pub count : ℕ
   pub acknowledged : AreAcknowledged count (with_cut rounds cut)
   pub shown : IsShown now since log count
-      (λ w. TellsRun w (length log) (map (clamped c.count) c.rows) rounds cut (length w.log)) remains
+      (λ w. SaysRun w (length log) (map (clamped c.count) c.rows) rounds cut (length w.log)) remains
   pub all : ended ≡ true → count ≡ length shown.whole.log
 
 -- the same of crashes where the log couldn't be shown

@@ -2,9 +2,9 @@
 use Rattle.std.specs.Prelude.{ℕ, ◌≡◌, ◌≢◌, ◌⊎◌, ◌<◌, ◌≤◌, List, [], ◌∷◌, ◌++◌, Bool, false, true, Option, Some, None}
 use Rattle.std.specs.Prelude.{Result, Ok, Err, IfSome, length, slice_get}
 use Rattle.fish_feed.specs.Works.{Pairs}
-use Rattle.fish_lanes.specs.Blocks.{AreEnded, HasRegistered, IsBlockSpan, NameMarks, TellsBlock}
+use Rattle.fish_lanes.specs.Blocks.{AreEnded, HasRegistered, IsBlockSpan, NameMarks, SaysBlock}
 use Rattle.fish_lanes.specs.Controlling.{IsCommitted}
-use Rattle.fish_lanes.specs.Outcome.{IsFullIn, LanesSayPlans, TellsShutBy}
+use Rattle.fish_lanes.specs.Outcome.{IsFullIn, LanesSayPlans, SaysShutBy}
 use Rattle.fish_lanes.specs.Ending.{HasEnd}
 use Rattle.fish_lanes.specs.Gains.{WasShut}
 use Rattle.fish_lanes.specs.Plans.{KnowsRows}
@@ -13,7 +13,7 @@ use Rattle.fish_lanes.specs.Spans.{Span}
 use Rattle.fish_lanes.specs.declared.block.BlockEnd.{BlockEnd}
 use Rattle.fish_lanes.specs.declared.lane.Lane.{Lane}
 use Rattle.fish_lanes.specs.declared.work.LaneFault.TheVariants as cause
-use Rattle.fish_outside.specs.Told.{Files, Gained, GainedPart}
+use Rattle.fish_outside.specs.Content.{Files, Gained, GainedPart}
 use Rattle.fish_registry.specs.declared.registrar.Registrar.{Registrar}
 use Rattle.fish_report.specs.ReportText.{report_text}
 use Rattle.fish_report.specs.declared.item.Item.{Item}
@@ -21,8 +21,8 @@ use Rattle.fish_report.specs.declared.item.Item.TheVariants as item
 use Rattle.fish_rule.specs.Views.{AllOf}
 use Rattle.fish_rule.specs.declared.view.Shut.{Shut}
 use Rattle.fish_rule.specs.declared.view.View.{View}
-use Rattle.fish_run.specs.Blocks.{AreAcknowledged, AreFullSince, AreInOne, AreMarked, Block, HasFoundFull, IsFirstFault, Round, TellsCut, TellsFirst}
-use Rattle.fish_run.specs.Blocks.{TellsOne, TellsOneLane, TellsRounds, after_round, after_rounds, begun, first_items}
+use Rattle.fish_run.specs.Blocks.{AreAcknowledged, AreFullSince, AreInOne, AreMarked, Block, HasFoundFull, IsFirstFault, Round, SaysCut, SaysFirst}
+use Rattle.fish_run.specs.Blocks.{SaysOne, SaysOneLane, SaysRounds, after_round, after_rounds, begun, first_items}
 use Rattle.fish_run.specs.Blocks.{in_table, last_table, left_table, rounds_of, with_cut}
 use Rattle.fish_run.specs.Faults.{IsUndamaged}
 use Rattle.fish_run.specs.Ran.{AreFirst, AreNextOf, IsBlockOf}
@@ -51,7 +51,7 @@ pub record HasRunOne (Past : Whole → Type 0) (count : ℕ) (fresh : Bool) (ful
   pub shuts : (line lines end : ℕ) → IsFullIn b.lanes line lines end → WasShut u
   pub begins : b.span.from ≡ from
   pub ends : b.span.to ≡ to
-  pub tells : (past : Whole) → Past past → Will past u (λ w. TellsOne w from r b)
+  pub tells : (past : Whole) → Past past → Will past u (λ w. SaysOne w from r b)
   pub marks : NameMarks u b.lanes
   pub committed : AllOf (IsCommitted count) (first_items b.lanes)
   pub after : t ≡ after_round r b
@@ -63,7 +63,7 @@ pub record HasCutOne (Past : Whole → Type 0) (count : ℕ) (fresh : Bool) (ful
   pub full_is : b.span.full ≡ full
   pub begins : b.span.from ≡ from
   pub ends : b.span.to ≡ to
-  pub tells : (past : Whole) → Past past → Will past u (λ w. TellsCut w from r b)
+  pub tells : (past : Whole) → Past past → Will past u (λ w. SaysCut w from r b)
   pub marks : NameMarks u b.lanes
   pub committed : AllOf (IsCommitted count) (first_items b.lanes)
 
@@ -74,12 +74,12 @@ pub record Leaves (Past : Whole → Type 0) (count : ℕ) (v u : View) (r s : Re
   pub some : 0 < length lanes
   pub begins : HasEnd v from
   pub tells : (past : Whole) → Past past → (k : Span) → IsBlockSpan v u end.to k → k.lanes ≡ length lanes
-      → (k.from ≤ k.to) × Will past u (λ w. TellsBlock w k lanes)
+      → (k.from ≤ k.to) × Will past u (λ w. SaysBlock w k lanes)
   pub has : (x : Lane) → slice_get lanes 0 ≡ Some x → HasRegistered v u r s x end
   pub ended : AreEnded lanes
   pub marks : NameMarks u lanes
-  pub alone : (x : Lane) → lanes ≡ x ∷ [] → TellsOneLane r.catalog v.shut from x
-  pub shuts : TellsShutBy v u lanes
+  pub alone : (x : Lane) → lanes ≡ x ∷ [] → SaysOneLane r.catalog v.shut from x
+  pub shuts : SaysShutBy v u lanes
   pub plans : LanesSayPlans (KnowsRows u) (registry_of v r) s.catalog from lanes
   pub committed : AllOf (IsCommitted count) (first_items lanes)
 
@@ -104,7 +104,7 @@ pub record HasRounds
     (since : D → ℕ → List ℕ → Type 0)
     (moment : D → ℕ)
     (p q : Point D) (from : ℕ) (r : Registry) (rounds : List Round) (fresh : Bool) (to : ℕ) (t : Registry) : Type 0 where
-  pub runs : Runs content images since moment p q (λ w. TellsRounds w from r rounds to)
+  pub runs : Runs content images since moment p q (λ w. SaysRounds w from r rounds to)
   pub after : t ≡ begun fresh to (after_rounds r rounds)
   pub committed : AreAcknowledged q.flusher.count rounds
   pub fulls : (before : List Round) → HasFoundFull before p.view.shut → AreFullSince before rounds
@@ -121,7 +121,7 @@ pub record HasRunFirst
     (since : D → ℕ → List ℕ → Type 0)
     (moment : D → ℕ)
     (p q : Point D) (from : ℕ) (r : Registry) (rounds : List Round) (fresh : Bool) (cut : Option Round) (end : ℕ) : Type 0 where
-  pub runs : Runs content images since moment p q (λ w. TellsFirst w from r rounds cut end)
+  pub runs : Runs content images since moment p q (λ w. SaysFirst w from r rounds cut end)
   pub committed : AreAcknowledged q.flusher.count (with_cut rounds cut)
   pub fulls : (before : List Round) → HasFoundFull before p.view.shut → AreFullSince before (with_cut rounds cut)
   pub marks : (before : List Round) → AreMarked p.view before → AreMarked q.view (left_table fresh before rounds cut)

@@ -4,7 +4,7 @@ ghost use Rattle.std.specs.Prelude.{◌≡◌, ◌≢◌, ◌≤◌, IfErr, IfOk
 ghost use Rattle.fish_feed.specs.Queues.{AllFree, AllRunnable, AreFit, AreIdle};
 ghost use Rattle.fish_lanes.specs.Blocks.{AreLanes};
 ghost use Rattle.fish_outside.specs.Causes.{Rose};
-ghost use Rattle.fish_outside.specs.Told.{StillTold};
+ghost use Rattle.fish_outside.specs.Content.{SameFiles};
 ghost use Rattle.fish_run.specs.Joins.{nothing_said};
 ghost use Rattle.fish_run.specs.within.Parts.{AreNewLanes, EndsBlock, EndsLanes, EndsParts, StopsLanes, StopsParts};
 ghost use Rattle.fish_run.specs.Runs.{CanGoOn};
@@ -52,7 +52,7 @@ where
         (H.files host.new)) }
     ensures stopped { IfErr result (StopsLanes D.content D.images D.since D.moment disk.old store from texts.now disk.new
         (H.files host.new)) }
-    ensures told { StillTold (H.files host.old) (H.files host.new) }
+    ensures content { SameFiles (H.files host.old) (H.files host.new) }
     ensures inner { IfErr result (λ s. s.why ≢ RunFault.Output) }
     ensures later { H.faults host.old ≤ H.faults host.new }
     ensures rises { D.faults disk.old ≤ D.faults disk.new }
@@ -104,7 +104,7 @@ where
         (H.files host.old) queues.old disk.new (H.files host.new)) }
     ensures stopped { IfErr result (StopsParts D.content D.images D.since D.moment disk.old store from H.Feed.left
         (H.files host.old) queues.old disk.new (H.files host.new) queues.new) }
-    ensures told { StillTold (H.files host.old) (H.files host.new) }
+    ensures content { SameFiles (H.files host.old) (H.files host.new) }
     ensures inner { IfErr result (λ s. s.why ≢ RunFault.Output) }
     ensures later { H.faults host.old ≤ H.faults host.new }
     ensures rises { D.faults disk.old ≤ D.faults disk.new }
@@ -167,7 +167,7 @@ where
         (H.files host.old) queues.old disk.new (H.files host.new) t.next.store t.end said.new) }
     ensures stopped { IfErr result (StopsParts D.content D.images D.since D.moment disk.old store from H.Feed.left
         (H.files host.old) queues.old disk.new (H.files host.new) queues.new) }
-    ensures told { StillTold (H.files host.old) (H.files host.new) }
+    ensures content { SameFiles (H.files host.old) (H.files host.new) }
     ensures inner { IfErr result (λ s. s.why ≢ RunFault.Output) }
     ensures later { H.faults host.old ≤ H.faults host.new }
     ensures rises { D.faults disk.old ≤ D.faults disk.new }

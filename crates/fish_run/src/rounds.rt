@@ -11,7 +11,7 @@ ghost use Rattle.fish_rule.specs.Passes.{view};
 ghost use Rattle.fish_lanes.specs.Controlling.{bound_items};
 ghost use Rattle.fish_run.specs.Blocks.{IsFirstFault};
 ghost use Rattle.fish_run.specs.within.Going.{HasStepped, RestOf, StepsLane};
-ghost use Rattle.fish_run.specs.within.Turning.{FindNoneFull, IsRenewed, StopsTurn, TurnsAll, TurnsOn, tells_full};
+ghost use Rattle.fish_run.specs.within.Turning.{FindNoneFull, IsRenewed, StopsTurn, TurnsAll, TurnsOn, says_full};
 ghost use Rattle.fish_run.specs.Joins.{goes_on};
 ghost use Rattle.fish_run.specs.Rolls.{StopsRoll};
 ghost use Rattle.fish_run.specs.Runs.{Behind, CanClose, CanGoOn};
@@ -221,14 +221,14 @@ fn go_on(lanes: &[Lane], some: bool) -> bool
 
 /// Whether an item of a lane tells that the table is full.
 fn is_full(lane: &Lane) -> bool
-    ensures { result ≡ list_any tells_full lane.now.items }
+    ensures { result ≡ list_any says_full lane.now.items }
 {
-    lane.items.as_slice().iter().any(|item| tells_full(item))
+    lane.items.as_slice().iter().any(|item| says_full(item))
 }
 
 /// Whether this one does.
-fn tells_full(item: &Item) -> bool
-    ensures { result ≡ tells_full item.now }
+fn says_full(item: &Item) -> bool
+    ensures { result ≡ says_full item.now }
 {
     matches!(item, Item::IngestFull { .. })
 }

@@ -5,7 +5,7 @@ ghost use Rattle.std.specs.Prelude.{IfSome, None, OnErr, OnOk, Some, false, true
 ghost use Rattle.fish_catalog.specs.declared.commit.Commit.{Commit};
 ghost use Rattle.fish_catalog.specs.declared.entry.Entry.{Entry};
 ghost use Rattle.fish_outside.specs.Causes.{Rose};
-ghost use Rattle.fish_outside.specs.Told.{Gained, GainedPart, StillTold};
+ghost use Rattle.fish_outside.specs.Content.{Gained, GainedPart, SameFiles};
 ghost use Rattle.fish_recover.specs.Stores.{IsOpened};
 ghost use Rattle.fish_report.specs.ReportText.{report_text};
 ghost use Rattle.fish_report.specs.Writing.{HasWriteCause};
@@ -94,7 +94,7 @@ where
     ensures lost { result.remains ≡ None → (result.fault ≡ Some RunFault.Memory)
         × IsLost D.content D.images D.since D.moment disk.old disk.new opened (H.files host.new) script.now
         (W.written out.old) (W.written out.new) }
-    ensures told { StillTold (H.files host.old) (H.files host.new) }
+    ensures content { SameFiles (H.files host.old) (H.files host.new) }
     ensures before { IsSome (D.content disk.new) → IsSome (D.content disk.old) }
     ensures input { result.fault ≡ Some RunFault.Input → Rose (H.faults host.old) (H.faults host.new) }
     ensures output { result.fault ≡ Some RunFault.Output → Rose (W.faults out.old) (W.faults out.new) }
@@ -221,7 +221,7 @@ where
         true) }
     ensures some { IfErr result (StopsRun D.content D.images D.since D.moment disk.old disk.new store count
         (first_item made count) (H.files host.new) script.now (W.written out.old) (W.written out.new)) }
-    ensures told { StillTold (H.files host.old) (H.files host.new) }
+    ensures content { SameFiles (H.files host.old) (H.files host.new) }
     ensures later { AreLater (counts_of H.faults W.faults D.faults host.old out.old disk.old)
         (counts_of H.faults W.faults D.faults host.new out.new disk.new) }
     ensures cause { IfErr result (λ s. IsCausedBy (counts_of H.faults W.faults D.faults host.old out.old disk.old)
@@ -265,7 +265,7 @@ where
         false) }
     ensures some { IfErr result (StopsRun D.content D.images D.since D.moment disk.old disk.new store count
         (first_item made count) (H.files host.new) script.now (W.written out.old) (W.written out.new)) }
-    ensures told { StillTold (H.files host.old) (H.files host.new) }
+    ensures content { SameFiles (H.files host.old) (H.files host.new) }
     ensures later { AreLater (counts_of H.faults W.faults D.faults host.old out.old disk.old)
         (counts_of H.faults W.faults D.faults host.new out.new disk.new) }
     ensures cause { IfErr result (λ s. IsCausedBy (counts_of H.faults W.faults D.faults host.old out.old disk.old)
@@ -313,7 +313,7 @@ where
         block.now (W.written out.old) (W.written out.new) refused.old refused.new) }
     ensures stopped { IfErr result (StopsOne D.content D.images D.since D.moment disk.old disk.new lasts
         (H.files host.new) block.now (W.written out.old) (W.written out.new)) }
-    ensures told { StillTold (H.files host.old) (H.files host.new) }
+    ensures content { SameFiles (H.files host.old) (H.files host.new) }
     ensures later { AreLater (counts_of H.faults W.faults D.faults host.old out.old disk.old)
         (counts_of H.faults W.faults D.faults host.new out.new disk.new) }
     ensures cause { IfErr result (λ s. IsCausedBy (counts_of H.faults W.faults D.faults host.old out.old disk.old)

@@ -2,7 +2,7 @@
 
 ghost use Rattle.std.specs.Prelude.{◌≡◌, ◌∷◌, [], IfSome, None, OnErr, OnOk};
 ghost use Rattle.std.specs.List.{flat_map, list_any};
-ghost use Rattle.fish_outside.specs.Told.{Gained, GainedPart};
+ghost use Rattle.fish_outside.specs.Content.{Gained, GainedPart};
 ghost use Rattle.fish_report.specs.ReportText.{is_refusal, report_text};
 ghost use Rattle.fish_report.specs.Writing.{HasWriteCause};
 ghost use Rattle.fish_run.specs.Blocks.{IsFirstFault};

@@ -10,11 +10,11 @@ use Rattle.fish_catalog.specs.declared.row.CatRow.{CatRow}
 use Rattle.fish_lang.specs.Canonical.{definition_text}
 use Rattle.fish_lanes.proofs.Lists.{get_some, some_once}
 use Rattle.fish_lanes.proofs.Surely.{closed_length}
-use Rattle.fish_lanes.specs.Blocks.{TellsBlock}
+use Rattle.fish_lanes.specs.Blocks.{SaysBlock}
 use Rattle.fish_lanes.specs.Records.{contents, rows_of_lane}
 use Rattle.fish_lanes.specs.Registering.{Registry, registry_of, after_all}
 use Rattle.fish_lanes.specs.Spans.{Span, answers}
-use Rattle.fish_lanes.specs.Telling.{TellsItems, all_of, content_of}
+use Rattle.fish_lanes.specs.Telling.{SaysItems, all_of, content_of}
 use Rattle.fish_lanes.specs.declared.lane.Lane.{Lane}
 use Rattle.fish_lanes.specs.declared.work.Work.{Work}
 use Rattle.fish_report.specs.declared.item.Item.{Item}
@@ -77,13 +77,13 @@ module _ {D : Type 0} (content : D → Option (List ℕ)) (images : D → List �
   span = span_of (view s.pass) (view t.pass) from to (length new)
 
   -- what its items tell
-  last_tells : (w : Whole) → TellsBlock w span new
-      → TellsItems w span [] [] (rows_of_lane w.log from to 1) x.works (answers last.items)
-  last_tells w tells = subst (λ (z : List Work). TellsItems w span [] [] (rows_of_lane w.log from to 1) z (answers last.items)) last_works
+  last_tells : (w : Whole) → SaysBlock w span new
+      → SaysItems w span [] [] (rows_of_lane w.log from to 1) x.works (answers last.items)
+  last_tells w tells = subst (λ (z : List Work). SaysItems w span [] [] (rows_of_lane w.log from to 1) z (answers last.items)) last_works
       (tells.each 0 last last_at)
 
   -- where its statements store nothing, no record is stored
-  none_stored : (w : Whole) → TellsBlock w span new → AllByRecursion (λ y. content_of y ≡ []) x.works → Each IsVoid (part from to w.log)
+  none_stored : (w : Whole) → SaysBlock w span new → AllByRecursion (λ y. content_of y ≡ []) x.works → Each IsVoid (part from to w.log)
   none_stored w tells none = void_alone from (part from to w.log)
       (part_lanes 1 from to w.log (λ n lane form payload low high at.
       (let k = tells.own n lane form payload low high at in let many = h.many in (k.0, omega (k, many, arith)))))
@@ -99,14 +99,14 @@ module _ {D : Type 0} (content : D → Option (List ℕ)) (images : D → List �
   defining_none d = subst (λ (z : List Work). AllByRecursion (λ y. content_of y ≡ []) z) (sym d.namings.are) (refl, (refl, (refl, tt)))
 
   -- the rows after it
-  defined_rows : (w : Whole) → TellsBlock w span new → (d : AreDefining x.works) → list_all is_registered last.items ≡ true
+  defined_rows : (w : Whole) → SaysBlock w span new → (d : AreDefining x.works) → list_all is_registered last.items ≡ true
       → s.registrar.catalog ≡ [] → HasDefinitions t.registrar.catalog
   defined_rows w tells d all empty =
       let gs = d.namings in
       let named = (codes "kind", gs.kind) ∷ (codes "late", gs.late) ∷ (codes "band", gs.band) ∷ [] in
       let same : answers last.items ≡ last.items = registered_all last.items all in
-      let items = subst (λ (z : List Item). TellsItems w span [] [] (rows_of_lane w.log from to 1) x.works z) same (last_tells w tells) in
-      let works = subst (λ (z : List Work). TellsItems w span [] [] (rows_of_lane w.log from to 1) z last.items) gs.are items in
+      let items = subst (λ (z : List Item). SaysItems w span [] [] (rows_of_lane w.log from to 1) x.works z) same (last_tells w tells) in
+      let works = subst (λ (z : List Work). SaysItems w span [] [] (rows_of_lane w.log from to 1) z last.items) gs.are items in
       let many : length last.items ≡ length (map register_of named) = ap length (sym same) ∙ last_ended ∙ ap length gs.are in
       let rows = all_named w span [] [] (rows_of_lane w.log from to 1) named last.items (registry_of (view s.pass) s.registrar) works
       many all in
@@ -198,13 +198,13 @@ module _ {D : Type 0} (content : D → Option (List ℕ)) (images : D → List �
       (may_hold past (view s.pass) w (narrows_later past (view s.pass) (view t.pass) h.goes.later w may))
 
   counted_text : (number : ℕ) (begun : IsBetween images disk s from) (past : Whole) (w : Whole) → MayEnd past (view t.pass) w
-      → TellsBlock w span new → x.works ≡ all_scans → list_all is_scanned last.items ≡ true → (d : Definitions) → AreDefined d
+      → SaysBlock w span new → x.works ≡ all_scans → list_all is_scanned last.items ≡ true → (d : Definitions) → AreDefined d
       → AreRows d s.registrar.catalog → AreSelected number from w → items_text number last.items ≡ summary_text d number
   counted_text number begun past w may tells scans all d defined are selected =
       let same : answers last.items ≡ last.items = scanned_all last.items all in
-      let items = subst (λ (z : List Item). TellsItems w span [] [] (rows_of_lane w.log from to 1) x.works z) same (last_tells w tells) in
-      let works : TellsItems w span [] [] (rows_of_lane w.log from to 1) (map scan_of (all_asked d)) last.items
-      = subst (λ (z : List Work). TellsItems w span [] [] (rows_of_lane w.log from to 1) z last.items) scans items in
+      let items = subst (λ (z : List Item). SaysItems w span [] [] (rows_of_lane w.log from to 1) x.works z) same (last_tells w tells) in
+      let works : SaysItems w span [] [] (rows_of_lane w.log from to 1) (map scan_of (all_asked d)) last.items
+      = subst (λ (z : List Work). SaysItems w span [] [] (rows_of_lane w.log from to 1) z last.items) scans items in
       let many : length last.items ≡ length (map scan_of (all_asked d)) = ap length (sym same) ∙ last_ended ∙ ap length scans in
       ap (λ (z : List ℕ). number_line (codes "sample") number ++ (z ++ number_line (codes "stored") number))
       (scan_lines w (registry_of (view s.pass) s.registrar) number from (whole_rows begun past w may) selected span [] []
@@ -281,7 +281,7 @@ module _ {D : Type 0} (content : D → Option (List ℕ)) (images : D → List �
   span_four = span_of (view s.pass) (view t.pass) from to (length new)
 
   -- the records of a lane
-  rows_at : (w : Whole) → TellsBlock w span_four new → (i : ℕ) → i < 4
+  rows_at : (w : Whole) → SaysBlock w span_four new → (i : ℕ) → i < 4
       → contents (rows_of_lane w.log from to (i + 1)) ≡ all_of Json (map sample_text (share number (i + 1)))
   rows_at w tells i less =
       let a = get_some old i (let many = lanes.many in omega arith) in
@@ -292,13 +292,13 @@ module _ {D : Type 0} (content : D → Option (List ℕ)) (images : D → List �
       let works : y.works ≡ ingest_of share_lane.name (lines_of (share number (i + 1))) ∷ [] = h.kept i x y a.1 b.1 ∙ share_lane.works in
       let stored : list_all is_stored y.items ≡ true = list_at is_all_stored new all i y b.1 in
       let same : answers y.items ≡ y.items = stored_all y.items stored in
-      let items = subst (λ (z : List Item). TellsItems w span_four [] [] (rows_of_lane w.log from to (i + 1)) y.works z) same (tells.each
+      let items = subst (λ (z : List Item). SaysItems w span_four [] [] (rows_of_lane w.log from to (i + 1)) y.works z) same (tells.each
       i y b.1) in
       share_rows number (i + 1) few w span_four [] [] share_lane.name (rows_of_lane w.log from to (i + 1)) y.items
-      (subst (λ (z : List Work). TellsItems w span_four [] [] (rows_of_lane w.log from to (i + 1)) z y.items) works items)
+      (subst (λ (z : List Work). SaysItems w span_four [] [] (rows_of_lane w.log from to (i + 1)) z y.items) works items)
       (ap length (sym same) ∙ h.ended i y b.1 ∙ ap length works) stored
 
-  records_are : (w : Whole) → TellsBlock w span_four new → HasRecords number from to w.log
+  records_are : (w : Whole) → SaysBlock w span_four new → HasRecords number from to w.log
   records_are w tells = record {
     lanes = part_lanes 4 from to w.log (λ n lane form payload low high at.
         (let k = tells.own n lane form payload low high at in let many = four in (k.0, omega (k, many, arith))));

@@ -31,7 +31,7 @@ use Rattle.std.proofs.lemmas.Bool.{false≢true}
 use Rattle.std.specs.Prelude.{IfOk, IfSome, IsSome}
 use Rattle.fish_flush.specs.Kept.{first_commit}
 use Rattle.fish_recover.specs.declared.refusal.Asked.{Asked}
-use Rattle.fish_sample.specs.within.Blocks.{IsAlwaysTold, IsBetween, IsNewStore, IsOfMade}
+use Rattle.fish_sample.specs.within.Blocks.{IsAlwaysShown, IsBetween, IsNewStore, IsOfMade}
 
 -- a table that was just opened ends where it begins
 first_end : (v : View) (k : Key) → v ≡ first_view k → k.line < 68719476736 → HasEnd v k.number
@@ -147,7 +147,7 @@ module _ {D : Type 0} (content : D → Option (List ℕ)) (images : D → List �
 
 -- a store that was made of an empty disk is new
 made_new : {D : Type 0} (content : D → Option (List ℕ)) (images : D → List ℕ → Type 0) (before after : D)
-    → ((i : List ℕ) → content after ≡ Some i → images after i) → IsAlwaysTold content → content before ≡ Some [] → (asked : Asked)
+    → ((i : List ℕ) → content after ≡ Some i → images after i) → IsAlwaysShown content → content before ≡ Some [] → (asked : Asked)
     → (o : Opened) → HasOpened (content before) (content after) (images after) asked o → (s : Store) → IsOfMade o s
     → IsNewStore content images after s
 made_new content images before after read told empty asked o h s m =
@@ -168,7 +168,7 @@ made_new content images before after read told empty asked o h s m =
         (ap (λ (z : Commit). z.count) k.1) (ap (λ (z : Commit). z.rows) k.1)
 
 pub new_opened : {D E : Type 0} (content : D → Option (List ℕ)) (images : D → List ℕ → Type 0) (before after : D)
-    → ((i : List ℕ) → content after ≡ Some i → images after i) → IsAlwaysTold content → content before ≡ Some [] → (asked : Asked)
+    → ((i : List ℕ) → content after ≡ Some i → images after i) → IsAlwaysShown content → content before ≡ Some [] → (asked : Asked)
     → (o : Opened) → HasOpened (content before) (content after) (images after) asked o → (r : Result Store E) → IfOk r (IsOfMade o)
     → IfOk r (IsNewStore content images after)
 new_opened content images before after read told empty asked o h (Ok s) m = made_new content images before after read told empty asked o

@@ -30,14 +30,14 @@ text_reading b d e x y = one_reading (definition_text d) e d y (accepted-again b
 abbrev Pair : Type 0
 Pair = List ℕ × List ℕ
 
--- the name and text of what is listed at a place
-pair_at : (rows : List CatRow) (place : ℕ) (l : Listed) → slice_get (map listed_of rows) place ≡ Some l
-    → slice_get (namings rows) place ≡ Some (l.name, l.def)
-pair_at [] place l at = absurd cc
+-- the name and text of what is listed at a position
+pair_at : (rows : List CatRow) (position : ℕ) (l : Listed) → slice_get (map listed_of rows) position ≡ Some l
+    → slice_get (namings rows) position ≡ Some (l.name, l.def)
+pair_at [] position l at = absurd cc
 pair_at (row ∷ rows) zero l at =
     let same : listed_of row ≡ l = some_once (listed_of row) l at in
     ap (λ (z : Listed). let p : Pair = (z.name, z.def) in Some p) same
-pair_at (row ∷ rows) (suc place) l at = pair_at rows place l at
+pair_at (row ∷ rows) (suc position) l at = pair_at rows position l at
 
 -- names that begin otherwise are others
 other_name : (a b : ℕ) (x y name : List ℕ) → a ≢ b → (a ∷ x) ≡ name → name ≡ (b ∷ y) → ⊥
@@ -50,53 +50,53 @@ module _ (k l b : List ℕ) where
   one_pair : (p q : Pair) → Some p ≡ Some q → (p.0 ≡ q.0) × (p.1 ≡ q.1)
   one_pair p q e = (let same = some_once p q e in (ap (λ (z : Pair). z.0) same, ap (λ (z : Pair). z.1) same))
 
-  kind_at : (place : ℕ) (name text : List ℕ) → slice_get three place ≡ Some (name, text) → name ≡ codes "kind" → text ≡ k
+  kind_at : (position : ℕ) (name text : List ℕ) → slice_get three position ≡ Some (name, text) → name ≡ codes "kind" → text ≡ k
   kind_at zero name text e is = sym (one_pair (codes "kind", k) (name, text) e).1
   kind_at (suc zero) name text e is =
       absurd (other_name 108 107 _ _ name (omega arith) (one_pair (codes "late", l) (name, text) e).0 is)
   kind_at (suc (suc zero)) name text e is =
       absurd (other_name 98 107 _ _ name (omega arith) (one_pair (codes "band", b) (name, text) e).0 is)
-  kind_at (suc (suc (suc place))) name text e is = absurd cc
+  kind_at (suc (suc (suc position))) name text e is = absurd cc
 
-  late_at : (place : ℕ) (name text : List ℕ) → slice_get three place ≡ Some (name, text) → name ≡ codes "late" → text ≡ l
+  late_at : (position : ℕ) (name text : List ℕ) → slice_get three position ≡ Some (name, text) → name ≡ codes "late" → text ≡ l
   late_at zero name text e is =
       absurd (other_name 107 108 _ _ name (omega arith) (one_pair (codes "kind", k) (name, text) e).0 is)
   late_at (suc zero) name text e is = sym (one_pair (codes "late", l) (name, text) e).1
   late_at (suc (suc zero)) name text e is =
       absurd (other_name 98 108 _ _ name (omega arith) (one_pair (codes "band", b) (name, text) e).0 is)
-  late_at (suc (suc (suc place))) name text e is = absurd cc
+  late_at (suc (suc (suc position))) name text e is = absurd cc
 
-  band_at : (place : ℕ) (name text : List ℕ) → slice_get three place ≡ Some (name, text) → name ≡ codes "band" → text ≡ b
+  band_at : (position : ℕ) (name text : List ℕ) → slice_get three position ≡ Some (name, text) → name ≡ codes "band" → text ≡ b
   band_at zero name text e is =
       absurd (other_name 107 98 _ _ name (omega arith) (one_pair (codes "kind", k) (name, text) e).0 is)
   band_at (suc zero) name text e is =
       absurd (other_name 108 98 _ _ name (omega arith) (one_pair (codes "late", l) (name, text) e).0 is)
   band_at (suc (suc zero)) name text e is = sym (one_pair (codes "band", b) (name, text) e).1
-  band_at (suc (suc (suc place))) name text e is = absurd cc
+  band_at (suc (suc (suc position))) name text e is = absurd cc
 
 module _ (d : Definitions) (defined : AreDefined d) (rows : List CatRow) (are : AreRows d rows) where
-  found : (place : ℕ) (name : List ℕ) (n : IsNewest (map listed_of rows) name place)
-      → slice_get (three (definition_text d.kind) (definition_text d.late) (definition_text d.band)) place
+  found : (position : ℕ) (name : List ℕ) (n : IsNewest (map listed_of rows) name position)
+      → slice_get (three (definition_text d.kind) (definition_text d.late) (definition_text d.band)) position
       ≡ Some (n.listed.name, n.listed.def)
-  found place name n = ap (λ (z : List Pair). slice_get z place) (sym are) ∙ pair_at rows place n.listed n.there
+  found position name n = ap (λ (z : List Pair). slice_get z position) (sym are) ∙ pair_at rows position n.listed n.there
 
   kind_means : (n : ℕ) → MeansIn (map listed_of rows) (asked_kind d n)
-  kind_means i place n def accepted =
-      let text = kind_at (definition_text d.kind) (definition_text d.late) (definition_text d.band) place n.listed.name n.listed.def
-      (found place (codes "kind") n) n.named in
+  kind_means i position n def accepted =
+      let text = kind_at (definition_text d.kind) (definition_text d.late) (definition_text d.band) position n.listed.name n.listed.def
+      (found position (codes "kind") n) n.named in
       text_reading (codes "take type") d.kind def defined.kind (subst (λ (z : List ℕ). IsAccepted z def) text accepted)
 
   late_means : MeansIn (map listed_of rows) (asked_late d)
-  late_means place n def accepted =
-      let text = late_at (definition_text d.kind) (definition_text d.late) (definition_text d.band) place n.listed.name n.listed.def
-      (found place (codes "late") n) n.named in
+  late_means position n def accepted =
+      let text = late_at (definition_text d.kind) (definition_text d.late) (definition_text d.band) position n.listed.name n.listed.def
+      (found position (codes "late") n) n.named in
       text_reading (codes "flag when n >= 10000 and type = \"T3\"") d.late def defined.late (subst (λ (z : List ℕ). IsAccepted z def)
       text accepted)
 
   band_means : (n : ℕ) → MeansIn (map listed_of rows) (asked_band d n)
-  band_means i place n def accepted =
-      let text = band_at (definition_text d.kind) (definition_text d.late) (definition_text d.band) place n.listed.name n.listed.def
-      (found place (codes "band") n) n.named in
+  band_means i position n def accepted =
+      let text = band_at (definition_text d.kind) (definition_text d.late) (definition_text d.band) position n.listed.name n.listed.def
+      (found position (codes "band") n) n.named in
       text_reading (codes "bucket k by 100") d.band def defined.band (subst (λ (z : List ℕ). IsAccepted z def) text accepted)
 
   each_map : (P : Asked → Type 0) (f : ℕ → Asked) → ((n : ℕ) → P (f n)) → (xs : List ℕ) → AllByRecursion P (map f xs)

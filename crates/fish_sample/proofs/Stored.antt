@@ -14,7 +14,7 @@ use Rattle.fish_lanes.proofs.RowLists.{contents_append}
 use Rattle.fish_lanes.specs.Records.{LaneRow, contents}
 use Rattle.fish_lanes.specs.Seen.{Shown}
 use Rattle.fish_lanes.specs.Spans.{Span}
-use Rattle.fish_lanes.specs.Telling.{TellsItem, TellsItems, all_of, count_of as count_of_item}
+use Rattle.fish_lanes.specs.Telling.{SaysItem, SaysItems, all_of, count_of as count_of_item}
 use Rattle.fish_lines.specs.File.{accepted, refused}
 use Rattle.fish_lines.specs.Resuming.{outcomes_from}
 use Rattle.fish_lines.specs.declared.resuming.Begin.TheVariants.{Start}
@@ -57,7 +57,7 @@ module _ (number lane : ℕ) (few : number < 2 ^ 32) where
 
   -- the rows of a lane whose item says that all of its share is stored
   pub share_rows : (w : Whole) (s : Span) (before : List LaneRow) (shown : List Shown) (name : List ℕ) (rows : List LaneRow)
-      (items : List Item) → TellsItems w s before shown rows (ingest_of name (lines_of (share number lane)) ∷ []) items
+      (items : List Item) → SaysItems w s before shown rows (ingest_of name (lines_of (share number lane)) ∷ []) items
       → length items ≡ 1 → list_all is_stored items ≡ true → contents rows ≡ all_of Json texts
   share_rows w s before shown name rows [] h many all = absurd (let e = many in omega arith)
   share_rows w s before shown name rows (x ∷ y ∷ items) h many all = absurd (let e = many in omega arith)
@@ -68,7 +68,7 @@ module _ (number lane : ℕ) (few : number < 2 ^ 32) where
       stored : is_stored x ≡ true
       stored = (and_both (is_stored x) true all).0
 
-      by : TellsItem w s before shown (ingest_of name (lines_of (share number lane))) x
+      by : SaysItem w s before shown (ingest_of name (lines_of (share number lane))) x
           → take (count_of_item x) (all_of Json (accepted outs)) ≡ all_of Json texts
       by (inl t) =
           let none : refused outs ≡ 0 = sym t.counted.refused_is ∙ same_number t.many 0 (sym (ap is_stored t.is) ∙ stored) in

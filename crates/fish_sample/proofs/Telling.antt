@@ -15,10 +15,10 @@ use Rattle.fish_lang.specs.Language.{IsAccepted}
 use Rattle.fish_lanes.proofs.RowLists.{contents_append}
 use Rattle.fish_lanes.specs.Records.{LaneRow, contents}
 use Rattle.fish_lanes.specs.Registering.{AreSo, IsRegisterItem, IsSo, Registry, after, after_all}
-use Rattle.fish_lanes.specs.Scanning.{TellsScanned}
+use Rattle.fish_lanes.specs.Scanning.{SaysScanned}
 use Rattle.fish_lanes.specs.Seen.{IsSeen, Shown, shown_by}
 use Rattle.fish_lanes.specs.Spans.{Span, answers, behind, is_answer}
-use Rattle.fish_lanes.specs.Telling.{TellsItem, TellsItems, content_of, count_of as count_of_item}
+use Rattle.fish_lanes.specs.Telling.{SaysItem, SaysItems, content_of, count_of as count_of_item}
 use Rattle.fish_lanes.specs.declared.work.Work.{Work}
 use Rattle.fish_psf.specs.Records.{evaluation}
 use Rattle.fish_psf.specs.Select.{select}
@@ -85,7 +85,7 @@ take_none zero xs none = refl
 take_none (suc n) xs none = ap (take (suc n)) none
 
 pub nothing_stored : (w : Whole) (s : Span) (before : List LaneRow) (shown : List Shown) (rows : List LaneRow) (works : List Work)
-    (items : List Item) → AllByRecursion (λ y. content_of y ≡ []) works → TellsItems w s before shown rows works items → contents rows ≡ []
+    (items : List Item) → AllByRecursion (λ y. content_of y ≡ []) works → SaysItems w s before shown rows works items → contents rows ≡ []
 nothing_stored w s before shown rows [] [] none h = ap contents h
 nothing_stored w s before shown rows [] (x ∷ items) none h = absurd h
 nothing_stored w s before shown rows (y ∷ works) [] none h = h.1 ∙ take_none h.0 (content_of y) none.0
@@ -118,7 +118,7 @@ abbrev pub text_of : Naming → List ℕ × List ℕ
 text_of g = (g.0, definition_text (definition_of g.1))
 
 pub all_named : (w : Whole) (s : Span) (before : List LaneRow) (shown : List Shown) (rows : List LaneRow) (gs : List Naming)
-    (items : List Item) (r : Registry) → TellsItems w s before shown rows (map register_of gs) items
+    (items : List Item) (r : Registry) → SaysItems w s before shown rows (map register_of gs) items
     → length items ≡ length (map register_of gs) → list_all is_registered items ≡ true
     → namings (after_all r items).rows ≡ namings r.rows ++ map text_of gs
 all_named w s before shown rows [] [] r h many all = sym (append-nil (namings r.rows))
@@ -147,7 +147,7 @@ stored_after r (x ∷ items) h =
 
 -- the name means this definition, and no other
 abbrev pub MeansIn : List Listed → Asked → Type 0
-MeansIn rows a = (place : ℕ) (n : IsNewest rows a.name place) (def : Definition) → IsAccepted n.listed.def def → def ≡ a.definition
+MeansIn rows a = (position : ℕ) (n : IsNewest rows a.name position) (def : Definition) → IsAccepted n.listed.def def → def ≡ a.definition
 
 abbrev pub scan_of : Asked → Work
 scan_of a = scan_by a.name a.value
@@ -160,14 +160,14 @@ module _ (w : Whole) (r : Registry) (number below : ℕ) (rows_are : w.rows r.ve
     (selected : AreSelected number below w) where
   -- the line of one is that of what is asked
   answered_line : (s : Span) (before : List LaneRow) (shown : List Shown) (a : Asked) (x : Item) (low high : ℕ) → s.from ≡ below
-      → TellsScanned w s (IsSeen s.from before shown) (ask_of a) x → is_scanned x ≡ true → IsSo low high r x
+      → SaysScanned w s (IsSeen s.from before shown) (ask_of a) x → is_scanned x ≡ true → IsSo low high r x
       → MeansIn (map listed_of r.rows) a → item_line x ≡ count_line a.name a.value (count_of number a)
   answered_line s before shown a x low high begins h is so means =
       let none : h.opens ≡ [] = none_left h.opens (sym (ap is_scanned h.is) ∙ is) in
       let version : h.version ≡ r.version = subst (IsSo low high r) h.is so in
       let m = h.tells.means in
       let listed : m.rows ≡ map listed_of r.rows = sym m.has.are ∙ ap w.rows version ∙ rows_are in
-      let def : h.tells.def ≡ a.definition = subst (λ (ls : List Listed). MeansIn ls a) (sym listed) means m.place m.newest h.tells.def
+      let def : h.tells.def ≡ a.definition = subst (λ (ls : List Listed). MeansIn ls a) (sym listed) means m.position m.newest h.tells.def
       m.accepted in
       let rows : h.rows ≡ select (map selectable w.log) (evaluation a.definition) a.value h.from h.to [] =
       h.tells.rows_are ∙ (λ i. select (map selectable w.log) (evaluation (def i)) a.value h.from h.to (none i)) in
@@ -178,7 +178,7 @@ module _ (w : Whole) (r : Registry) (number below : ℕ) (rows_are : w.rows r.ve
       ap item_line h.is ∙ ap (count_line a.name a.value) many
 
   pub scan_lines : (s : Span) (before : List LaneRow) (shown : List Shown) (rows : List LaneRow) (asked : List Asked) (items : List Item)
-      (low high : ℕ) → s.from ≡ below → TellsItems w s before shown rows (map scan_of asked) items
+      (low high : ℕ) → s.from ≡ below → SaysItems w s before shown rows (map scan_of asked) items
       → length items ≡ length (map scan_of asked) → list_all is_scanned items ≡ true → AreSo low high r items
       → AllByRecursion (MeansIn (map listed_of r.rows)) asked
       → flat_map item_line items ≡ flat_map (λ a. count_line a.name a.value (count_of number a)) asked
@@ -196,7 +196,7 @@ module _ (w : Whole) (r : Registry) (number below : ℕ) (rows_are : w.rows r.ve
       same_after r (item.Scanned name value from to opens rows version) is = refl
       same_after r x is = absurd (false≢true is)
 
-      by : TellsItem w s before shown (scan_of a) x → is_scanned x ≡ true → IsSo low high r x
+      by : SaysItem w s before shown (scan_of a) x → is_scanned x ≡ true → IsSo low high r x
           → item_line x ≡ count_line a.name a.value (count_of number a)
       by (inl t) is one = answered_line s before shown a x low high begins t is one means.0
       by (inr t) is one = absurd (false≢true (sym (ap is_scanned t.is) ∙ is))

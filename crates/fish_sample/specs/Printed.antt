@@ -1,6 +1,6 @@
 -- What a sample leaves and prints.
 use Rattle.std.specs.Prelude.{ℕ, ◌≡◌, List, Option, true}
-use Rattle.fish_outside.specs.Told.{Gained, GainedPart}
+use Rattle.fish_outside.specs.Content.{Gained, GainedPart}
 use Rattle.fish_rule.specs.declared.close.Remains.{Remains}
 use Rattle.fish_sample.specs.Logs.{IsSampleLog}
 use Rattle.fish_sample.specs.Sample.{AreDefined, Definitions, summary_text}

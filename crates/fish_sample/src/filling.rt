@@ -3,7 +3,7 @@
 
 ghost use Rattle.std.specs.Prelude.{◌≡◌, ◌∷◌, [], IfOk, OnOk};
 ghost use Rattle.fish_sample.specs.within.Blocks.{HasCounted, HasDefined, HasFilled, HasStored};
-ghost use Rattle.fish_sample.specs.within.Blocks.{IsAlwaysTold, IsBetween, IsNewStore};
+ghost use Rattle.fish_sample.specs.within.Blocks.{IsAlwaysShown, IsBetween, IsNewStore};
 ghost use Rattle.fish_sample.specs.within.Works.{AreShareLanes, HasPushed, IsDefiningLane, IsScanningLane};
 
 use crate::asking::{defining_lane, scanning_lane};
@@ -26,7 +26,7 @@ pub(crate) fn fill<R: Threads + Sync, D: Disk + Send>(
     store: &mut Store,
     disk: &mut D,
 ) -> Result<Text, AllocError>
-    requires told { IsAlwaysTold D.content }
+    requires content { IsAlwaysShown D.content }
     requires new { IsNewStore D.content D.images disk.old store.old }
     ensures { IfOk result (HasFilled D.content D.images number disk.old store.old disk.new store.new) }
 {
@@ -43,7 +43,7 @@ fn register<R: Threads + Sync, D: Disk + Send>(
     from: u32,
     disk: &mut D,
 ) -> Result<u32, AllocError>
-    requires told { IsAlwaysTold D.content }
+    requires content { IsAlwaysShown D.content }
     requires between { IsBetween D.images disk.old store.old from }
     ensures { IfOk result (HasDefined D.content D.images disk.old store.old from disk.new store.new) }
 {
@@ -63,7 +63,7 @@ fn run_defining<R: Threads + Sync, D: Disk + Send>(
     disk: &mut D,
     lanes: &mut [Lane],
 ) -> Result<u32, AllocError>
-    requires told { IsAlwaysTold D.content }
+    requires content { IsAlwaysShown D.content }
     requires between { IsBetween D.images disk.old store.old from }
     requires lane { (x : Lane) × (lanes.old ≡ x ∷ []) × IsDefiningLane x }
     ensures { IfOk result (HasDefined D.content D.images disk.old store.old from disk.new store.new) }
@@ -84,7 +84,7 @@ fn store_shares<R: Threads + Sync, D: Disk + Send>(
     from: u32,
     disk: &mut D,
 ) -> Result<u32, AllocError>
-    requires told { IsAlwaysTold D.content }
+    requires content { IsAlwaysShown D.content }
     requires between { IsBetween D.images disk.old store.old from }
     ensures { IfOk result (HasStored D.content D.images number disk.old store.old from disk.new store.new) }
 {
@@ -127,7 +127,7 @@ fn run_shares<R: Threads + Sync, D: Disk + Send>(
     disk: &mut D,
     lanes: &mut [Lane],
 ) -> Result<u32, AllocError>
-    requires told { IsAlwaysTold D.content }
+    requires content { IsAlwaysShown D.content }
     requires between { IsBetween D.images disk.old store.old from }
     requires lanes { AreShareLanes number 4 lanes.old }
     ensures { IfOk result (HasStored D.content D.images number disk.old store.old from disk.new store.new) }
@@ -148,7 +148,7 @@ fn count_values<R: Threads + Sync, D: Disk + Send>(
     from: u32,
     disk: &mut D,
 ) -> Result<Text, AllocError>
-    requires told { IsAlwaysTold D.content }
+    requires content { IsAlwaysShown D.content }
     requires between { IsBetween D.images disk.old store.old from }
     ensures { IfOk result (HasCounted D.content D.images number disk.old store.old from disk.new store.new) }
 {
@@ -169,7 +169,7 @@ fn run_scanning<R: Threads + Sync, D: Disk + Send>(
     disk: &mut D,
     lanes: &mut [Lane],
 ) -> Result<Text, AllocError>
-    requires told { IsAlwaysTold D.content }
+    requires content { IsAlwaysShown D.content }
     requires between { IsBetween D.images disk.old store.old from }
     requires lane { (x : Lane) × (lanes.old ≡ x ∷ []) × IsScanningLane x }
     ensures { IfOk result (HasCounted D.content D.images number disk.old store.old from disk.new store.new) }

@@ -4,7 +4,7 @@ ghost use Rattle.std.specs.Prelude.{◌≡◌, [], IfOk, Some, true};
 ghost use Rattle.fish_rule.specs.ClosedLog.{IsClosed};
 ghost use Rattle.fish_rule.specs.LoadSteps.{IsAlone};
 ghost use Rattle.fish_rule.specs.Passes.{IsPassOf, view};
-ghost use Rattle.fish_sample.specs.within.Blocks.{IsAlwaysTold, IsNewStore, IsOfMade};
+ghost use Rattle.fish_sample.specs.within.Blocks.{IsAlwaysShown, IsNewStore, IsOfMade};
 
 use fish_disk::Disk;
 use fish_recover::{Asked, Opened, open_store};
@@ -21,7 +21,7 @@ const ASKED: Asked = Asked {
 
 /// Makes a store on an empty disk.
 pub(crate) fn make_store<D: Disk>(alloc: Global, disk: &mut D) -> Result<Store, AllocError>
-    requires told { IsAlwaysTold D.content }
+    requires content { IsAlwaysShown D.content }
     requires empty { D.content disk.old ≡ Some [] }
     ensures { IfOk result (IsNewStore D.content D.images disk.new) }
 {

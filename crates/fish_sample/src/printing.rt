@@ -2,7 +2,7 @@
 
 ghost use Rattle.std.specs.Prelude.{◌≡◌, ◌≤◌, [], IfOk, IsErrOf, Some};
 ghost use Rattle.fish_outside.specs.Causes.{Rose};
-ghost use Rattle.fish_sample.specs.within.Blocks.{IsAlwaysTold, IsSample};
+ghost use Rattle.fish_sample.specs.within.Blocks.{IsAlwaysShown, IsSample};
 ghost use Rattle.fish_sample.specs.Printed.{HasPrinted, HasPrintedSome};
 
 use crate::filling::fill;
@@ -75,7 +75,7 @@ fn made_on<R: Threads + Sync, D: Disk + Send>(
     number: u32,
     disk: &mut D,
 ) -> Result<Sampled, AllocError>
-    requires told { IsAlwaysTold D.content }
+    requires content { IsAlwaysShown D.content }
     requires empty { D.content disk.old ≡ Some [] }
     ensures { IfOk result (λ s. IsSample number s.text s.remains) }
 {

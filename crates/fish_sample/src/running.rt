@@ -2,7 +2,7 @@
 
 ghost use Rattle.std.specs.Prelude.{IfOk};
 ghost use Rattle.fish_lanes.specs.Blocks.{AreLanes};
-ghost use Rattle.fish_sample.specs.within.Blocks.{HasRun, IsAlwaysTold, IsBetween};
+ghost use Rattle.fish_sample.specs.within.Blocks.{HasRun, IsAlwaysShown, IsBetween};
 
 use crate::items::are_whole;
 use fish_disk::Disk;
@@ -20,7 +20,7 @@ pub(crate) fn run_lanes<R: Threads + Sync, D: Disk + Send>(
     disk: &mut D,
     lanes: &mut [Lane],
 ) -> Result<u32, AllocError>
-    requires told { IsAlwaysTold D.content }
+    requires content { IsAlwaysShown D.content }
     requires between { IsBetween D.images disk.old store.old from }
     requires lanes { AreLanes lanes.old }
     ensures { IfOk result (λ to. HasRun D.content D.images disk.old store.old from lanes.old disk.new store.new to

@@ -23,7 +23,7 @@ use Rattle.fish_rule.proofs.laws.ChainFacts.{always_later}
 use Rattle.fish_rule.specs.Clocks.{HasLoaded, IsLater}
 use Rattle.fish_rule.specs.RegistrySteps.{after_load_version}
 use Rattle.fish_rule.specs.Intervals.{HasInterval}
-use Rattle.fish_rule.specs.Logs.{Extends, Learns, TellsMark}
+use Rattle.fish_rule.specs.Logs.{Extends, Learns, KnowsMark}
 use Rattle.fish_rule.specs.LoadSteps.{IsAlone}
 use Rattle.fish_rule.specs.declared.view.Epoch.{Epoch}
 use Rattle.fish_rule.specs.declared.view.Key.{Key}
@@ -138,9 +138,9 @@ pub read_later : (v u : View) (known : Known) → Learns v u → AreRead v known
 read_later v u known learns h = defs_later v u known learns (λ _. h) h.read
 
 -- what is asked is so later
-unfoldable pub asked_later : (v u t : View) (known : Known) (ask : Ask) (place : ℕ) → OnlyScans u t → IsAsked v u known ask place
-    → IsAsked v t known ask place
-asked_later v u t known ask place more h = record {
+unfoldable pub asked_later : (v u t : View) (known : Known) (ask : Ask) (position : ℕ) → OnlyScans u t → IsAsked v u known ask position
+    → IsAsked v t known ask position
+asked_later v u t known ask position more h = record {
   named = record {
     loaded = loaded_within _ _ _ _ _ _ (later_self v.clock) h.named.loaded more.clock;
     least = h.named.least;
@@ -168,7 +168,7 @@ range_within v m u t from to first last opens before after h = record {
   claimed = (let a = h.claimed in let b = after.learns.count in omega arith);
   within = h.within;
   stops = ⊎_elim (λ (e : last ≡ end_of to h.count). inl e)
-      (λ (mark : TellsMark u last × (u.about.number ≤ last)). inr (
+      (λ (mark : KnowsMark u last × (u.about.number ≤ last)). inr (
         λ x more. mark.0 x (learns_both u t x after.learns more),
         subst (λ (z : Key). z.number ≤ last) (sym after.learns.about) mark.1,
       )) h.stops;
@@ -250,11 +250,11 @@ plan_by_rows v m u t rows got text seen way from settled to plan same is before 
 -- ---- what can be read
 
 -- a full plan has one piece at most
-one_piece : (from to place : ℕ) (x : Piece) (b : Bool) → slice_get (cond b (Full from to ∷ []) []) place ≡ Some x
+one_piece : (from to position : ℕ) (x : Piece) (b : Bool) → slice_get (cond b (Full from to ∷ []) []) position ≡ Some x
     → x ≡ Full from to
 one_piece from to zero x true at = sym (same_Some _ _ at)
 one_piece from to (suc n) x true at = absurd cc
-one_piece from to place x false at = absurd cc
+one_piece from to position x false at = absurd cc
 
 module _ (v u : View) (known : Known) (def : Definition) (text : List ℕ) (reach : Reach) (read : AreRead u known)
     (means : IsAccepted text def) (ordered : reach.from ≤ reach.to) where
@@ -283,12 +283,12 @@ module _ (v u : View) (known : Known) (def : Definition) (text : List ℕ) (reac
   -- the pieces of a cover
   cover_readable : (plan : List Piece) → IsCovered v u (rows_of known) text reach.from reach.settled reach.to plan
       → AreReadable u def reach plan
-  cover_readable plan h place (Full p q) there =
-      let w = piece_within plan reach.from reach.to place (Full p q) h.cover.fill there in
+  cover_readable plan h position (Full p q) there =
+      let w = piece_within plan reach.from reach.to position (Full p q) h.cover.fill there in
       record { from = w.0; some = (let s = w.1 in omega arith); to = w.2 }
-  cover_readable plan h place (Index id p q) there =
-      let w = piece_within plan reach.from reach.to place (Index id p q) h.cover.fill there in
-      let i = index_inside plan reach.from reach.settled reach.to h.intervals h.cover place id p q there in
+  cover_readable plan h position (Index id p q) there =
+      let w = piece_within plan reach.from reach.to position (Index id p q) h.cover.fill there in
+      let i = index_inside plan reach.from reach.settled reach.to h.intervals h.cover position id p q there in
       let x = i.4 in (
         record { from = w.0; some = (let s = w.1 in omega arith); to = w.2 },
         i.1,
@@ -299,9 +299,9 @@ module _ (v u : View) (known : Known) (def : Definition) (text : List ℕ) (reac
 
   -- that of a full plan
   full_readable : (plan : List Piece) → plan ≡ one_full reach.from reach.to → AreReadable u def reach plan
-  full_readable plan is place piece there =
-      subst (IsReadable u def reach) (sym (one_piece reach.from reach.to place piece (nat_lt reach.from reach.to)
-      (subst (λ (z : List Piece). slice_get z place ≡ Some piece) is there)))
+  full_readable plan is position piece there =
+      subst (IsReadable u def reach) (sym (one_piece reach.from reach.to position piece (nat_lt reach.from reach.to)
+      (subst (λ (z : List Piece). slice_get z position ≡ Some piece) is there)))
       (record { from = omega arith; some = ordered; to = omega arith })
 
   -- and those of every plan
@@ -314,14 +314,14 @@ module _ (v u : View) (known : Known) (def : Definition) (text : List ℕ) (reac
 -- ---- refusals
 
 -- why there is no plan
-pub plan_refused : (v m u t : View) (known : Known) (ask : Ask) (place : ℕ) (reach : Reach) (r : ScanRefusal)
-    (asked : IsAsked v t known ask place) → Learns v m → Learns u t → IsReach v t (first_asked ask) ask.to reach
+pub plan_refused : (v m u t : View) (known : Known) (ask : Ask) (position : ℕ) (reach : Reach) (r : ScanRefusal)
+    (asked : IsAsked v t known ask position) → Learns v m → Learns u t → IsReach v t (first_asked ask) ask.to reach
     → IsPlanRefused m u (rows_of known) asked.named.newest.listed.def ask.how reach.from reach.settled reach.to r
     → IsUnplanned v t known ask r
-plan_refused v m u t known ask place reach (refusal.NotCovered first last) asked before after reached h = (
+plan_refused v m u t known ask position reach (refusal.NotCovered first last) asked before after reached h = (
   h.0,
   record {
-    place = place;
+    position = position;
     asked = asked;
     first = reach.from;
     last = reach.to;
@@ -337,12 +337,12 @@ plan_refused v m u t known ask place reach (refusal.NotCovered first last) asked
     gap = h.1.2;
   },
 )
-plan_refused v m u t known ask place reach refusal.OutOfMemory asked before after reached h = tt
-plan_refused v m u t known ask place reach (refusal.UnknownName version) asked before after reached h = absurd h
-plan_refused v m u t known ask place reach (refusal.EmptyRange a b) asked before after reached h = absurd h
-plan_refused v m u t known ask place reach (refusal.ColdRange base) asked before after reached h = absurd h
-plan_refused v m u t known ask place reach refusal.DiskFault asked before after reached h = absurd h
-plan_refused v m u t known ask place reach (refusal.Damaged number) asked before after reached h = absurd h
+plan_refused v m u t known ask position reach refusal.OutOfMemory asked before after reached h = tt
+plan_refused v m u t known ask position reach (refusal.UnknownName version) asked before after reached h = absurd h
+plan_refused v m u t known ask position reach (refusal.EmptyRange a b) asked before after reached h = absurd h
+plan_refused v m u t known ask position reach (refusal.ColdRange base) asked before after reached h = absurd h
+plan_refused v m u t known ask position reach refusal.DiskFault asked before after reached h = absurd h
+plan_refused v m u t known ask position reach (refusal.Damaged number) asked before after reached h = absurd h
 
 -- what comes of a refusal
 pub err_gives : {A E : Type 0} (P Q : E → Type 0) (r : Result A E) → IfErr r P → ((e : E) → P e → Q e) → IfErr r Q
@@ -357,20 +357,20 @@ errs P Q (Err e) h f = f e h
 -- ---- what was planned
 
 -- what stands at the place of a row
-pub row_found : (rows got : List Listed) (place : ℕ) (listed other : Listed) → got ≡ rows
-    → slice_get rows place ≡ Some listed → get_or got place other ≡ listed
-row_found rows got place listed other same there =
-    get_or_from_slice_get got place listed other (ap (λ (z : List Listed). slice_get z place) same ∙ there)
+pub row_found : (rows got : List Listed) (position : ℕ) (listed other : Listed) → got ≡ rows
+    → slice_get rows position ≡ Some listed → get_or got position other ≡ listed
+row_found rows got position listed other same there =
+    get_or_from_slice_get got position listed other (ap (λ (z : List Listed). slice_get z position) same ∙ there)
 
 -- a scan has planned what it reaches
-pub planned_at : (v u t : View) (known : Known) (ask : Ask) (place : ℕ) (reach : Reach) (plan : List Piece)
-    (asked : IsAsked v u known ask place) → OnlyScans u t → IsReach v t (first_asked ask) ask.to reach
+pub planned_at : (v u t : View) (known : Known) (ask : Ask) (position : ℕ) (reach : Reach) (plan : List Piece)
+    (asked : IsAsked v u known ask position) → OnlyScans u t → IsReach v t (first_asked ask) ask.to reach
     → IsPlan v t (rows_of known) asked.named.newest.listed.def ask.how reach.from reach.settled reach.to plan
     → IsPlanned v t known ask reach.from reach.to reach.opens plan
 unfolding asked_later
-planned_at v u t known ask place reach plan asked more reached is = record {
-  place = place;
-  asked = asked_later v u t known ask place more asked;
+planned_at v u t known ask position reach plan asked more reached is = record {
+  position = position;
+  asked = asked_later v u t known ask position more asked;
   range = reached.range;
   settled = reach.settled;
   stops_at = reached.stops_at;
@@ -381,15 +381,15 @@ planned_at v u t known ask place reach plan asked more reached is = record {
 }
 
 -- and planned what reads it
-pub planned_scan_at : (v u t : View) (known : Known) (ask : Ask) (place : ℕ) (reach : Reach) (plan : List Piece) (p : PlannedScan)
-    (asked : IsAsked v u known ask place) → OnlyScans u t → IsReach v t (first_asked ask) ask.to reach
+pub planned_scan_at : (v u t : View) (known : Known) (ask : Ask) (position : ℕ) (reach : Reach) (plan : List Piece) (p : PlannedScan)
+    (asked : IsAsked v u known ask position) → OnlyScans u t → IsReach v t (first_asked ask) ask.to reach
     → IsPlan v t (rows_of known) asked.named.newest.listed.def ask.how reach.from reach.settled reach.to plan
     → IsQuery asked.named.newest.listed.def ask reach p.query → p.plan ≡ plan
     → IsPlannedScan v t known ask p
 unfolding asked_later
-planned_scan_at v u t known ask place reach plan p asked more reached is query same = record {
-  place = place;
-  asked = asked_later v u t known ask place more asked;
+planned_scan_at v u t known ask position reach plan p asked more reached is query same = record {
+  position = position;
+  asked = asked_later v u t known ask position more asked;
   means = query.means;
   value = query.value;
   reach = subst (IsReach v t (first_asked ask) ask.to) (sym query.reach_is) reached;
@@ -415,8 +415,8 @@ unfoldable pub planned_later : (v u t : View) (known : Known) (ask : Ask) (p : P
     → IsPlanned v t known ask p.query.reach.from p.query.reach.to p.query.reach.opens p.plan
 unfolding asked_later range_within
 planned_later v u t known ask p after h = record {
-  place = h.place;
-  asked = asked_later v u t known ask h.place after h.asked;
+  position = h.position;
+  asked = asked_later v u t known ask h.position after h.asked;
   range = range_within v v u t _ _ _ _ _
       (record { learns = learns_self v; clock = later_self v.clock; frame = refl; outside = λ e. e }) after
       h.reach.range;

@@ -18,13 +18,13 @@ use Rattle.fish_scan.specs.declared.reach.Reach.{Reach}
 
 -- the piece of which it is a part
 pub record IsPartOf (f : Piece → Option Piece) (ps : List Piece) (y : Piece) : Type 0 where
-  pub place : ℕ
+  pub position : ℕ
   pub piece : Piece
-  pub there : slice_get ps place ≡ Some piece
+  pub there : slice_get ps position ≡ Some piece
   pub is : f piece ≡ Some y
 
 part_next : (f : Piece → Option Piece) (x : Piece) (ps : List Piece) (y : Piece) → IsPartOf f ps y → IsPartOf f (x ∷ ps) y
-part_next f x ps y h = record { place = suc h.place; piece = h.piece; there = h.there; is = h.is }
+part_next f x ps y h = record { position = suc h.position; piece = h.piece; there = h.there; is = h.is }
 
 part_by : (f : Piece → Option Piece) (x : Piece) (ps : List Piece) (y : Piece)
     → ((n : ℕ) → slice_get (filter_map f ps) n ≡ Some y → IsPartOf f ps y) → (o : Option Piece) → f x ≡ o → (n : ℕ)
@@ -34,7 +34,7 @@ part_by f x ps y rest None is n there =
 part_by f x ps y rest (Some z) is zero there =
     let first : slice_get (z ∷ filter_map f ps) 0 ≡ Some y =
     subst (λ (l : List Piece). slice_get l 0 ≡ Some y) (map_some f x z ps is) there in
-    record { place = 0; piece = x; there = refl; is = is ∙ first }
+    record { position = 0; piece = x; there = refl; is = is ∙ first }
 part_by f x ps y rest (Some z) is (suc n) there =
     part_next f x ps y (rest n (subst (λ (l : List Piece). slice_get l (suc n) ≡ Some y) (map_some f x z ps is) there))
 
@@ -96,7 +96,7 @@ module _ (v : View) (def : Definition) (reach : Reach) where
   readable_above base ps h n y there =
       let part = part_of (above_of base) ps n y there in
       let some = some_above base part.piece y part.is in
-      subst (IsReadable v def reach) (sym some.1) (readable_part base part.piece some.0 (h part.place part.piece part.there))
+      subst (IsReadable v def reach) (sym some.1) (readable_part base part.piece some.0 (h part.position part.piece part.there))
 
   -- and a part below it
   older_part : (base : ℕ) (x : Piece) → piece_from x < base → IsReadable v def reach x
@@ -124,4 +124,4 @@ module _ (v : View) (def : Definition) (reach : Reach) where
   readable_below base ps h n y there =
       let part = part_of (below_of base) ps n y there in
       let some = some_below base part.piece y part.is in
-      subst (IsOlderReadable v def base) (sym some.1) (older_part base part.piece some.0 (h part.place part.piece part.there))
+      subst (IsOlderReadable v def base) (sym some.1) (older_part base part.piece some.0 (h part.position part.piece part.there))

@@ -6,7 +6,7 @@ use Rattle.std.proofs.Math.ListN.{get_or}
 use Rattle.std.proofs.lemmas.Option.{slice_get-get_or}
 use Rattle.fish_rule.proofs.laws.Alone.{alone_later}
 use Rattle.fish_rule.proofs.laws.Learning.{learns_self}
-use Rattle.fish_rule.specs.Logs.{Learns, TellsMark}
+use Rattle.fish_rule.specs.Logs.{Learns, KnowsMark}
 use Rattle.fish_rule.specs.Parts.{IsEntryWord, Rests}
 use Rattle.fish_rule.specs.LoadSteps.{IsAlone}
 use Rattle.fish_rule.specs.Regions.{code}
@@ -29,19 +29,19 @@ use Rattle.fish_walk.specs.declared.outcome.Look.TheVariants as look
 
 module _ (u : View) (s : Stands u) where
   -- no entry stands at a mark
-  no_entry : (n : ℕ) → TellsMark u n → Always u (λ k w. IsEntryWord (w.dir n)) → ⊥
+  no_entry : (n : ℕ) → KnowsMark u n → Always u (λ k w. IsEntryWord (w.dir n)) → ⊥
   no_entry n mark entry = (entry u (learns_self u) s.moment s.rule s.seat s.at).unmarked
       (mark u (learns_self u) s.moment s.rule s.seat s.at)
 
   -- so a look there tells of a mark, or of an unfinished number
-  pub look_mark : (n : ℕ) (r : Look) → TellsMark u n → IsLookAt u n r → r ≢ look.Unfinished → r ≡ look.Overflow
+  pub look_mark : (n : ℕ) (r : Look) → KnowsMark u n → IsLookAt u n r → r ≢ look.Unfinished → r ≡ look.Overflow
   look_mark n look.Unfinished mark at some = absurd (some refl)
   look_mark n look.Void mark at some = absurd (no_entry n mark (found_word u n Void (λ e. cc) at))
   look_mark n look.Stored mark at some = absurd (no_entry n mark (found_word u n Stored (λ e. cc) at))
   look_mark n look.Overflow mark at some = refl
 
   -- a mark isn't below the log's first number
-  mark_above : (n : ℕ) → TellsMark u n → u.about.number ≤ n
+  mark_above : (n : ℕ) → KnowsMark u n → u.about.number ≤ n
   unfolding high
   mark_above n mark = pick (dec_lt n u.about.number)
     where
@@ -81,7 +81,7 @@ module _ (u : View) (s : Stands u) where
           let place : first + 0 ≡ n = (let same = behind inside in omega arith) in
           let closed : get_or looks 0 look.Stored ≢ look.Unfinished =
           λ is. elim (subst (Among (first + 0)) none (h.seen.unfinished 0 (at ∙ ap Some is))) [ ] in
-          seen.1 (look_mark (first + 0) (get_or looks 0 look.Stored) (subst (TellsMark u) (sym place) m.1) seen.0 closed)
+          seen.1 (look_mark (first + 0) (get_or looks 0 look.Stored) (subst (KnowsMark u) (sym place) m.1) seen.0 closed)
 
       pick : Dec (n < end) → first + length looks ≡ min n end
       pick (no more) = (let few = h.few in let same = before (omega arith) in omega arith)
@@ -128,7 +128,7 @@ module _ (a b c d : View) (from : ℕ) (to : Option ℕ) (settled count base sto
     (opens : List ℕ) (settles : OnlySettles a b) (cuts : OnlyLooks b c) (looked : OnlyLooks c d) (sb : Stands b) (sd : Stands d)
     (tail : HasTail b count) (rests : IsAlone a → IsTailCount count a.tail) (ends : IsAlone a → EndsAt b settled count)
     (base_is : base ≡ b.about.number) (stop_is : stop ≡ max base settled) (cut : IsCut c stop from (end_of to count) end)
-    (alone_cut : IsAlone b → stop < from → TellsMark c stop → end ≤ stop) (first_is : first ≡ min (max stop from) end)
+    (alone_cut : IsAlone b → stop < from → KnowsMark c stop → end ≤ stop) (first_is : first ≡ min (max stop from) end)
     (are : AreLooks c d first end count looks opens) (closed : IsAlone c → opens ≡ []) (last_is : last ≡ first + length looks) where
   -- a pass that was alone has reached all that it was asked for
   pub exact_found : IsAlone a → IsExact a d to count settled last opens
@@ -160,12 +160,12 @@ module _ (a b c d : View) (from : ℕ) (to : Option ℕ) (settled count base sto
 
       inside : end ≤ count
       inside = ⊎_elim (λ (e : end ≡ end_of to count). omega arith)
-          (λ (h : (stop < from) × (stop < end_of to count) × (end ≡ stop) × TellsMark c stop).
+          (λ (h : (stop < from) × (stop < end_of to count) × (end ≡ stop) × KnowsMark c stop).
           let less = h.1 in let same = h.2 in omega arith) cut
 
       asked : (end ≡ end_of to count) ⊎ ((settled < end_of to count) × (end ≡ settled))
       asked = ⊎_elim (λ (e : end ≡ end_of to count). inl e)
-          (λ (h : (stop < from) × (stop < end_of to count) × (end ≡ stop) × TellsMark c stop).
+          (λ (h : (stop < from) × (stop < end_of to count) × (end ≡ stop) × KnowsMark c stop).
           inr ((let less = h.1 in let same = above in omega arith), h.2 ∙ above)) cut
 
       -- behind the log's end nothing is looked at
@@ -175,8 +175,8 @@ module _ (a b c d : View) (from : ℕ) (to : Option ℕ) (settled count base sto
           pick : Dec (stop < from) → first ≡ settled
           pick (no not_behind) = (let same = above in omega arith)
           pick (yes behind) = ⊎_elim (λ (e : settled ≡ count). absurd (let i = inside in omega arith))
-              (λ (m : (settled < count) × TellsMark c settled).
-              let most = alone_cut alone_b behind (subst (TellsMark c) (sym above) m.1) in let same = above in absurd (omega arith)) at_c
+              (λ (m : (settled < count) × KnowsMark c settled).
+              let most = alone_cut alone_b behind (subst (KnowsMark c) (sym above) m.1) in let same = above in absurd (omega arith)) at_c
 
 -- ---- for callers
 
@@ -198,7 +198,7 @@ end_once v u n m count s learns above known least most one other = pick (dec_lt 
     pick : Dec (n < m) → m ≡ n
     pick (no not_less) = omega arith
     pick (yes less) = ⊎_elim (λ (e : n ≡ count). (let within = ends_within u m count other in absurd (omega arith)))
-        (λ (mark : (n < count) × TellsMark v n). absurd (let floor = s.rule.floors s.seat u s.at in
+        (λ (mark : (n < count) × KnowsMark v n). absurd (let floor = s.rule.floors s.seat u s.at in
         (s.rule.settling.below n above (omega arith)).unmarked (mark.1 u learns s.moment s.rule s.seat s.at))) one
 
 -- so a pass that was alone, and knew where the log ends, has reached all up to there that it was asked for

@@ -8,7 +8,7 @@ use Rattle.fish_psf.specs.SelectLaw.{FallsBelow}
 use Rattle.fish_rule.proofs.laws.Moments.{entry_once}
 use Rattle.fish_rule.proofs.laws.Lists.{among_either, among_left, among_right}
 use Rattle.fish_rule.proofs.laws.ChainFacts.{always_later}
-use Rattle.fish_rule.specs.Logs.{IsEntry, Learns, Tells}
+use Rattle.fish_rule.specs.Logs.{IsEntry, Learns, KnowsAs}
 use Rattle.fish_rule.specs.Views.{Among}
 use Rattle.fish_rule.specs.Rule.{Rule}
 use Rattle.fish_rule.specs.ChainFacts.{Always}
@@ -144,7 +144,7 @@ finds_one v def value row opens closed matches = record {
 
 -- a record for which the definition gives another value, or none, doesn't match
 pub told_other : (v : View) (def : Definition) (value : Value) (n lane : ℕ) (form : Form) (payload : List ℕ)
-    → Tells v n (entry.Stored lane form payload) → ¬ Gives def form payload value
+    → KnowsAs v n (entry.Stored lane form payload) → ¬ Gives def form payload value
     → (other : List ℕ) → Always v (λ k w. ¬ Matches def value (record { number = n; payload = other }) k w)
 told_other v def value n lane form payload tells differs other x learns w r seat at m =
     let one = entry_once r n (entry.Stored lane form payload) (entry.Stored m.0 m.1 other)
@@ -159,7 +159,7 @@ told_other v def value n lane form payload tells differs other x learns w r seat
         subst (λ (z : Form × List ℕ). Gives def z.0 z.1 value) (sym (λ i. (form_is i, payload_is i))) is
 
 -- no record stands at a number where something else does
-pub told_void : (v : View) (def : Definition) (value : Value) (n : ℕ) → Tells v n entry.Void
+pub told_void : (v : View) (def : Definition) (value : Value) (n : ℕ) → KnowsAs v n entry.Void
     → (other : List ℕ) → Always v (λ k w. ¬ Matches def value (record { number = n; payload = other }) k w)
 told_void v def value n tells other x learns w r seat at m =
     let one = entry_once r n entry.Void (entry.Stored m.0 m.1 other) (tells x learns w r seat at) m.2 in

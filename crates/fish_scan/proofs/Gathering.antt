@@ -8,7 +8,7 @@ use Rattle.fish_lang.specs.Definition.{Definition}
 use Rattle.fish_rule.proofs.laws.Lists.{among_left, among_right}
 use Rattle.fish_rule.proofs.laws.Learning.{learns_self}
 use Rattle.fish_rule.proofs.laws.ChainFacts.{always_later}
-use Rattle.fish_rule.specs.Logs.{Learns, Tells}
+use Rattle.fish_rule.specs.Logs.{Learns, KnowsAs}
 use Rattle.fish_rule.specs.Table.{Stands}
 use Rattle.fish_rule.specs.Views.{Among}
 use Rattle.fish_rule.specs.ChainFacts.{Always, IsClear, IsEntryIn, IsNodeIn}
@@ -158,7 +158,7 @@ pub entry_matches : (v : View) (def : Definition) (value : Value) (id bucket fro
     (form : Rattle.fish_value.specs.declared.field.Form.Form) (payload : List ℕ) → IsIndex v def id from to
     → from ≤ node.number → node.number < to → node.id ≡ id
     → Always v (IsNodeIn bucket node.number node.key node.place node.id)
-    → Always v (HasValue node.number node.key value) → Tells v node.number (entry.Stored lane form payload)
+    → Always v (HasValue node.number node.key value) → KnowsAs v node.number (entry.Stored lane form payload)
     → Always v (Matches def value (record { number = node.number; payload = payload }))
 entry_matches v def value id bucket from to lane node form payload index after before own node_is has tells x learns w r seat at =
     let told = tells x learns w r seat at in (

@@ -4,12 +4,12 @@ use Rattle.std.proofs.Common.{⊎_elim, inl, inr, ◌⊎◌, arith, Some, None, 
 use Rattle.std.proofs.Math.Decide.{dec_lt}
 use Rattle.std.proofs.lemmas.Option.{slice_get_within}
 use Rattle.fish_rule.proofs.laws.Clocks.{later_both, later_self, loaded_within}
-use Rattle.fish_rule.proofs.laws.Alone.{tells_mark}
+use Rattle.fish_rule.proofs.laws.Alone.{knows_mark}
 use Rattle.fish_rule.proofs.laws.Lists.{among_left, among_right}
 use Rattle.fish_rule.proofs.laws.Learning.{learns_both, learns_self}
 use Rattle.fish_rule.proofs.laws.OpenNumbers.{opens_apart}
 use Rattle.fish_rule.specs.Clocks.{HasLoaded, IsLater}
-use Rattle.fish_rule.specs.Logs.{Extends, Learns, TellsMark}
+use Rattle.fish_rule.specs.Logs.{Extends, Learns, KnowsMark}
 use Rattle.fish_rule.specs.LoadSteps.{IsAlone, after_look_at}
 use Rattle.fish_rule.specs.Table.{Sees}
 use Rattle.fish_rule.specs.OpenNumbers.{AreApart}
@@ -180,14 +180,14 @@ module _ (v m u : View) (first n count : ℕ) (looks : List Look) (opens : List 
   looks_stop end less is at = record {
     seen = seen_still m u first looks opens more.learns h.seen;
     few = omega arith;
-    stops = inr (subst (TellsMark u) (sym many) (marked (subst (IsLookAt u n) is at)));
+    stops = inr (subst (KnowsMark u) (sym many) (marked (subst (IsLookAt u n) is at)));
     listed = subst (λ (z : Look). HasOpens u count (with_look n z opens)) is (keeps count opens h.listed below);
     were = λ k among. open_later v m u k more.clock (h.were k among);
     rise = h.rise;
   }
     where
-      marked : IsLookAt u n look.Overflow → TellsMark u n
-      marked f = subst (TellsMark u) f.2 (tells_mark u f.0 f.1 f.3)
+      marked : IsLookAt u n look.Overflow → KnowsMark u n
+      marked f = subst (KnowsMark u) f.2 (knows_mark u f.0 f.1 f.3)
 
 -- ---- the range
 
@@ -261,7 +261,7 @@ module _ (a b c d : View) (from : ℕ) (to : Option ℕ) (settled count end base
       claimed = (let e = tail.3 in let m = looked_all.count in omega arith);
       within = (let f = looks.few in let most = within in omega arith);
       stops = ⊎_elim (λ (e : first + length reach.looks.items ≡ end). at_end e cut)
-          (λ (m : TellsMark d (first + length reach.looks.items)). at_mark m (dec_lt (first + length reach.looks.items) end))
+          (λ (m : KnowsMark d (first + length reach.looks.items)). at_mark m (dec_lt (first + length reach.looks.items) end))
           looks.stops;
       rise = rise_sooner reach.from first reach.to reach.opens (let f = looks.few in omega arith)
           (subst (λ (z : ℕ). Rise first z reach.opens) (sym ends) looks.rise);
@@ -299,20 +299,20 @@ module _ (a b c d : View) (from : ℕ) (to : Option ℕ) (settled count end base
 
       -- where no look told of a mark, the range ends where it is asked to, or was cut at one
       at_end : first + length reach.looks.items ≡ end → IsCut c (max base settled) from (end_of to count) end
-          → (reach.to ≡ end_of to count) ⊎ (TellsMark d reach.to × (d.about.number ≤ reach.to))
+          → (reach.to ≡ end_of to count) ⊎ (KnowsMark d reach.to × (d.about.number ≤ reach.to))
       at_end e (inl is) = inl (omega arith)
       at_end e (inr h) = inr (
-        subst (TellsMark d) (sym (ends ∙ e ∙ h.2)) (λ x more. h.3 x (learns_both c d x looked.extends.learns more)),
+        subst (KnowsMark d) (sym (ends ∙ e ∙ h.2)) (λ x more. h.3 x (learns_both c d x looked.extends.learns more)),
         let about = ap (λ (z : Key). z.number) (looked_all.extends.learns.about ∙ settles.learns.about) in
             let found = h.2 in
             omega arith,
       )
 
       -- a look that told of a mark before the end was made in the table
-      at_mark : TellsMark d (first + length reach.looks.items) → Dec (first + length reach.looks.items < end)
-          → (reach.to ≡ end_of to count) ⊎ (TellsMark d reach.to × (d.about.number ≤ reach.to))
+      at_mark : KnowsMark d (first + length reach.looks.items) → Dec (first + length reach.looks.items < end)
+          → (reach.to ≡ end_of to count) ⊎ (KnowsMark d reach.to × (d.about.number ≤ reach.to))
       at_mark m (yes less) = inr (
-        subst (TellsMark d) (sym ends) m,
+        subst (KnowsMark d) (sym ends) m,
         let about = ap (λ (z : Key). z.number) (looked_all.extends.learns.about ∙ settles.learns.about) in omega arith,
       )
       at_mark m (no not_less) = at_end (let few = looks.few in omega arith) cut

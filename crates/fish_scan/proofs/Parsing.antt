@@ -12,7 +12,7 @@ use Rattle.fish_plan.specs.declared.pieces.Piece.TheVariants.{Full, Index}
 use Rattle.fish_rule.proofs.laws.Learning.{learns_both}
 use Rattle.fish_rule.proofs.laws.Lists.{among_either, among_left, among_right}
 use Rattle.fish_rule.specs.ChainFacts.{Always}
-use Rattle.fish_rule.specs.Logs.{Learns, Tells}
+use Rattle.fish_rule.specs.Logs.{Learns, KnowsAs}
 use Rattle.fish_rule.specs.Regions.{code}
 use Rattle.fish_rule.specs.Table.{Stands}
 use Rattle.fish_rule.specs.Views.{Among}
@@ -239,7 +239,7 @@ record_parsed u n opens f old among is kind closed = record {
 
 -- once, as the entry was told
 pub parsed_read : (v u : View) (n : ℕ) (e : Entry) (opens : List ℕ) (old new : ℕ) → HasFound v n Stored → Learns v u → Stands u
-    → Tells u n e → ¬ Among n opens → new ≡ old + parses_of e → HasParsed u opens (Full n (n + 1) ∷ []) n (n + 1) old new
+    → KnowsAs u n e → ¬ Among n opens → new ≡ old + parses_of e → HasParsed u opens (Full n (n + 1) ∷ []) n (n + 1) old new
 parsed_read v u n entry.Void opens old new found learns stands tells closed is =
     absurd (stored_told u n stands tells (found_code u n Stored (found_still v u n Stored learns found)))
 parsed_read v u n (entry.Stored lane form payload) opens old new (f, among, number_is, kind) learns stands tells closed is =

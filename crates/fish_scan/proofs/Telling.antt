@@ -12,7 +12,7 @@ use Rattle.fish_rule.proofs.laws.Learning.{learns_both, learns_self}
 use Rattle.fish_rule.proofs.laws.Moments.{stored_parts}
 use Rattle.fish_rule.proofs.laws.Lists.{all_among}
 use Rattle.fish_rule.specs.Facts.{IsFound}
-use Rattle.fish_rule.specs.Logs.{IsEntry, Learns, Tells}
+use Rattle.fish_rule.specs.Logs.{IsEntry, Learns, KnowsAs}
 use Rattle.fish_rule.specs.LoadSteps.{after_look_at}
 use Rattle.fish_rule.specs.Regions.{code}
 use Rattle.fish_rule.specs.Table.{Stands}
@@ -35,7 +35,7 @@ use Rattle.fish_value.specs.declared.row.Row.{Row}
 use Rattle.fish_value.specs.declared.value.Value.{Value}
 
 -- a record that was told is a record of its form
-pub told_parsable : (v : View) (n : ℕ) (e : Entry) → Stands v → Tells v n e → IsParsable e
+pub told_parsable : (v : View) (n : ℕ) (e : Entry) → Stands v → KnowsAs v n e → IsParsable e
 told_parsable v n entry.Void s tells = tt
 told_parsable v n (entry.Stored lane form payload) s tells =
     let h = tells v (learns_self v) s.moment s.rule s.seat s.at in
@@ -49,7 +49,7 @@ told_parsable v n (entry.Stored lane form payload) s tells =
 
 -- a record that matches is found at its number
 pub told_found : (v : View) (def : Definition) (value : Value) (n : ℕ) (e : Entry) (payload : List ℕ) (opens : List ℕ)
-    (before after : List Row) → Tells v n e → IsMatching def value e (Some payload) → ¬ Among n opens
+    (before after : List Row) → KnowsAs v n e → IsMatching def value e (Some payload) → ¬ Among n opens
     → after ≡ before ++ record { number = n; payload = payload } ∷ [] → Adds v def value n (n + 1) opens before after
 told_found v def value n entry.Void payload opens before after tells matches closed is = elim matches [ ]
 told_found v def value n (entry.Stored lane form found) payload opens before after tells matches closed is =
@@ -69,7 +69,7 @@ told_found v def value n (entry.Stored lane form found) payload opens before aft
 
 -- and nothing is where it doesn't
 pub told_unfound : (v : View) (def : Definition) (value : Value) (n : ℕ) (e : Entry) (opens : List ℕ) (before : List Row)
-    → Tells v n e → IsMatching def value e None → Adds v def value n (n + 1) opens before before
+    → KnowsAs v n e → IsMatching def value e None → Adds v def value n (n + 1) opens before before
 told_unfound v def value n entry.Void opens before tells other =
     let next : suc n ≡ n + 1 = omega arith in (
       [],
@@ -153,7 +153,7 @@ settled_stored u n look.Overflow s h (inl e) stored = cc
 settled_stored u n look.Overflow s h (inr e) stored = cc
 
 -- and no void was told of it
-pub stored_told : (u : View) (n : ℕ) → Stands u → Tells u n entry.Void → ¬ Always u (λ k w. high (w.dir n) ≡ code Stored)
+pub stored_told : (u : View) (n : ℕ) → Stands u → KnowsAs u n entry.Void → ¬ Always u (λ k w. high (w.dir n) ≡ code Stored)
 stored_told u n s tells stored =
     let void = tells u (learns_self u) s.moment s.rule s.seat s.at in
     let is_stored = stored u (learns_self u) s.moment s.rule s.seat s.at in

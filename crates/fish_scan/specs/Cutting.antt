@@ -42,5 +42,5 @@ IsOlderReadable v def base (Full from to) = (from ≤ to) × (to ≤ base)
 
 -- so each of them can
 abbrev pub AreOlderReadable : View → Definition → ℕ → List Piece → Type 0
-AreOlderReadable v def base pieces = (place : ℕ) (piece : Piece) → slice_get pieces place ≡ Some piece
+AreOlderReadable v def base pieces = (position : ℕ) (piece : Piece) → slice_get pieces position ≡ Some piece
     → IsOlderReadable v def base piece

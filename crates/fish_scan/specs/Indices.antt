@@ -2,7 +2,7 @@
 use Rattle.std.specs.Prelude.{ℕ, ◌≡◌, ◌≤◌, ◌<◌, ◌⊎◌, List, [], ◌∷◌, ◌++◌, Option, Some, None, slice_get}
 use Rattle.fish_catalog.specs.declared.entry.Entry.TheVariants as entry
 use Rattle.fish_chain.specs.declared.walk.Node.{Node}
-use Rattle.fish_rule.specs.Logs.{Tells}
+use Rattle.fish_rule.specs.Logs.{KnowsAs}
 use Rattle.fish_value.specs.declared.field.Form.{Form}
 use Rattle.fish_catalog.specs.declared.listed.Listed.{Listed}
 use Rattle.fish_chain.specs.Values.{HasValue}
@@ -54,7 +54,7 @@ pub record Gathers (v : View) (def : Definition) (value : Value) (id bucket from
 abbrev pub IsValued : View → Value → Node → Option (List ℕ) → Type 0
 IsValued v value node None = Always v (λ k w. ¬ HasValue node.number node.key value k w)
 IsValued v value node (Some payload) = Always v (HasValue node.number node.key value)
-    × ((lane : ℕ) × (form : Form) × Tells v node.number (entry.Stored lane form payload))
+    × ((lane : ℕ) × (form : Form) × KnowsAs v node.number (entry.Stored lane form payload))
 
 -- the row of an entry that has the value came behind others
 pub record IsRowOf (v : View) (value : Value) (node : Node) (payload : List ℕ) (before after : List Row) : Type 0 where

@@ -7,8 +7,8 @@ abbrev pub HasNone : List Listed → List ℕ → Type 0
 HasNone rows name = (i : ℕ) (l : Listed) → slice_get rows i ≡ Some l → l.name ≢ name
 
 -- the definition at a place has the name, and none behind it has
-pub record IsNewest (rows : List Listed) (name : List ℕ) (place : ℕ) : Type 0 where
+pub record IsNewest (rows : List Listed) (name : List ℕ) (position : ℕ) : Type 0 where
   pub listed : Listed
-  pub there : slice_get rows place ≡ Some listed
+  pub there : slice_get rows position ≡ Some listed
   pub named : listed.name ≡ name
-  pub last : (i : ℕ) (l : Listed) → place < i → slice_get rows i ≡ Some l → l.name ≢ name
+  pub last : (i : ℕ) (l : Listed) → position < i → slice_get rows i ≡ Some l → l.name ≢ name

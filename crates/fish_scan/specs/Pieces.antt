@@ -30,5 +30,5 @@ full_numbers (piece ∷ pieces) = full_of piece + full_numbers pieces
 
 -- so they can all be
 abbrev pub AreReadable : View → Definition → Reach → List Piece → Type 0
-AreReadable v def reach pieces = (place : ℕ) (piece : Piece) → slice_get pieces place ≡ Some piece
+AreReadable v def reach pieces = (position : ℕ) (piece : Piece) → slice_get pieces position ≡ Some piece
     → IsReadable v def reach piece

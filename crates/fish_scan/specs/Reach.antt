@@ -2,7 +2,7 @@
 use Rattle.std.specs.Prelude.{ℕ, ◌≡◌, ◌≢◌, ◌+◌, ◌<◌, ◌≤◌, ◌⊎◌, List, [], ◌∷◌, Option, Some, length, max, min, suc, slice_get}
 use Rattle.std.specs.Option.{unwrap_or}
 use Rattle.fish_rule.specs.Clocks.{HasLoaded}
-use Rattle.fish_rule.specs.Logs.{TellsMark}
+use Rattle.fish_rule.specs.Logs.{KnowsMark}
 use Rattle.fish_rule.specs.LoadSteps.{IsAlone}
 use Rattle.fish_rule.specs.OpenNumbers.{AreApart}
 use Rattle.fish_rule.specs.Views.{Among}
@@ -53,14 +53,14 @@ pub record WasOpen (v u : View) (n : ℕ) : Type 0 where
 pub record AreLooks (v u : View) (first end count : ℕ) (looks : List Look) (opens : List ℕ) : Type 0 where
   pub seen : AreSeen u first looks opens
   pub few : first + length looks ≤ end
-  pub stops : (first + length looks ≡ end) ⊎ TellsMark u (first + length looks)
+  pub stops : (first + length looks ≡ end) ⊎ KnowsMark u (first + length looks)
   pub listed : HasOpens u count opens
   pub were : (n : ℕ) → Among n opens → WasOpen v u n
   pub rise : Rise first (first + length looks) opens
 
 -- the end of a range, or the number at which the settled ones stop, which is a mark in front of it
 abbrev pub IsCut : View → ℕ → ℕ → ℕ → ℕ → Type 0
-IsCut v stop from end found = (found ≡ end) ⊎ ((stop < from) × (stop < end) × (found ≡ stop) × TellsMark v stop)
+IsCut v stop from end found = (found ≡ end) ⊎ ((stop < from) × (stop < end) × (found ≡ stop) × KnowsMark v stop)
 
 -- ---- the range of a scan
 
@@ -78,7 +78,7 @@ pub record IsRange (v u : View) (from : ℕ) (to : Option ℕ) (first last : ℕ
   pub known : v.learned.count ≤ count
   pub claimed : count ≤ u.learned.count
   pub within : last ≤ end_of to count
-  pub stops : (last ≡ end_of to count) ⊎ (TellsMark u last × (u.about.number ≤ last))
+  pub stops : (last ≡ end_of to count) ⊎ (KnowsMark u last × (u.about.number ≤ last))
   -- the open numbers rise, none was published when the pass looked, and no two are of one lane
   pub rise : Rise first last opens
   pub were : (n : ℕ) → Among n opens → WasOpen v u n

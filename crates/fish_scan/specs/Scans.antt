@@ -60,15 +60,15 @@ IsEmptyAsk ask = (from : ℕ) × (to : ℕ) × AreEmptyEnds ask from to
 
 -- the newest definition that has the name asked for, in the version that the pass loaded between the two views, which is no
 -- older than the one that it knew, stands at this place
-pub record IsNamed (v u : View) (known : Known) (ask : Ask) (place : ℕ) : Type 0 where
+pub record IsNamed (v u : View) (known : Known) (ask : Ask) (position : ℕ) : Type 0 where
   pub loaded : HasLoaded v.clock u.clock Version (version_of known)
   pub least : v.learned.version ≤ version_of known
   pub read : AreRead u known
-  pub newest : IsNewest (rows_of known) ask.name place
+  pub newest : IsNewest (rows_of known) ask.name position
 
 -- and the range that is asked for isn't empty
-pub record IsAsked (v u : View) (known : Known) (ask : Ask) (place : ℕ) : Type 0 where
-  pub named : IsNamed v u known ask place
+pub record IsAsked (v u : View) (known : Known) (ask : Ask) (position : ℕ) : Type 0 where
+  pub named : IsNamed v u known ask position
   pub some : ¬ IsEmptyAsk ask
 
 -- ---- plans
@@ -110,8 +110,8 @@ pub record IsQuery (text : List ℕ) (ask : Ask) (reach : Reach) (query : Query)
 
 -- what the pass knows before it reads a record
 pub record IsPlannedScan (v u : View) (known : Known) (ask : Ask) (p : PlannedScan) : Type 0 where
-  pub place : ℕ
-  pub asked : IsAsked v u known ask place
+  pub position : ℕ
+  pub asked : IsAsked v u known ask position
   pub means : IsAccepted asked.named.newest.listed.def (definition_of p.query.def)
   pub value : p.query.value ≡ ask.value
   pub reach : IsReach v u (first_asked ask) ask.to p.query.reach
@@ -121,8 +121,8 @@ pub record IsPlannedScan (v u : View) (known : Known) (ask : Ask) (p : PlannedSc
 -- the range of what is asked for, and the plan by which it is to be read
 pub record IsPlanned (v u : View) (known : Known) (ask : Ask) (from to : ℕ) (opens : List ℕ) (plan : List Piece)
     : Type 0 where
-  pub place : ℕ
-  pub asked : IsAsked v u known ask place
+  pub position : ℕ
+  pub asked : IsAsked v u known ask position
   pub range : IsRange v u (first_asked ask) ask.to from to opens
   -- it is settled as far as this call found: up to the count, or to a number at which it loaded no entry's word
   pub settled : ℕ
@@ -152,8 +152,8 @@ pub record IsAnswer (v u : View) (known : Known) (ask : Ask) (answer : Answer) :
 
 -- the plan by the index has full pieces below what was settled, and the first of them is this one
 pub record IsUncovered (v u : View) (known : Known) (ask : Ask) (from to : ℕ) : Type 0 where
-  pub place : ℕ
-  pub asked : IsAsked v u known ask place
+  pub position : ℕ
+  pub asked : IsAsked v u known ask position
   pub first : ℕ
   pub last : ℕ
   pub opens : List ℕ
@@ -183,7 +183,7 @@ IsUnplanned v u known ask (refusal.UnknownName version) = (version ≡ version_o
     × HasLoaded v.clock u.clock Version version × AreRead u known × HasNone (rows_of known) ask.name
     × (v.learned.version ≤ version)
 IsUnplanned v u known ask (refusal.EmptyRange from to) = AreEmptyEnds ask from to
-    × ((place : ℕ) × IsNamed v u known ask place)
+    × ((position : ℕ) × IsNamed v u known ask position)
 IsUnplanned v u known ask (refusal.NotCovered from to) = (ask.how ≡ how.Index) × IsUncovered v u known ask from to
 IsUnplanned v u known ask (refusal.ColdRange base) = ⊥
 IsUnplanned v u known ask refusal.DiskFault = ⊥
@@ -196,7 +196,7 @@ IsRefused v u known ask (refusal.UnknownName version) = (version ≡ version_of 
     × HasLoaded v.clock u.clock Version version × AreRead u known × HasNone (rows_of known) ask.name
     × (v.learned.version ≤ version)
 IsRefused v u known ask (refusal.EmptyRange from to) = AreEmptyEnds ask from to
-    × ((place : ℕ) × IsNamed v u known ask place)
+    × ((position : ℕ) × IsNamed v u known ask position)
 IsRefused v u known ask (refusal.NotCovered from to) = (ask.how ≡ how.Index) × IsUncovered v u known ask from to
 IsRefused v u known ask (refusal.ColdRange base) = (base ≡ u.about.number)
     × ((first : ℕ) × (last : ℕ) × (opens : List ℕ) × (plan : List Piece) × (first < base)

@@ -10,11 +10,11 @@ use fish_value::Text;
 pub(crate) fn newest(rows: &[Listed], name: &Text) -> Option<usize>
     ensures { MatchOption result (HasNone rows.now name.now) (IsNewest rows.now name.now) }
 {
-    let mut place = rows.len();
-    while place > 0 {
-        place -= 1;
-        if is_named(&rows[place], name) {
-            return Some(place);
+    let mut position = rows.len();
+    while position > 0 {
+        position -= 1;
+        if is_named(&rows[position], name) {
+            return Some(position);
         }
     }
     None

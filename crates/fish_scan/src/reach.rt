@@ -1,7 +1,7 @@
 //! How far a scan looks: the settled number, the count, and what stands at the numbers between.
 
 ghost use Rattle.std.specs.Prelude.{◌≡◌, ◌≢◌, ◌<◌, ◌≤◌, ◌++◌, [], ◌∷◌, OnOk, IfOk};
-ghost use Rattle.fish_rule.specs.Logs.{TellsMark};
+ghost use Rattle.fish_rule.specs.Logs.{KnowsMark};
 ghost use Rattle.fish_rule.specs.Passes.{IsPassOf, view};
 ghost use Rattle.fish_rule.specs.LoadSteps.{IsAlone};
 ghost use Rattle.fish_rule.specs.Views.{Among};
@@ -71,7 +71,7 @@ fn cut_end(log: &Log, pass: &mut Pass, stop: u32, from: u32, end: u32) -> u32
     ensures pass { IsPassOf log.now pass.new }
     ensures only { OnlyLooks (view pass.old) (view pass.new) }
     ensures cut { IsCut (view pass.new) stop from end result }
-    ensures alone { IsAlone (view pass.old) → stop < from → TellsMark (view pass.new) stop → result ≤ stop }
+    ensures alone { IsAlone (view pass.old) → stop < from → KnowsMark (view pass.new) stop → result ≤ stop }
 {
     if from <= stop || end <= stop {
         return end;

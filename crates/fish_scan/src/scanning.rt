@@ -200,9 +200,9 @@ pub(crate) fn plan_scan(
     ensures planned { IfOk result (IsPlannedScan (view pass.old) (view pass.new) known.new ask.now) }
     ensures refused { IfErr result (IsUnplanned (view pass.old) (view pass.new) known.new ask.now) }
 {
-    let place = find_row(log, pass, known, ask)?;
+    let position = find_row(log, pass, known, ask)?;
     let reach = find_reach(alloc, log, pass, ask.from.unwrap_or(0), ask.to)?;
-    let text = known.rows()[place].def.as_bytes();
+    let text = known.rows()[position].def.as_bytes();
     match find_plan(alloc, log, pass, known.rows(), text, ask.how, &reach) {
         Ok(plan) => with_query(alloc, text, ask, reach, plan),
         Err(refusal) => {
@@ -268,13 +268,13 @@ fn find_row(log: &Log, pass: &mut Pass, known: &mut Known, ask: &Ask) -> Result<
 {
     let version = load_version(log, pass) as u16;
     known.refresh(log, pass, version)?;
-    let Some(place) = newest(known.rows(), &ask.name) else {
+    let Some(position) = newest(known.rows(), &ask.name) else {
         return Err(ScanRefusal::UnknownName { version });
     };
     if let Some(Stretch { from, to }) = empty_range(ask) {
         return Err(ScanRefusal::EmptyRange { from, to });
     }
-    Ok(place)
+    Ok(position)
 }
 
 /// The ends of a range that is asked for, where no number lies between them.

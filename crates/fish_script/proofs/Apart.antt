@@ -9,14 +9,14 @@ use Rattle.fish_lang.specs.Language.{IsOutcome}
 use Rattle.fish_lang.specs.declared.parse.LangRefusal.{LangRefusal}
 use Rattle.fish_script.proofs.Standing.{stand_blocks}
 use Rattle.fish_script.specs.Lines.{lines}
-use Rattle.fish_script.specs.Places.{AllStand, Fits, FitsLane, Stands, place_after, place_from, place_of}
+use Rattle.fish_script.specs.Positions.{AllStand, Fits, FitsLane, Stands, position_after, position_from, position_of}
 use Rattle.fish_script.specs.Refusals.{AllSay, HasFault, IsFault, IsFeedTooMany, IsLaneTooMany, IsLate, IsLineFault}
 use Rattle.fish_script.specs.Refusals.{IsRefusal, IsScript, Says, StopsAt, StopsAtEnd}
 use Rattle.fish_script.specs.Script.{Reads, is_control, is_feed}
 use Rattle.fish_script.specs.ScriptLine.{script_line_of}
 use Rattle.fish_script.specs.Words.{is_skipped}
-use Rattle.fish_script.specs.declared.builder.Place.{Place}
-use Rattle.fish_script.specs.declared.builder.Place.TheVariants.{Outside, Inside}
+use Rattle.fish_script.specs.declared.builder.Position.{Position}
+use Rattle.fish_script.specs.declared.builder.Position.TheVariants.{Outside, Inside}
 use Rattle.fish_script.specs.declared.refusal.ScriptRefusal.{ScriptRefusal}
 use Rattle.fish_script.specs.declared.refusal.ScriptRefusal.TheVariants as refusal
 use Rattle.fish_script.specs.declared.script.Block.{Block}
@@ -71,14 +71,14 @@ say_split (b ∷ before) line behind ws h =
     }
 
 -- of lines that are in order those behind others are too
-stand_behind : (p : Place) (xs ys : List ScriptLine) → AllStand p (xs ++ ys) → AllStand (place_from p xs) ys
+stand_behind : (p : Position) (xs ys : List ScriptLine) → AllStand p (xs ++ ys) → AllStand (position_from p xs) ys
 stand_behind p [] ys h = h
-stand_behind p (x ∷ xs) ys h = stand_behind (place_after p x) xs ys h.1
+stand_behind p (x ∷ xs) ys h = stand_behind (position_after p x) xs ys h.1
 
 -- and those in front of others
-stand_ahead : (p : Place) (xs ys : List ScriptLine) → AllStand p (xs ++ ys) → AllStand p xs
+stand_ahead : (p : Position) (xs ys : List ScriptLine) → AllStand p (xs ++ ys) → AllStand p xs
 stand_ahead p [] ys h = tt
-stand_ahead p (x ∷ xs) ys h = (h.0, stand_ahead (place_after p x) xs ys h.1)
+stand_ahead p (x ∷ xs) ys h = (h.0, stand_ahead (position_after p x) xs ys h.1)
 
 -- ---- a line in order is no fault
 
@@ -106,22 +106,22 @@ same_kind (word.Explain look) s t x y = (ap is_control (x ∙ sym y), ap is_feed
 same_kind word.Checkpoint s t x y = (ap is_control (x ∙ sym y), ap is_feed (x ∙ sym y))
 
 -- a statement that keeps the limits isn't late
-not_late : (p : Place) (s t : Statement) → is_control t ≡ is_control s → Fits p s → IsLate p t → ⊥
+not_late : (p : Position) (s t : Statement) → is_control t ≡ is_control s → Fits p s → IsLate p t → ⊥
 not_late Outside s t e fits late = late
 not_late (Inside lanes feeds) s t e fits late = omega (arith, late.0, fits.0 (sym e ∙ late.1))
 
 -- nor one file too many
-not_past : (p : Place) (s t : Statement) → is_feed t ≡ is_feed s → Fits p s → IsFeedTooMany p t → ⊥
+not_past : (p : Position) (s t : Statement) → is_feed t ≡ is_feed s → Fits p s → IsFeedTooMany p t → ⊥
 not_past Outside s t e fits past = past
 not_past (Inside lanes feeds) s t e fits past = omega (arith, past.0, fits.1 (sym e ∙ past.1))
 
 -- a `lane` that keeps the limits isn't one too many
-no_lane_past : (p : Place) → FitsLane p → IsLaneTooMany p said.Lane → ⊥
+no_lane_past : (p : Position) → FitsLane p → IsLaneTooMany p said.Lane → ⊥
 no_lane_past Outside fits past = past
 no_lane_past (Inside lanes feeds) fits past = omega (arith, fits, past)
 
 -- no other line is one
-lane_alone : (p : Place) (l : ScriptLine) → l ≢ said.Lane → IsLaneTooMany p l → ⊥
+lane_alone : (p : Position) (l : ScriptLine) → l ≢ said.Lane → IsLaneTooMany p l → ⊥
 lane_alone Outside l other past = past
 lane_alone (Inside lanes feeds) said.Lanes other past = past
 lane_alone (Inside lanes feeds) said.Lane other past = other refl
@@ -129,7 +129,7 @@ lane_alone (Inside lanes feeds) said.End other past = past
 lane_alone (Inside lanes feeds) (said.Statement w) other past = past
 
 -- a line in order isn't refused
-mark_unrefused : (p : Place) (l : ScriptLine) (n : ℕ) (e : ScriptRefusal) → l ≢ said.Lane → ((w : StatementLine) → l ≢ said.Statement w)
+mark_unrefused : (p : Position) (l : ScriptLine) (n : ℕ) (e : ScriptRefusal) → l ≢ said.Lane → ((w : StatementLine) → l ≢ said.Statement w)
     → Stands p l → IsFault p l n e → ⊥
 mark_unrefused p (said.Statement w) n e other none h f = none w refl
 mark_unrefused p said.Lane n e other none h f = other refl
@@ -151,7 +151,7 @@ mark_unrefused p said.End n (refusal.TooLong line) other none h f = f
 mark_unrefused p said.End n refusal.OutOfMemory other none h f = f
 
 -- nor is a `lane`
-lane_unrefused : (p : Place) (n : ℕ) (e : ScriptRefusal) → Stands p said.Lane → IsFault p said.Lane n e → ⊥
+lane_unrefused : (p : Position) (n : ℕ) (e : ScriptRefusal) → Stands p said.Lane → IsFault p said.Lane n e → ⊥
 lane_unrefused p n (refusal.Unexpected line) h f = h.0 f.1
 lane_unrefused p n (refusal.TooManyLanes line) h f = no_lane_past p h.1 f.1
 lane_unrefused p n (refusal.Definition line why) h f = f
@@ -162,7 +162,7 @@ lane_unrefused p n (refusal.TooLong line) h f = f
 lane_unrefused p n refusal.OutOfMemory h f = f
 
 -- nor a statement
-statement_unrefused : (p : Place) (w : StatementLine) (n : ℕ) (e : ScriptRefusal) → Stands p (said.Statement w)
+statement_unrefused : (p : Position) (w : StatementLine) (n : ℕ) (e : ScriptRefusal) → Stands p (said.Statement w)
     → IsFault p (said.Statement w) n e
     → ⊥
 statement_unrefused p w n (refusal.Unexpected line) h f = h.0 f.1
@@ -177,21 +177,21 @@ statement_unrefused p w n (refusal.TooLong line) h f = f
 statement_unrefused p w n refusal.OutOfMemory h f = f
 
 -- no line in order is refused
-stands_unrefused : (p : Place) (l : ScriptLine) (n : ℕ) (e : ScriptRefusal) → Stands p l → IsFault p l n e → ⊥
+stands_unrefused : (p : Position) (l : ScriptLine) (n : ℕ) (e : ScriptRefusal) → Stands p l → IsFault p l n e → ⊥
 stands_unrefused p said.Lanes n e h f = mark_unrefused p said.Lanes n e (λ x. cc) (λ w x. cc) h f
 stands_unrefused p said.Lane n e h f = lane_unrefused p n e h f
 stands_unrefused p said.End n e h f = mark_unrefused p said.End n e (λ x. cc) (λ w x. cc) h f
 stands_unrefused p (said.Statement w) n e h f = statement_unrefused p w n e h f
 
 -- what is known of a refused line whose bytes are a text
-statement_line_fault : (p : Place) (b : List ℕ) (n : ℕ) (e : ScriptRefusal) (l : ScriptLine) → script_line_of b ≡ Some l → Stands p l
+statement_line_fault : (p : Position) (b : List ℕ) (n : ℕ) (e : ScriptRefusal) (l : ScriptLine) → script_line_of b ≡ Some l → Stands p l
     → ((script_line_of b ≡ None) × (e ≡ refusal.Unexpected n)) ⊎ ((m : ScriptLine) × (script_line_of b ≡ Some m) × IsFault p m n e) → ⊥
 statement_line_fault p b n e l is h (inl f) = (let a = f.0 in cc)
 statement_line_fault p b n e l is h (inr f) =
     stands_unrefused p l n e h (subst (λ (m : ScriptLine). IsFault p m n e) (same_Some f.0 l (sym f.1 ∙ is)) f.2)
 
 -- a line that is skipped or in order isn't refused, where its bytes are a text
-at_text : (p : Place) (b : List ℕ) (n : ℕ) (e : ScriptRefusal) (own : List ScriptLine) → Says b own → AllStand p own
+at_text : (p : Position) (b : List ℕ) (n : ℕ) (e : ScriptRefusal) (own : List ScriptLine) → Says b own → AllStand p own
     → (is_skipped b ≡ false) × IsUtf8 b
     × (((script_line_of b ≡ None) × (e ≡ refusal.Unexpected n)) ⊎ ((m : ScriptLine) × (script_line_of b ≡ Some m) × IsFault p m n e)) → ⊥
 at_text p b n e own (inl s) h f = (let a = f.0 in let c = s.0 in cc)
@@ -199,7 +199,7 @@ at_text p b n e own (inr s) h f =
     statement_line_fault p b n e s.0 s.3 (subst (λ (z : List ScriptLine). AllStand p z) s.4 h).0 f.2
 
 -- a line that is skipped or in order isn't refused
-line_unrefused : (p : Place) (b : List ℕ) (n : ℕ) (e : ScriptRefusal) (own : List ScriptLine) → Says b own → AllStand p own
+line_unrefused : (p : Position) (b : List ℕ) (n : ℕ) (e : ScriptRefusal) (own : List ScriptLine) → Says b own → AllStand p own
     → IsLineFault p b n e → ⊥
 line_unrefused p b n (refusal.NotText line) own (inl s) h f = (let a = f.1 in let c = s.0 in cc)
 line_unrefused p b n (refusal.NotText line) own (inr s) h f = f.2 s.2
@@ -215,14 +215,14 @@ line_unrefused p b n refusal.OutOfMemory own s h f = at_text p b n refusal.OutOf
 
 -- of lines that are all in order none is refused
 pub no_stop_within : (before behind : List (List ℕ)) (line : List ℕ) (ws ahead : List ScriptLine) (n : ℕ) (e : ScriptRefusal)
-    → AllSay (before ++ line ∷ behind) ws → AllStand Outside ws → AllSay before ahead → IsLineFault (place_of ahead) line n e → ⊥
+    → AllSay (before ++ line ∷ behind) ws → AllStand Outside ws → AllSay before ahead → IsLineFault (position_of ahead) line n e → ⊥
 no_stop_within before behind line ws ahead n e say stand front fault =
     let s : IsSplit before line behind ws = say_split before line behind ws say in
     let same : s.ahead ≡ ahead = all_say_once before s.ahead ahead s.say front in
-    let rest : AllStand (place_of s.ahead) (s.own ++ s.rest) =
+    let rest : AllStand (position_of s.ahead) (s.own ++ s.rest) =
     stand_behind Outside s.ahead (s.own ++ s.rest) (subst (λ (z : List ScriptLine). AllStand Outside z) s.whole stand) in
-    line_unrefused (place_of ahead) line n e s.own s.here
-    (stand_ahead (place_of ahead) s.own s.rest (subst (λ (z : List ScriptLine). AllStand (place_of z) (s.own ++ s.rest)) same rest)) fault
+    line_unrefused (position_of ahead) line n e s.own s.here
+    (stand_ahead (position_of ahead) s.own s.rest (subst (λ (z : List ScriptLine). AllStand (position_of z) (s.own ++ s.rest)) same rest)) fault
 
 -- a text whose lines are all in order stops at none
 pub no_stop : (text : List ℕ) (e : ScriptRefusal) (ws : List ScriptLine) → AllSay (lines text) ws → AllStand Outside ws → StopsAt text e → ⊥
@@ -236,8 +236,8 @@ no_script_stops : (text : List ℕ) (script : List Block) (e : ScriptRefusal) �
 no_script_stops text script e h (inl stop) = no_stop text e h.ws h.say (stand_blocks h.ws script h.blocks).stand stop
 no_script_stops text script e h (inr end) =
     let same : h.ws ≡ end.ws = all_say_once (lines text) h.ws end.ws h.say end.say in
-    let out : place_of end.ws ≡ Outside =
-    subst (λ (z : List ScriptLine). place_of z ≡ Outside) same (stand_blocks h.ws script h.blocks).place in
+    let out : position_of end.ws ≡ Outside =
+    subst (λ (z : List ScriptLine). position_of z ≡ Outside) same (stand_blocks h.ws script h.blocks).position in
     let no : Outside ≡ Inside end.lanes end.feeds = sym out ∙ end.within in absurd cc
 
 -- no script is refused

@@ -2,25 +2,25 @@
 use Rattle.std.proofs.Common.{◌≡◌, suc, ◌+◌, ◌≤◌, List, [], ◌∷◌, ◌++◌, refl, sym, ap, ◌∙◌, arith, length, append_assoc}
 use Rattle.std.specs.Prelude.{Bool, true, false, count_by}
 use Rattle.std.proofs.lemmas.List.{append-nil}
-use Rattle.fish_script.specs.Places.{AllStand, Stands, place_after, place_from}
+use Rattle.fish_script.specs.Positions.{AllStand, Stands, position_after, position_from}
 use Rattle.fish_script.specs.Script.{AllFree, AreBlocks, AreFree, AreLanes, AreRead, IsBlock, IsRead, OthersFree}
 use Rattle.fish_script.specs.Script.{feeds_of, is_control, is_feed}
-use Rattle.fish_script.specs.declared.builder.Place.{Place}
+use Rattle.fish_script.specs.declared.builder.Position.{Position}
 use Rattle.fish_script.specs.declared.script.Block.{Block}
 use Rattle.fish_script.specs.declared.script.Statement.{Statement}
 use Rattle.fish_script.specs.declared.script_line.ScriptLine.{ScriptLine}
 use Rattle.fish_script.specs.declared.script_line.ScriptLine.TheVariants as said
 
--- the place behind one line more
-pub place_push : (p : Place) (ws : List ScriptLine) (w : ScriptLine) → place_from p (ws ++ w ∷ []) ≡ place_after (place_from p ws) w
+-- the position behind one line more
+pub place_push : (p : Position) (ws : List ScriptLine) (w : ScriptLine) → position_from p (ws ++ w ∷ []) ≡ position_after (position_from p ws) w
 place_push p [] w = refl
-place_push p (x ∷ ws) w = place_push (place_after p x) ws w
+place_push p (x ∷ ws) w = place_push (position_after p x) ws w
 
 -- all are in order with one line more that is
-pub stand_push : (p : Place) (ws : List ScriptLine) (w : ScriptLine) → AllStand p ws → Stands (place_from p ws) w
+pub stand_push : (p : Position) (ws : List ScriptLine) (w : ScriptLine) → AllStand p ws → Stands (position_from p ws) w
     → AllStand p (ws ++ w ∷ [])
 stand_push p [] w h here = (here, tt)
-stand_push p (x ∷ ws) w h here = (h.0, stand_push (place_after p x) ws w h.1 here)
+stand_push p (x ∷ ws) w h here = (h.0, stand_push (position_after p x) ws w h.1 here)
 
 -- one statement more
 pub read_push : (ws : List ScriptLine) (ss : List Statement) (w : ScriptLine) (s : Statement) → AreRead ws ss → IsRead w s

@@ -7,13 +7,13 @@ use Rattle.std.proofs.lemmas.Option.{same_Some}
 use Rattle.fish_lang.specs.declared.parse.LangRefusal.{LangRefusal}
 use Rattle.fish_script.proofs.Apart.{all_say_once, no_fault, no_stop, no_stop_within, one_outcome, same_kind}
 use Rattle.fish_script.specs.Limits.{longest_script}
-use Rattle.fish_script.specs.Places.{IsMisplaced, place_of}
+use Rattle.fish_script.specs.Positions.{IsMisplaced, position_of}
 use Rattle.fish_script.specs.Refusals.{AllSay, HasFault, IsFault, IsLaneTooMany, IsLate, IsLineFault, IsRefusal}
 use Rattle.fish_script.specs.Refusals.{StopsAt, StopsAtEnd}
 use Rattle.fish_script.specs.Script.{Reads}
 use Rattle.fish_script.specs.ScriptLine.{script_line_of}
-use Rattle.fish_script.specs.declared.builder.Place.{Place}
-use Rattle.fish_script.specs.declared.builder.Place.TheVariants.{Outside, Inside}
+use Rattle.fish_script.specs.declared.builder.Position.{Position}
+use Rattle.fish_script.specs.declared.builder.Position.TheVariants.{Outside, Inside}
 use Rattle.fish_script.specs.declared.refusal.ScriptRefusal.{ScriptRefusal}
 use Rattle.fish_script.specs.declared.refusal.ScriptRefusal.TheVariants as refusal
 use Rattle.fish_script.specs.declared.script.Statement.{Statement}
@@ -25,7 +25,7 @@ use Rattle.fish_script.specs.declared.script_line.ScriptLine.TheVariants as said
 -- ---- one line
 
 -- what a line that says something is refused for
-data Cause (p : Place) (l : ScriptLine) (n : ℕ) (e : ScriptRefusal) : Type 0 where
+data Cause (p : Position) (l : ScriptLine) (n : ℕ) (e : ScriptRefusal) : Type 0 where
   misplaced : e ≡ refusal.Unexpected n → IsMisplaced p l → Cause p l n e
   no_definition : (w : StatementLine) (why : LangRefusal) → l ≡ said.Statement w → e ≡ refusal.Definition n why → ¬ IsMisplaced p l
       → HasFault w why → Cause p l n e
@@ -36,7 +36,7 @@ data Cause (p : Place) (l : ScriptLine) (n : ℕ) (e : ScriptRefusal) : Type 0 w
   lane_past : e ≡ refusal.TooManyLanes n → l ≡ said.Lane → ¬ IsMisplaced p l → Cause p l n e
 
 -- a `lane` too many stands in a block
-past_within : (p : Place) (l : ScriptLine) → IsLaneTooMany p l → (l ≡ said.Lane) × ¬ IsMisplaced p l
+past_within : (p : Position) (l : ScriptLine) → IsLaneTooMany p l → (l ≡ said.Lane) × ¬ IsMisplaced p l
 past_within Outside l past = absurd past
 past_within (Inside lanes feeds) said.Lane past = (refl, λ no. no)
 past_within (Inside lanes feeds) said.Lanes past = absurd past
@@ -44,7 +44,7 @@ past_within (Inside lanes feeds) said.End past = absurd past
 past_within (Inside lanes feeds) (said.Statement w) past = absurd past
 
 -- each fault has its cause
-cause_of : (p : Place) (l : ScriptLine) (n : ℕ) (e : ScriptRefusal) → IsFault p l n e → Cause p l n e
+cause_of : (p : Position) (l : ScriptLine) (n : ℕ) (e : ScriptRefusal) → IsFault p l n e → Cause p l n e
 cause_of p l n (refusal.Unexpected line) f = misplaced (ap (λ (m : ℕ). refusal.Unexpected m) f.0) f.1
 cause_of p l n (refusal.TooManyLanes line) f =
     let w = past_within p l f.1 in lane_past (ap (λ (m : ℕ). refusal.TooManyLanes m) f.0) w.0 w.1
@@ -70,7 +70,7 @@ same_statement_line : (l : ScriptLine) (w u : StatementLine) → l ≡ said.Stat
 same_statement_line l w u a b = let e : said.Statement w ≡ said.Statement u = sym a ∙ b in cc
 
 -- it is late for any statement that reads the same
-late_too : (p : Place) (w : StatementLine) (s t : Statement) → Reads w s → Reads w t → IsLate p s → IsLate p t
+late_too : (p : Position) (w : StatementLine) (s t : Statement) → Reads w s → Reads w t → IsLate p s → IsLate p t
 late_too Outside w s t x y late = late
 late_too (Inside lanes feeds) w s t x y late = (late.0, sym (same_kind w s t x y).0 ∙ late.1)
 
@@ -79,7 +79,7 @@ reads_by : (l : ScriptLine) (w u : StatementLine) (s : Statement) → l ≡ said
 reads_by l w u s a b h = subst (λ (x : StatementLine). Reads x s) (sym (same_statement_line l w u a b)) h
 
 -- one line is refused for one cause
-cause_once : (p : Place) (l : ScriptLine) (n : ℕ) (d e : ScriptRefusal) → Cause p l n d → Cause p l n e → d ≡ e
+cause_once : (p : Position) (l : ScriptLine) (n : ℕ) (d e : ScriptRefusal) → Cause p l n d → Cause p l n e → d ≡ e
 cause_once p l n d e (misplaced a mis) (misplaced b too) = a ∙ sym b
 cause_once p l n d e (misplaced a mis) (no_definition w why is b placed fault) = absurd (placed mis)
 cause_once p l n d e (misplaced a mis) (too_late w s is b placed reads late) = absurd (placed mis)
@@ -115,7 +115,7 @@ cause_once p l n d e (lane_past a is placed) (feed_past u t is_too b placed_too 
 cause_once p l n d e (lane_past a is placed) (lane_past b is_too placed_too) = a ∙ sym b
 
 -- the same of a line by its bytes, which are a text
-bytes_once : (p : Place) (b : List ℕ) (n : ℕ) (d e : ScriptRefusal)
+bytes_once : (p : Position) (b : List ℕ) (n : ℕ) (d e : ScriptRefusal)
     → ((script_line_of b ≡ None) × (d ≡ refusal.Unexpected n)) ⊎ ((l : ScriptLine) × (script_line_of b ≡ Some l) × IsFault p l n d)
     → ((script_line_of b ≡ None) × (e ≡ refusal.Unexpected n)) ⊎ ((l : ScriptLine) × (script_line_of b ≡ Some l) × IsFault p l n e) → d ≡ e
 bytes_once p b n d e (inl f) (inl g) = f.1 ∙ sym g.1
@@ -126,11 +126,11 @@ bytes_once p b n d e (inr f) (inr g) =
     (cause_of p f.0 n e (subst (λ (l : ScriptLine). IsFault p l n e) (same_Some g.0 f.0 (sym g.1 ∙ f.1)) g.2))
 
 -- what is known of a line that is refused
-abbrev IsKnown : Place → List ℕ → ℕ → ScriptRefusal → Type 0
+abbrev IsKnown : Position → List ℕ → ℕ → ScriptRefusal → Type 0
 IsKnown p b n e = (IsUtf8 b × (((script_line_of b ≡ None) × (e ≡ refusal.Unexpected n))
     ⊎ ((l : ScriptLine) × (script_line_of b ≡ Some l) × IsFault p l n e))) ⊎ ((e ≡ refusal.NotText n) × ¬ IsUtf8 b)
 
-known : (p : Place) (b : List ℕ) (n : ℕ) (e : ScriptRefusal) → IsLineFault p b n e → IsKnown p b n e
+known : (p : Position) (b : List ℕ) (n : ℕ) (e : ScriptRefusal) → IsLineFault p b n e → IsKnown p b n e
 known p b n (refusal.NotText line) f = inr (ap (λ (m : ℕ). refusal.NotText m) f.0, f.2)
 known p b n (refusal.TooLong line) f = inl (f.1, f.2)
 known p b n (refusal.Unexpected line) f = inl (f.1, f.2)
@@ -140,7 +140,7 @@ known p b n (refusal.TooManyLanes line) f = inl (f.1, f.2)
 known p b n (refusal.TooManyFeeds line) f = inl (f.1, f.2)
 known p b n refusal.OutOfMemory f = inl (f.1, f.2)
 
-known_once : (p : Place) (b : List ℕ) (n : ℕ) (d e : ScriptRefusal) → IsKnown p b n d → IsKnown p b n e → d ≡ e
+known_once : (p : Position) (b : List ℕ) (n : ℕ) (d e : ScriptRefusal) → IsKnown p b n d → IsKnown p b n e → d ≡ e
 known_once p b n d e (inl f) (inl g) = bytes_once p b n d e f.1 g.1
 known_once p b n d e (inl f) (inr g) = absurd (g.1 f.0)
 known_once p b n d e (inr f) (inl g) = absurd (f.1 g.0)
@@ -194,13 +194,13 @@ stop_once text d e f g = elim (dec_lt (length f.before) (length g.before)) [
         let s = as_far f.before g.before f.behind g.behind f.line g.line (sym f.splits ∙ g.splits) same in
         let ahead : f.ahead ≡ g.ahead = all_say_once g.before f.ahead g.ahead
         (subst (λ (z : List (List ℕ)). AllSay z f.ahead) s.0 f.say) g.say in
-        let fault : IsLineFault (place_of g.ahead) g.line (suc (length g.before)) d =
-        subst (λ (z : List ScriptLine). IsLineFault (place_of z) g.line (suc (length g.before)) d) ahead
-        (subst (λ (z : List ℕ). IsLineFault (place_of f.ahead) z (suc (length g.before)) d) s.1
-        (subst (λ (k : ℕ). IsLineFault (place_of f.ahead) f.line (suc k) d) same f.fault)) in
-        known_once (place_of g.ahead) g.line (suc (length g.before)) d e
-        (known (place_of g.ahead) g.line (suc (length g.before)) d fault)
-        (known (place_of g.ahead) g.line (suc (length g.before)) e g.fault)
+        let fault : IsLineFault (position_of g.ahead) g.line (suc (length g.before)) d =
+        subst (λ (z : List ScriptLine). IsLineFault (position_of z) g.line (suc (length g.before)) d) ahead
+        (subst (λ (z : List ℕ). IsLineFault (position_of f.ahead) z (suc (length g.before)) d) s.1
+        (subst (λ (k : ℕ). IsLineFault (position_of f.ahead) f.line (suc k) d) same f.fault)) in
+        known_once (position_of g.ahead) g.line (suc (length g.before)) d e
+        (known (position_of g.ahead) g.line (suc (length g.before)) d fault)
+        (known (position_of g.ahead) g.line (suc (length g.before)) e g.fault)
 
 -- so is the stop of a text
 stops_once : (text : List ℕ) (d e : ScriptRefusal) → StopsAt text d ⊎ StopsAtEnd text d → StopsAt text e ⊎ StopsAtEnd text e → d ≡ e

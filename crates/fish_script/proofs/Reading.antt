@@ -7,11 +7,11 @@ use Rattle.fish_script.proofs.Parts.{lines_none}
 use Rattle.fish_script.specs.Building.{HasBuilt, IsInside, IsSoFar, IsWritten, TakesLine, UnlessMemory}
 use Rattle.fish_script.specs.Limits.{longest_script}
 use Rattle.fish_script.specs.Lines.{lines}
-use Rattle.fish_script.specs.Places.{place_of}
+use Rattle.fish_script.specs.Positions.{position_of}
 use Rattle.fish_script.specs.Refusals.{AllSay, IsLineFault, IsRefusal, IsScript, Says, StopsAt}
 use Rattle.fish_script.specs.declared.builder.ScriptBuilder.{ScriptBuilder}
-use Rattle.fish_script.specs.declared.builder.Place.{Place}
-use Rattle.fish_script.specs.declared.builder.Place.TheVariants.{Outside, Inside}
+use Rattle.fish_script.specs.declared.builder.Position.{Position}
+use Rattle.fish_script.specs.declared.builder.Position.TheVariants.{Outside, Inside}
 use Rattle.fish_script.specs.declared.refusal.ScriptRefusal.{ScriptRefusal}
 use Rattle.fish_script.specs.declared.refusal.ScriptRefusal.TheVariants as refusal
 use Rattle.fish_script.specs.declared.script_line.ScriptLine.{ScriptLine}
@@ -54,21 +54,21 @@ all_lines text (c ∷ rest) number d h none = absurd (omega arith)
 
 -- the text is a script where it ends outside of a block
 pub script_read : (text rest : List ℕ) (number : ℕ) (d : ScriptBuilder) → length text ≤ longest_script → IsSoFar text rest number d
-    → length rest ≡ 0 → d.place ≡ Outside → IsScript text d.blocks
+    → length rest ≡ 0 → d.position ≡ Outside → IsScript text d.blocks
 script_read text rest number d size h none outside = record {
   size = size;
   ws = h.ws;
   say = subst (λ (z : List (List ℕ)). AllSay z h.ws) (sym (all_lines text rest number d h none)) h.say;
-  blocks = (subst (λ (p : Place). IsWritten h.ws p d.blocks d.lanes d.lane) outside h.builder.written).0;
+  blocks = (subst (λ (p : Position). IsWritten h.ws p d.blocks d.lanes d.lane) outside h.builder.written).0;
 }
 
 -- and else refused
 pub end_refused : (text rest : List ℕ) (number : ℕ) (d : ScriptBuilder) → length text ≤ longest_script → IsSoFar text rest number d
-    → length rest ≡ 0 → IsInside d.place → IsRefusal text (refusal.Unexpected (number + 1))
-end_refused text rest number d size h none inside = at d.place refl
+    → length rest ≡ 0 → IsInside d.position → IsRefusal text (refusal.Unexpected (number + 1))
+end_refused text rest number d size h none inside = at d.position refl
   where
-    at : (p : Place) → d.place ≡ p → IsRefusal text (refusal.Unexpected (number + 1))
-    at Outside is = absurd (subst (λ (p : Place). IsInside p) is inside)
+    at : (p : Position) → d.position ≡ p → IsRefusal text (refusal.Unexpected (number + 1))
+    at Outside is = absurd (subst (λ (p : Position). IsInside p) is inside)
     at (Inside lanes feeds) is = (
       size,
       inr (record {
@@ -77,7 +77,7 @@ end_refused text rest number d size h none inside = at d.place refl
         stand = h.builder.stand;
         lanes = lanes;
         feeds = feeds;
-        within = h.builder.place ∙ is;
+        within = h.builder.position ∙ is;
         fault =
             let count : number + 1 ≡ suc (length (lines text)) =
             omega (arith, h.count, ap (λ (z : List (List ℕ)). length z) (all_lines text rest number d h none)) in
@@ -88,10 +88,10 @@ end_refused text rest number d size h none inside = at d.place refl
 -- the text is refused for a line
 pub line_refused : (text rest line behind : List ℕ) (number : ℕ) (d : ScriptBuilder) → length text ≤ longest_script
     → IsSoFar text rest number d → lines rest ≡ line ∷ lines behind → (e : ScriptRefusal)
-    → UnlessMemory (IsLineFault d.place line (number + 1)) e → IsRefusal text e
+    → UnlessMemory (IsLineFault d.position line (number + 1)) e → IsRefusal text e
 line_refused text rest line behind number d size h split = whole
   where
-    stops : (e : ScriptRefusal) → IsLineFault d.place line (number + 1) e → StopsAt text e
+    stops : (e : ScriptRefusal) → IsLineFault d.position line (number + 1) e → StopsAt text e
     stops e f = record {
       before = h.before;
       line = line;
@@ -102,11 +102,11 @@ line_refused text rest line behind number d size h split = whole
       stand = h.builder.stand;
       fault =
           let count : number + 1 ≡ suc (length h.before) = omega (arith, h.count) in
-          subst (λ (n : ℕ). IsLineFault (place_of h.ws) line n e) count
-          (subst (λ (p : Place). IsLineFault p line (number + 1) e) (sym h.builder.place) f);
+          subst (λ (n : ℕ). IsLineFault (position_of h.ws) line n e) count
+          (subst (λ (p : Position). IsLineFault p line (number + 1) e) (sym h.builder.position) f);
     }
 
-    whole : (e : ScriptRefusal) → UnlessMemory (IsLineFault d.place line (number + 1)) e → IsRefusal text e
+    whole : (e : ScriptRefusal) → UnlessMemory (IsLineFault d.position line (number + 1)) e → IsRefusal text e
     whole refusal.OutOfMemory f = tt
     whole (refusal.TooLong n) f = absurd (elim f.2 [ inl g ↦ (let no = g.1 in cc) | inr g ↦ g.2 ])
     whole (refusal.NotText n) f = (size, inl (stops (refusal.NotText n) f))
@@ -118,7 +118,7 @@ line_refused text rest line behind number d size h split = whole
 
 -- what the end of the text answers: a script
 pub end_script : {T : Type 0} (r : Result T ScriptRefusal) (text rest : List ℕ) (number : ℕ) (d : ScriptBuilder)
-    → length text ≤ longest_script → IsSoFar text rest number d → length rest ≡ 0 → OnOk r (d.place ≡ Outside)
+    → length text ≤ longest_script → IsSoFar text rest number d → length rest ≡ 0 → OnOk r (d.position ≡ Outside)
     → OnOk r (IsScript text d.blocks)
 end_script (Ok x) text rest number d size h none outside = script_read text rest number d size h none outside
 end_script (Err e) text rest number d size h none outside = tt
@@ -126,7 +126,7 @@ end_script (Err e) text rest number d size h none outside = tt
 -- or a refusal
 pub end_refusal : {T : Type 0} (r : Result T ScriptRefusal) (text rest : List ℕ) (number : ℕ) (d : ScriptBuilder)
     → length text ≤ longest_script → IsSoFar text rest number d → length rest ≡ 0
-    → IfErr r (λ e. IsInside d.place × (e ≡ refusal.Unexpected (number + 1))) → IfErr r (IsRefusal text)
+    → IfErr r (λ e. IsInside d.position × (e ≡ refusal.Unexpected (number + 1))) → IfErr r (IsRefusal text)
 end_refusal (Ok x) text rest number d size h none inside = tt
 end_refusal (Err e) text rest number d size h none inside =
     subst (λ (z : ScriptRefusal). IsRefusal text z) (sym inside.1) (end_refused text rest number d size h none inside.0)

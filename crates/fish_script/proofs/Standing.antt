@@ -5,39 +5,39 @@ use Rattle.std.specs.Prelude.{Bool, true, false, count_by, if◌then◌else◌}
 use Rattle.std.proofs.lemmas.List.Sums.{sum_by-cons}
 use Rattle.fish_script.proofs.Writing.{feed_read}
 use Rattle.fish_script.specs.Limits.{most_feeds, most_lanes}
-use Rattle.fish_script.specs.Places.{AllStand, Stands, place_after, place_from}
+use Rattle.fish_script.specs.Positions.{AllStand, Stands, position_after, position_from}
 use Rattle.fish_script.specs.Script.{AllFree, AreBlocks, AreFree, AreLanes, AreRead, IsBlock, IsRead, OthersFree}
 use Rattle.fish_script.specs.Script.{feeds_of, is_control, is_feed}
-use Rattle.fish_script.specs.declared.builder.Place.{Place}
-use Rattle.fish_script.specs.declared.builder.Place.TheVariants.{Outside, Inside}
+use Rattle.fish_script.specs.declared.builder.Position.{Position}
+use Rattle.fish_script.specs.declared.builder.Position.TheVariants.{Outside, Inside}
 use Rattle.fish_script.specs.declared.script.Block.{Block}
 use Rattle.fish_script.specs.declared.script.Statement.{Statement}
 use Rattle.fish_script.specs.declared.script_line.ScriptLine.{ScriptLine}
 use Rattle.fish_script.specs.declared.script_line.ScriptLine.TheVariants as said
 
--- from a place on these lines are in order, and lead to another place
-pub record Leads (p : Place) (ws : List ScriptLine) (q : Place) : Type 0 where
+-- from a position on these lines are in order, and lead to another position
+pub record Leads (p : Position) (ws : List ScriptLine) (q : Position) : Type 0 where
   pub stand : AllStand p ws
-  pub place : place_from p ws ≡ q
+  pub position : position_from p ws ≡ q
 
 -- no line
-pub leads_none : (p : Place) → Leads p [] p
-leads_none p = record { stand = tt; place = refl }
+pub leads_none : (p : Position) → Leads p [] p
+leads_none p = record { stand = tt; position = refl }
 
 -- one line more in front
-pub leads_line : (p q r : Place) (l : ScriptLine) (ws : List ScriptLine) → Stands p l → place_after p l ≡ q → Leads q ws r
+pub leads_line : (p q r : Position) (l : ScriptLine) (ws : List ScriptLine) → Stands p l → position_after p l ≡ q → Leads q ws r
     → Leads p (l ∷ ws) r
 leads_line p q r l ws here e h = record {
-  stand = (here, subst (λ (z : Place). AllStand z ws) (sym e) h.stand);
-  place = ap (λ (z : Place). place_from z ws) e ∙ h.place;
+  stand = (here, subst (λ (z : Position). AllStand z ws) (sym e) h.stand);
+  position = ap (λ (z : Position). position_from z ws) e ∙ h.position;
 }
 
 -- lines behind others
-pub leads_append : (p q r : Place) (xs ys : List ScriptLine) → Leads p xs q → Leads q ys r → Leads p (xs ++ ys) r
-leads_append p q r [] ys h k = subst (λ (z : Place). Leads z ys r) (sym h.place) k
+pub leads_append : (p q r : Position) (xs ys : List ScriptLine) → Leads p xs q → Leads q ys r → Leads p (xs ++ ys) r
+leads_append p q r [] ys h k = subst (λ (z : Position). Leads z ys r) (sym h.position) k
 leads_append p q r (x ∷ xs) ys h k =
-    leads_line p (place_after p x) r x (xs ++ ys) h.stand.0 refl
-    (leads_append (place_after p x) q r xs ys (record { stand = h.stand.1; place = h.place }) k)
+    leads_line p (position_after p x) r x (xs ++ ys) h.stand.0 refl
+    (leads_append (position_after p x) q r xs ys (record { stand = h.stand.1; position = h.position }) k)
 
 -- the statements of a lane: those of control in the first lane alone
 stand_statements : (ws : List ScriptLine) (ss : List Statement) (k f : ℕ) → AreRead ws ss → 1 ≤ k → (k ≤ 1) ⊎ AreFree ss

@@ -5,11 +5,11 @@ use Rattle.fish_script.proofs.Appending.{place_push}
 use Rattle.fish_script.proofs.Appending.{stand_push}
 use Rattle.fish_script.specs.Building.{HasBuilt, IsInFront, IsWritten, Pushes}
 use Rattle.fish_script.specs.Limits.{most_lanes}
-use Rattle.fish_script.specs.Places.{Fits, Stands, place_after}
+use Rattle.fish_script.specs.Positions.{Fits, Stands, position_after}
 use Rattle.fish_script.specs.Script.{AreBlocks, Reads, is_feed}
 use Rattle.fish_script.specs.declared.builder.ScriptBuilder.{ScriptBuilder}
-use Rattle.fish_script.specs.declared.builder.Place.{Place}
-use Rattle.fish_script.specs.declared.builder.Place.TheVariants.{Outside, Inside}
+use Rattle.fish_script.specs.declared.builder.Position.{Position}
+use Rattle.fish_script.specs.declared.builder.Position.TheVariants.{Outside, Inside}
 use Rattle.fish_script.specs.declared.script.Block.{Block}
 use Rattle.fish_script.specs.declared.script.Statement.{Statement}
 use Rattle.fish_script.specs.declared.script_line.StatementLine.{StatementLine}
@@ -19,46 +19,46 @@ use Rattle.fish_script.proofs.Writing.{place_statement, written_alone, written_e
 use Rattle.fish_script.proofs.Writing.{written_next, written_statement}
 
 -- what is to be shown of one line more
-pub built_next : (ws : List ScriptLine) (w : ScriptLine) (old new : ScriptBuilder) → HasBuilt ws old → Stands old.place w
-    → new.place ≡ place_after old.place w → IsWritten (ws ++ w ∷ []) new.place new.blocks new.lanes new.lane
+pub built_next : (ws : List ScriptLine) (w : ScriptLine) (old new : ScriptBuilder) → HasBuilt ws old → Stands old.position w
+    → new.position ≡ position_after old.position w → IsWritten (ws ++ w ∷ []) new.position new.blocks new.lanes new.lane
     → HasBuilt (ws ++ w ∷ []) new
-built_next ws w old new h stands place written = record {
-  place = place_push Outside ws w ∙ ap (λ (p : Place). place_after p w) h.place ∙ sym place;
-  stand = stand_push Outside ws w h.stand (subst (λ (p : Place). Stands p w) (sym h.place) stands);
+built_next ws w old new h stands position written = record {
+  position = place_push Outside ws w ∙ ap (λ (p : Position). position_after p w) h.position ∙ sym position;
+  stand = stand_push Outside ws w h.stand (subst (λ (p : Position). Stands p w) (sym h.position) stands);
   written = written;
 }
 
 -- ---- the steps of a builder
 
 -- `lanes`
-pub takes_lanes : (ws : List ScriptLine) (old : ScriptBuilder) → HasBuilt ws old → old.place ≡ Outside
-    → HasBuilt (ws ++ said.Lanes ∷ []) (record old { place = Inside 0 0 })
+pub takes_lanes : (ws : List ScriptLine) (old : ScriptBuilder) → HasBuilt ws old → old.position ≡ Outside
+    → HasBuilt (ws ++ said.Lanes ∷ []) (record old { position = Inside 0 0 })
 takes_lanes ws old h is =
-    built_next ws said.Lanes old (record old { place = Inside 0 0 }) h
-    (subst (λ (p : Place). Stands p said.Lanes) (sym is) (λ no. no, tt)) refl
+    built_next ws said.Lanes old (record old { position = Inside 0 0 }) h
+    (subst (λ (p : Position). Stands p said.Lanes) (sym is) (λ no. no, tt)) refl
     (written_lanes ws old.blocks old.lanes old.lane
-    (subst (λ (p : Place). IsWritten ws p old.blocks old.lanes old.lane) is h.written))
+    (subst (λ (p : Position). IsWritten ws p old.blocks old.lanes old.lane) is h.written))
 
 -- the first `lane`
-pub takes_first : (ws : List ScriptLine) (old : ScriptBuilder) (feeds : ℕ) → HasBuilt ws old → old.place ≡ Inside 0 feeds
-    → HasBuilt (ws ++ said.Lane ∷ []) (record old { place = Inside 1 feeds })
+pub takes_first : (ws : List ScriptLine) (old : ScriptBuilder) (feeds : ℕ) → HasBuilt ws old → old.position ≡ Inside 0 feeds
+    → HasBuilt (ws ++ said.Lane ∷ []) (record old { position = Inside 1 feeds })
 takes_first ws old feeds h is =
-    built_next ws said.Lane old (record old { place = Inside 1 feeds }) h
-    (subst (λ (p : Place). Stands p said.Lane) (sym is) (λ no. no, omega arith))
-    (ap (λ (p : Place). place_after p said.Lane) (sym is))
+    built_next ws said.Lane old (record old { position = Inside 1 feeds }) h
+    (subst (λ (p : Position). Stands p said.Lane) (sym is) (λ no. no, omega arith))
+    (ap (λ (p : Position). position_after p said.Lane) (sym is))
     (written_first ws feeds old.blocks old.lanes old.lane
-    (subst (λ (p : Place). IsWritten ws p old.blocks old.lanes old.lane) is h.written))
+    (subst (λ (p : Position). IsWritten ws p old.blocks old.lanes old.lane) is h.written))
 
 -- a later `lane`
-pub takes_next : (ws : List ScriptLine) (old new : ScriptBuilder) (begun feeds : ℕ) → HasBuilt ws old → old.place ≡ Inside begun feeds
-    → 1 ≤ begun → begun < most_lanes → new.place ≡ Inside (begun + 1) feeds → new.blocks ≡ old.blocks
+pub takes_next : (ws : List ScriptLine) (old new : ScriptBuilder) (begun feeds : ℕ) → HasBuilt ws old → old.position ≡ Inside begun feeds
+    → 1 ≤ begun → begun < most_lanes → new.position ≡ Inside (begun + 1) feeds → new.blocks ≡ old.blocks
     → new.lanes ≡ old.lanes ++ old.lane ∷ [] → new.lane ≡ [] → HasBuilt (ws ++ said.Lane ∷ []) new
-takes_next ws old new zero feeds h is some room place blocks lanes lane = absurd (omega arith)
-takes_next ws old new (suc more) feeds h is some room place blocks lanes lane =
+takes_next ws old new zero feeds h is some room position blocks lanes lane = absurd (omega arith)
+takes_next ws old new (suc more) feeds h is some room position blocks lanes lane =
     built_next ws said.Lane old new h
-    (subst (λ (p : Place). Stands p said.Lane) (sym is) (λ no. no, room))
-    (place ∙ ap (λ (p : Place). place_after p said.Lane) (sym is))
-    (subst (λ (p : Place). IsWritten (ws ++ said.Lane ∷ []) p new.blocks new.lanes new.lane) (sym place)
+    (subst (λ (p : Position). Stands p said.Lane) (sym is) (λ no. no, room))
+    (position ∙ ap (λ (p : Position). position_after p said.Lane) (sym is))
+    (subst (λ (p : Position). IsWritten (ws ++ said.Lane ∷ []) p new.blocks new.lanes new.lane) (sym position)
     (let e : suc (suc more) ≡ suc more + 1 = omega arith in
     subst (λ (n : ℕ). IsWritten (ws ++ said.Lane ∷ []) (Inside n feeds) new.blocks new.lanes new.lane) e
     (subst (λ (z : List Block). IsWritten (ws ++ said.Lane ∷ []) (Inside (suc (suc more)) feeds) z new.lanes new.lane) (sym blocks)
@@ -67,56 +67,56 @@ takes_next ws old new (suc more) feeds h is some room place blocks lanes lane =
     (subst (λ (z : List Statement). IsWritten (ws ++ said.Lane ∷ []) (Inside (suc (suc more)) feeds) old.blocks
     (old.lanes ++ old.lane ∷ []) z) (sym lane)
     (written_next ws more feeds old.blocks old.lanes old.lane
-    (subst (λ (p : Place). IsWritten ws p old.blocks old.lanes old.lane) is h.written) room))))))
+    (subst (λ (p : Position). IsWritten ws p old.blocks old.lanes old.lane) is h.written) room))))))
 
 -- `end`
-pub takes_end : (ws : List ScriptLine) (old new : ScriptBuilder) (begun feeds : ℕ) → HasBuilt ws old → old.place ≡ Inside begun feeds
-    → 1 ≤ begun → new.place ≡ Outside
+pub takes_end : (ws : List ScriptLine) (old new : ScriptBuilder) (begun feeds : ℕ) → HasBuilt ws old → old.position ≡ Inside begun feeds
+    → 1 ≤ begun → new.position ≡ Outside
     → new.blocks ≡ old.blocks ++ record { several = true; lanes = old.lanes ++ old.lane ∷ [] } ∷ []
     → new.lanes ≡ [] → new.lane ≡ [] → HasBuilt (ws ++ said.End ∷ []) new
-takes_end ws old new zero feeds h is some place blocks lanes lane = absurd (omega arith)
-takes_end ws old new (suc more) feeds h is some place blocks lanes lane =
+takes_end ws old new zero feeds h is some position blocks lanes lane = absurd (omega arith)
+takes_end ws old new (suc more) feeds h is some position blocks lanes lane =
     built_next ws said.End old new h
-    (subst (λ (p : Place). Stands p said.End) (sym is) (λ no. omega arith, tt))
-    (place ∙ ap (λ (p : Place). place_after p said.End) (sym is))
-    (subst (λ (p : Place). IsWritten (ws ++ said.End ∷ []) p new.blocks new.lanes new.lane) (sym place) (
+    (subst (λ (p : Position). Stands p said.End) (sym is) (λ no. omega arith, tt))
+    (position ∙ ap (λ (p : Position). position_after p said.End) (sym is))
+    (subst (λ (p : Position). IsWritten (ws ++ said.End ∷ []) p new.blocks new.lanes new.lane) (sym position) (
       subst (λ (z : List Block). AreBlocks (ws ++ said.End ∷ []) z) (sym blocks)
           (written_end ws more feeds old.blocks old.lanes old.lane
-          (subst (λ (p : Place). IsWritten ws p old.blocks old.lanes old.lane) is h.written)),
+          (subst (λ (p : Position). IsWritten ws p old.blocks old.lanes old.lane) is h.written)),
       lanes,
       lane,
     ))
 
 -- a statement
 pub takes_statement : (ws : List ScriptLine) (old new : ScriptBuilder) (w : StatementLine) (s : Statement) → HasBuilt ws old
-    → ¬ IsInFront old.place → Reads w s → Fits old.place s → Pushes old.place s old new
+    → ¬ IsInFront old.position → Reads w s → Fits old.position s → Pushes old.position s old new
     → HasBuilt (ws ++ said.Statement w ∷ []) new
-takes_statement ws old new w s h ahead reads fits pushes = at old.place refl
+takes_statement ws old new w s h ahead reads fits pushes = at old.position refl
   where
-    at : (p : Place) → old.place ≡ p → HasBuilt (ws ++ said.Statement w ∷ []) new
+    at : (p : Position) → old.position ≡ p → HasBuilt (ws ++ said.Statement w ∷ []) new
     at Outside is =
         let e : new ≡ record old { blocks = old.blocks ++ record { several = false; lanes = (s ∷ []) ∷ [] } ∷ [] } =
-        subst (λ (p : Place). Pushes p s old new) is pushes in
+        subst (λ (p : Position). Pushes p s old new) is pushes in
         let was : IsWritten ws Outside old.blocks old.lanes old.lane =
-        subst (λ (p : Place). IsWritten ws p old.blocks old.lanes old.lane) is h.written in
+        subst (λ (p : Position). IsWritten ws p old.blocks old.lanes old.lane) is h.written in
         subst (λ (d : ScriptBuilder). HasBuilt (ws ++ said.Statement w ∷ []) d) (sym e)
         (built_next ws (said.Statement w) old
         (record old { blocks = old.blocks ++ record { several = false; lanes = (s ∷ []) ∷ [] } ∷ [] }) h
-        (subst (λ (p : Place). Stands p (said.Statement w)) (sym is) (λ no. no, (s, reads, tt)))
-        (is ∙ ap (λ (p : Place). place_after p (said.Statement w)) (sym is))
-        (subst (λ (p : Place). IsWritten (ws ++ said.Statement w ∷ []) p
+        (subst (λ (p : Position). Stands p (said.Statement w)) (sym is) (λ no. no, (s, reads, tt)))
+        (is ∙ ap (λ (p : Position). position_after p (said.Statement w)) (sym is))
+        (subst (λ (p : Position). IsWritten (ws ++ said.Statement w ∷ []) p
         (old.blocks ++ record { several = false; lanes = (s ∷ []) ∷ [] } ∷ []) old.lanes old.lane) (sym is)
         (written_alone ws old.blocks w s was.0 reads, was.1, was.2)))
     at (Inside begun feeds) is =
-        let e : new ≡ record old { lane = old.lane ++ s ∷ []; place = Inside begun (if is_feed s then feeds + 1 else feeds) } =
-        subst (λ (p : Place). Pushes p s old new) is pushes in
+        let e : new ≡ record old { lane = old.lane ++ s ∷ []; position = Inside begun (if is_feed s then feeds + 1 else feeds) } =
+        subst (λ (p : Position). Pushes p s old new) is pushes in
         let was : IsWritten ws (Inside begun feeds) old.blocks old.lanes old.lane =
-        subst (λ (p : Place). IsWritten ws p old.blocks old.lanes old.lane) is h.written in
-        let kept : Fits (Inside begun feeds) s = subst (λ (p : Place). Fits p s) is fits in
-        let some : ¬ (begun ≡ 0) = subst (λ (p : Place). ¬ IsInFront p) is ahead in
+        subst (λ (p : Position). IsWritten ws p old.blocks old.lanes old.lane) is h.written in
+        let kept : Fits (Inside begun feeds) s = subst (λ (p : Position). Fits p s) is fits in
+        let some : ¬ (begun ≡ 0) = subst (λ (p : Position). ¬ IsInFront p) is ahead in
         subst (λ (d : ScriptBuilder). HasBuilt (ws ++ said.Statement w ∷ []) d) (sym e)
         (built_next ws (said.Statement w) old
-        (record old { lane = old.lane ++ s ∷ []; place = Inside begun (if is_feed s then feeds + 1 else feeds) }) h
-        (subst (λ (p : Place). Stands p (said.Statement w)) (sym is) (some, (s, reads, kept)))
-        (place_statement begun feeds w s reads ∙ ap (λ (p : Place). place_after p (said.Statement w)) (sym is))
+        (record old { lane = old.lane ++ s ∷ []; position = Inside begun (if is_feed s then feeds + 1 else feeds) }) h
+        (subst (λ (p : Position). Stands p (said.Statement w)) (sym is) (some, (s, reads, kept)))
+        (place_statement begun feeds w s reads ∙ ap (λ (p : Position). position_after p (said.Statement w)) (sym is))
         (written_statement ws begun feeds old.blocks old.lanes old.lane w s was (omega arith) reads kept))

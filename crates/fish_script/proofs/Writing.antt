@@ -7,9 +7,9 @@ use Rattle.fish_script.proofs.Appending.{blocks_push, feeds_push, lanes_push, ot
 use Rattle.fish_script.proofs.Appending.{read_push}
 use Rattle.fish_script.specs.Building.{IsBegun, IsWritten}
 use Rattle.fish_script.specs.Limits.{most_feeds, most_lanes}
-use Rattle.fish_script.specs.Places.{Fits, place_after, with_feed}
+use Rattle.fish_script.specs.Positions.{Fits, position_after, with_feed}
 use Rattle.fish_script.specs.Script.{AreBlocks, AreLanes, Reads, feeds_of, is_feed}
-use Rattle.fish_script.specs.declared.builder.Place.TheVariants.{Outside, Inside}
+use Rattle.fish_script.specs.declared.builder.Position.TheVariants.{Outside, Inside}
 use Rattle.fish_script.specs.declared.script.Block.{Block}
 use Rattle.fish_script.specs.declared.script.Statement.{Statement}
 use Rattle.fish_script.specs.declared.script_line.StatementLine.{StatementLine}
@@ -170,5 +170,5 @@ feed_read feeds word.Checkpoint s reads = let e : is_feed s ≡ false = ap is_fe
 
 -- where the line behind a statement stands
 pub place_statement : (begun feeds : ℕ) (w : StatementLine) (s : Statement) → Reads w s
-    → Inside begun (if is_feed s then feeds + 1 else feeds) ≡ place_after (Inside begun feeds) (said.Statement w)
+    → Inside begun (if is_feed s then feeds + 1 else feeds) ≡ position_after (Inside begun feeds) (said.Statement w)
 place_statement begun feeds w s reads = ap (λ (n : ℕ). Inside begun n) (feed_read feeds w s reads)

@@ -2,12 +2,12 @@
 use Rattle.std.specs.Prelude.{◌≡◌, ℕ, zero, suc, ◌+◌, ◌≤◌, List, [], ◌∷◌, ◌++◌, false, count_by, length, if◌then◌else◌}
 use Rattle.fish_script.specs.Limits.{most_feeds, most_lanes}
 use Rattle.fish_script.specs.Lines.{lines}
-use Rattle.fish_script.specs.Places.{AllStand, place_of}
+use Rattle.fish_script.specs.Positions.{AllStand, position_of}
 use Rattle.fish_script.specs.Refusals.{AllSay, HasFault, IsFeedTooMany, IsLate, Says}
 use Rattle.fish_script.specs.Script.{AreBlocks, AreLanes, AreRead, OthersFree, feeds_of, is_feed}
 use Rattle.fish_script.specs.declared.builder.ScriptBuilder.{ScriptBuilder}
-use Rattle.fish_script.specs.declared.builder.Place.{Place}
-use Rattle.fish_script.specs.declared.builder.Place.TheVariants.{Outside, Inside}
+use Rattle.fish_script.specs.declared.builder.Position.{Position}
+use Rattle.fish_script.specs.declared.builder.Position.TheVariants.{Outside, Inside}
 use Rattle.fish_script.specs.declared.refusal.ScriptRefusal.{ScriptRefusal}
 use Rattle.fish_script.specs.declared.refusal.ScriptRefusal.TheVariants as refusal
 use Rattle.fish_script.specs.declared.script.Block.{Block}
@@ -36,16 +36,16 @@ IsOpen ws zero feeds lanes lane = (ws ≡ []) × (feeds ≡ 0) × (lanes ≡ [])
 IsOpen ws (suc more) feeds lanes lane = IsBegun ws more feeds lanes lane
 
 -- the lines are those of the blocks, and of the open one
-abbrev pub IsWritten : List ScriptLine → Place → List Block → List (List Statement) → List Statement → Type 0
+abbrev pub IsWritten : List ScriptLine → Position → List Block → List (List Statement) → List Statement → Type 0
 IsWritten ws Outside blocks lanes lane = AreBlocks ws blocks × (lanes ≡ []) × (lane ≡ [])
 IsWritten ws (Inside begun feeds) blocks lanes lane = (front : List ScriptLine) × (inside : List ScriptLine)
     × (ws ≡ front ++ said.Lanes ∷ inside) × AreBlocks front blocks × IsOpen inside begun feeds lanes lane
 
 -- the builder is that of these lines, which are all in order
 pub record HasBuilt (ws : List ScriptLine) (d : ScriptBuilder) : Type 0 where
-  pub place : place_of ws ≡ d.place
+  pub position : position_of ws ≡ d.position
   pub stand : AllStand Outside ws
-  pub written : IsWritten ws d.place d.blocks d.lanes d.lane
+  pub written : IsWritten ws d.position d.blocks d.lanes d.lane
 
 -- one line more
 abbrev pub Takes : ScriptLine → ScriptBuilder → ScriptBuilder → Type 0
@@ -62,25 +62,25 @@ UnlessMemory P refusal.OutOfMemory = Unit {0}
 UnlessMemory P e = P e
 
 -- the statement came behind the others
-abbrev pub Pushes : Place → Statement → ScriptBuilder → ScriptBuilder → Type 0
+abbrev pub Pushes : Position → Statement → ScriptBuilder → ScriptBuilder → Type 0
 Pushes Outside s old new =
     new ≡ record old { blocks = old.blocks ++ record { several = false; lanes = (s ∷ []) ∷ [] } ∷ [] }
 Pushes (Inside lanes feeds) s old new =
-    new ≡ record old { lane = old.lane ++ s ∷ []; place = Inside lanes (if is_feed s then feeds + 1 else feeds) }
+    new ≡ record old { lane = old.lane ++ s ∷ []; position = Inside lanes (if is_feed s then feeds + 1 else feeds) }
 
 -- the statement passes a limit there
-abbrev pub IsPast : Place → Statement → ℕ → ScriptRefusal → Type 0
+abbrev pub IsPast : Position → Statement → ℕ → ScriptRefusal → Type 0
 IsPast p s n (refusal.ControlInLane line) = (line ≡ n) × IsLate p s
 IsPast p s n (refusal.TooManyFeeds line) = (line ≡ n) × (¬ IsLate p s) × IsFeedTooMany p s
 IsPast p s n e = ⊥
 
 -- it is in a block
-abbrev pub IsInside : Place → Type 0
+abbrev pub IsInside : Position → Type 0
 IsInside Outside = ⊥
 IsInside (Inside lanes feeds) = Unit {0}
 
 -- it is in a block, in front of its first lane
-abbrev pub IsInFront : Place → Type 0
+abbrev pub IsInFront : Position → Type 0
 IsInFront Outside = ⊥
 IsInFront (Inside lanes feeds) = lanes ≡ 0
 

@@ -29,7 +29,7 @@ IsAlike (does.Scan name value from to by) t = t ≡ does.Scan name value from to
 IsAlike (does.Explain name value from to by) t = t ≡ does.Explain name value from to by
 IsAlike does.Checkpoint t = t ≡ does.Checkpoint
 
--- the lists are as long, and each two elements at one place are so to each other
+-- the lists are as long, and each two elements at one position are so to each other
 abbrev pub Pairs : {A : Type 0} → (A → A → Type 0) → List A → List A → Type 0
 Pairs R [] [] = Unit {0}
 Pairs R [] (y ∷ ys) = ⊥

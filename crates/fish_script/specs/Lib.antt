@@ -2,7 +2,7 @@ pub mod Building
 pub mod Laws
 pub mod Limits
 pub mod Lines
-pub mod Places
+pub mod Positions
 pub mod RefusalText
 pub mod Refusals
 pub mod Runnable

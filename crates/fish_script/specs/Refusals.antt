@@ -5,12 +5,12 @@ use Rattle.fish_lang.specs.Language.{IsOutcome}
 use Rattle.fish_lang.specs.declared.parse.LangRefusal.{LangRefusal}
 use Rattle.fish_script.specs.Limits.{longest_script, most_feeds, most_lanes}
 use Rattle.fish_script.specs.Lines.{lines}
-use Rattle.fish_script.specs.Places.{AllStand, IsMisplaced, place_of}
+use Rattle.fish_script.specs.Positions.{AllStand, IsMisplaced, position_of}
 use Rattle.fish_script.specs.Script.{AreBlocks, Reads, is_control, is_feed}
 use Rattle.fish_script.specs.ScriptLine.{script_line_of}
 use Rattle.fish_script.specs.Words.{is_skipped}
-use Rattle.fish_script.specs.declared.builder.Place.{Place}
-use Rattle.fish_script.specs.declared.builder.Place.TheVariants.{Outside, Inside}
+use Rattle.fish_script.specs.declared.builder.Position.{Position}
+use Rattle.fish_script.specs.declared.builder.Position.TheVariants.{Outside, Inside}
 use Rattle.fish_script.specs.declared.refusal.ScriptRefusal.{ScriptRefusal}
 use Rattle.fish_script.specs.declared.refusal.ScriptRefusal.TheVariants as refusal
 use Rattle.fish_script.specs.declared.script.Block.{Block}
@@ -41,22 +41,22 @@ HasFault (word.Register name source) why = IsOutcome source (Err why)
 HasFault w why = ⊥
 
 -- the statement is for the first lane alone, and this is another one
-abbrev pub IsLate : Place → Statement → Type 0
+abbrev pub IsLate : Position → Statement → Type 0
 IsLate Outside s = ⊥
 IsLate (Inside lanes feeds) s = (1 < lanes) × (is_control s ≡ true)
 
 -- the statement stores one file more than a block may
-abbrev pub IsFeedTooMany : Place → Statement → Type 0
+abbrev pub IsFeedTooMany : Position → Statement → Type 0
 IsFeedTooMany Outside s = ⊥
 IsFeedTooMany (Inside lanes feeds) s = (most_feeds ≤ feeds) × (is_feed s ≡ true)
 
 -- there is one lane more than a block may have
-abbrev pub IsLaneTooMany : Place → ScriptLine → Type 0
+abbrev pub IsLaneTooMany : Position → ScriptLine → Type 0
 IsLaneTooMany (Inside lanes feeds) said.Lane = most_lanes ≤ lanes
 IsLaneTooMany p l = ⊥
 
--- the line n, which says this at this place, is refused for this
-abbrev pub IsFault : Place → ScriptLine → ℕ → ScriptRefusal → Type 0
+-- the line n, which says this at this position, is refused for this
+abbrev pub IsFault : Position → ScriptLine → ℕ → ScriptRefusal → Type 0
 IsFault p l n (refusal.Unexpected line) = (line ≡ n) × IsMisplaced p l
 IsFault p (said.Statement w) n (refusal.Definition line why) =
     (line ≡ n) × (¬ IsMisplaced p (said.Statement w)) × HasFault w why
@@ -67,8 +67,8 @@ IsFault p (said.Statement w) n (refusal.TooManyFeeds line) =
 IsFault p l n (refusal.TooManyLanes line) = (line ≡ n) × IsLaneTooMany p l
 IsFault p l n e = ⊥
 
--- the line n, of these bytes at this place, is refused for this
-abbrev pub IsLineFault : Place → List ℕ → ℕ → ScriptRefusal → Type 0
+-- the line n, of these bytes at this position, is refused for this
+abbrev pub IsLineFault : Position → List ℕ → ℕ → ScriptRefusal → Type 0
 IsLineFault p b n (refusal.NotText line) = (line ≡ n) × (is_skipped b ≡ false) × ¬ IsUtf8 b
 IsLineFault p b n e = (is_skipped b ≡ false) × IsUtf8 b
     × (((script_line_of b ≡ None) × (e ≡ refusal.Unexpected n))
@@ -86,7 +86,7 @@ pub record StopsAt (text : List ℕ) (e : ScriptRefusal) : Type 0 where
   pub ahead : List ScriptLine
   pub say : AllSay before ahead
   pub stand : AllStand Outside ahead
-  pub fault : IsLineFault (place_of ahead) line (suc (length before)) e
+  pub fault : IsLineFault (position_of ahead) line (suc (length before)) e
 
 -- each line is in order, and the text ends within a block
 pub record StopsAtEnd (text : List ℕ) (e : ScriptRefusal) : Type 0 where
@@ -95,7 +95,7 @@ pub record StopsAtEnd (text : List ℕ) (e : ScriptRefusal) : Type 0 where
   pub stand : AllStand Outside ws
   pub lanes : ℕ
   pub feeds : ℕ
-  pub within : place_of ws ≡ Inside lanes feeds
+  pub within : position_of ws ≡ Inside lanes feeds
   pub fault : e ≡ refusal.Unexpected (suc (length (lines text)))
 
 -- the text is this script

@@ -4,7 +4,7 @@
 ghost use Rattle.std.specs.Prelude.{◌≡◌, ◌↔◌, ◌<◌, ◌++◌, ◌∷◌, [], IfErr, IfOk, IsTrue, MatchOption, OnOk, true, false};
 ghost use Rattle.fish_script.specs.Building.{IsInFront, IsInside, IsNoDefinition, IsPast, UnlessMemory};
 ghost use Rattle.fish_script.specs.Limits.{most_lanes};
-ghost use Rattle.fish_script.specs.Places.{Fits};
+ghost use Rattle.fish_script.specs.Positions.{Fits};
 ghost use Rattle.fish_script.specs.Script.{Reads, is_control, is_feed};
 ghost use Rattle.fish_script.specs.declared.script_line.StatementLine.TheVariants as word;
 
@@ -19,7 +19,7 @@ use std::mem;
 
 /// Where the next line stands.
 #[derive(Clone, Copy)]
-pub enum Place {
+pub enum Position {
     /// In no block of several lanes.
     Outside,
     /// In one.
@@ -35,7 +35,7 @@ pub enum Place {
 #[derive(Drop)]
 pub struct ScriptBuilder {
     alloc: Global,
-    place: Place,
+    position: Position,
     blocks: Script,
     /// The lanes of the open block that have ended.
     lanes: LaneTexts,
@@ -46,7 +46,7 @@ pub struct ScriptBuilder {
 impl ScriptBuilder {
     ghost use Rattle.fish_script.specs.Building.{HasBuilt, Pushes, Takes, TakesLine};
     ghost use Rattle.fish_script.specs.Refusals.{IsFault, IsLineFault};
-    ghost use Rattle.fish_script.specs.declared.builder.Place.TheVariants.{Inside, Outside};
+    ghost use Rattle.fish_script.specs.declared.builder.Position.TheVariants.{Inside, Outside};
     ghost use Rattle.fish_script.specs.declared.script_line.ScriptLine.TheVariants as said;
 
     /// No line. Takes no memory.
@@ -55,7 +55,7 @@ impl ScriptBuilder {
     {
         ScriptBuilder {
             alloc,
-            place: Place::Outside,
+            position: Position::Outside,
             blocks: Script::new(alloc),
             lanes: LaneTexts::new(alloc),
             lane: Statements::new(alloc),
@@ -65,7 +65,7 @@ impl ScriptBuilder {
     /// Takes the line with a number.
     pub fn take_line(&mut self, number: u64, line: &[u8]) -> Result<(), ScriptRefusal>
         ensures taken { OnOk result (TakesLine line.now self.old self.new) }
-        ensures refused { IfErr result (UnlessMemory (IsLineFault self.old.place line.now number)) }
+        ensures refused { IfErr result (UnlessMemory (IsLineFault self.old.position line.now number)) }
     {
         if is_skipped(line) {
             return Ok(());
@@ -82,7 +82,7 @@ impl ScriptBuilder {
     /// Takes what the line says.
     fn take(&mut self, number: u64, said: ScriptLine) -> Result<(), ScriptRefusal>
         ensures taken { OnOk result (Takes said self.old self.new) }
-        ensures refused { IfErr result (UnlessMemory (IsFault self.old.place said number)) }
+        ensures refused { IfErr result (UnlessMemory (IsFault self.old.position said number)) }
     {
         match said {
             ScriptLine::Lanes => self.open_block(number),
@@ -95,23 +95,23 @@ impl ScriptBuilder {
     /// `lanes`
     fn open_block(&mut self, number: u64) -> Result<(), ScriptRefusal>
         ensures taken { OnOk result (Takes said.Lanes self.old self.new) }
-        ensures refused { IfErr result (UnlessMemory (IsFault self.old.place said.Lanes number)) }
+        ensures refused { IfErr result (UnlessMemory (IsFault self.old.position said.Lanes number)) }
     {
-        match self.place {
-            Place::Outside => {
-                self.place = Place::Inside { lanes: 0, feeds: 0 };
+        match self.position {
+            Position::Outside => {
+                self.position = Position::Inside { lanes: 0, feeds: 0 };
                 Ok(())
             }
-            Place::Inside { .. } => Err(ScriptRefusal::Unexpected { line: number }),
+            Position::Inside { .. } => Err(ScriptRefusal::Unexpected { line: number }),
         }
     }
 
     /// `lane`
     fn begin_lane(&mut self, number: u64) -> Result<(), ScriptRefusal>
         ensures taken { OnOk result (Takes said.Lane self.old self.new) }
-        ensures refused { IfErr result (UnlessMemory (IsFault self.old.place said.Lane number)) }
+        ensures refused { IfErr result (UnlessMemory (IsFault self.old.position said.Lane number)) }
     {
-        let Place::Inside { lanes, feeds } = self.place else {
+        let Position::Inside { lanes, feeds } = self.position else {
             return Err(ScriptRefusal::Unexpected { line: number });
         };
         if lanes >= MAX_LANES {
@@ -122,16 +122,16 @@ impl ScriptBuilder {
 
     /// One lane more, of a block with so many.
     fn next_lane(&mut self, lanes: usize, feeds: usize) -> Result<(), AllocError>
-        requires place { self.old.place ≡ Inside lanes feeds }
+        requires position { self.old.position ≡ Inside lanes feeds }
         requires room { lanes < most_lanes }
         ensures { OnOk result (Takes said.Lane self.old self.new) }
     {
         if lanes == 0 {
-            self.place = Place::Inside { lanes: 1, feeds };
+            self.position = Position::Inside { lanes: 1, feeds };
             return Ok(());
         }
         self.end_lane()?;
-        self.place = Place::Inside {
+        self.position = Position::Inside {
             lanes: lanes + 1,
             feeds,
         };
@@ -141,10 +141,10 @@ impl ScriptBuilder {
     /// `end`
     fn end_block(&mut self, number: u64) -> Result<(), ScriptRefusal>
         ensures taken { OnOk result (Takes said.End self.old self.new) }
-        ensures refused { IfErr result (UnlessMemory (IsFault self.old.place said.End number)) }
+        ensures refused { IfErr result (UnlessMemory (IsFault self.old.position said.End number)) }
     {
-        match self.place {
-            Place::Inside { lanes, .. } if lanes > 0 => Ok(self.close_block()?),
+        match self.position {
+            Position::Inside { lanes, .. } if lanes > 0 => Ok(self.close_block()?),
             _ => Err(ScriptRefusal::Unexpected { line: number }),
         }
     }
@@ -154,7 +154,7 @@ impl ScriptBuilder {
         ensures lanes { OnOk result (self.new.lanes ≡ self.old.lanes ++ self.old.lane ∷ []) }
         ensures lane { OnOk result (self.new.lane ≡ []) }
         ensures blocks { self.new.blocks ≡ self.old.blocks }
-        ensures place { self.new.place ≡ self.old.place }
+        ensures position { self.new.position ≡ self.old.position }
     {
         let lane = mem::replace(&mut self.lane, Statements::new(self.alloc));
         self.lanes.push(lane)
@@ -166,11 +166,11 @@ impl ScriptBuilder {
             ≡ self.old.blocks ++ record { several = true; lanes = self.old.lanes ++ self.old.lane ∷ [] } ∷ []) }
         ensures lanes { OnOk result (self.new.lanes ≡ []) }
         ensures lane { OnOk result (self.new.lane ≡ []) }
-        ensures place { OnOk result (self.new.place ≡ Outside) }
+        ensures position { OnOk result (self.new.position ≡ Outside) }
     {
         self.end_lane()?;
         let lanes = mem::replace(&mut self.lanes, LaneTexts::new(self.alloc));
-        self.place = Place::Outside;
+        self.position = Position::Outside;
         self.blocks.push(Block {
             several: true,
             lanes,
@@ -184,14 +184,15 @@ impl ScriptBuilder {
         statement_line: StatementLine,
     ) -> Result<(), ScriptRefusal>
         ensures taken { OnOk result (Takes (said.Statement statement_line) self.old self.new) }
-        ensures refused { IfErr result (UnlessMemory (IsFault self.old.place (said.Statement statement_line) number)) }
+        ensures refused { IfErr result
+            (UnlessMemory (IsFault self.old.position (said.Statement statement_line) number)) }
     {
-        if is_in_front(self.place) {
+        if is_in_front(self.position) {
             drop(statement_line);
             return Err(ScriptRefusal::Unexpected { line: number });
         }
         let statement = read_statement(self.alloc, number, statement_line)?;
-        if let Some(refusal) = past_limit(self.place, &statement, number) {
+        if let Some(refusal) = past_limit(self.position, &statement, number) {
             drop(statement);
             return Err(refusal);
         }
@@ -200,10 +201,10 @@ impl ScriptBuilder {
 
     /// Puts a statement behind the others: as a block by itself, or in the lane that has begun.
     fn push(&mut self, statement: Statement) -> Result<(), AllocError>
-        requires { Fits self.old.place statement }
-        ensures { OnOk result (Pushes self.old.place statement self.old self.new) }
+        requires { Fits self.old.position statement }
+        ensures { OnOk result (Pushes self.old.position statement self.old self.new) }
     {
-        let Place::Inside { lanes, feeds } = self.place else {
+        let Position::Inside { lanes, feeds } = self.position else {
             return self.push_alone(statement);
         };
         let feeds = if is_feed(&statement) {
@@ -212,7 +213,7 @@ impl ScriptBuilder {
             feeds
         };
         self.lane.push(statement)?;
-        self.place = Place::Inside { lanes, feeds };
+        self.position = Position::Inside { lanes, feeds };
         Ok(())
     }
 
@@ -230,12 +231,12 @@ impl ScriptBuilder {
 
     /// Ends the text, which has one line less.
     pub fn finish(&self, number: u64) -> Result<(), ScriptRefusal>
-        ensures outside { OnOk result (self.now.place ≡ Outside) }
-        ensures inside { IfErr result (λ e. IsInside self.now.place × (e ≡ ScriptRefusal.Unexpected number)) }
+        ensures outside { OnOk result (self.now.position ≡ Outside) }
+        ensures inside { IfErr result (λ e. IsInside self.now.position × (e ≡ ScriptRefusal.Unexpected number)) }
     {
-        match self.place {
-            Place::Outside => Ok(()),
-            Place::Inside { .. } => Err(ScriptRefusal::Unexpected { line: number }),
+        match self.position {
+            Position::Outside => Ok(()),
+            Position::Inside { .. } => Err(ScriptRefusal::Unexpected { line: number }),
         }
     }
 
@@ -245,7 +246,7 @@ impl ScriptBuilder {
     {
         let ScriptBuilder {
             alloc: _,
-            place: _,
+            position: _,
             blocks,
             lanes,
             lane,
@@ -256,20 +257,20 @@ impl ScriptBuilder {
 }
 
 /// Whether the next line stands in front of the first lane of a block.
-fn is_in_front(place: Place) -> bool
-    ensures { IsTrue result ↔ IsInFront place }
+fn is_in_front(position: Position) -> bool
+    ensures { IsTrue result ↔ IsInFront position }
 {
-    match place {
-        Place::Outside => false,
-        Place::Inside { lanes, .. } => lanes == 0,
+    match position {
+        Position::Outside => false,
+        Position::Inside { lanes, .. } => lanes == 0,
     }
 }
 
-/// The limit that a statement passes in its place.
-fn past_limit(place: Place, statement: &Statement, number: u64) -> Option<ScriptRefusal>
-    ensures { MatchOption result (Fits place statement.now) (IsPast place statement.now number) }
+/// The limit that a statement passes in its position.
+fn past_limit(position: Position, statement: &Statement, number: u64) -> Option<ScriptRefusal>
+    ensures { MatchOption result (Fits position statement.now) (IsPast position statement.now number) }
 {
-    let Place::Inside { lanes, feeds } = place else {
+    let Position::Inside { lanes, feeds } = position else {
         return None;
     };
     if lanes > 1 && is_control(statement) {

@@ -6,7 +6,7 @@ use Rattle.fish_disk.specs.Content.{HasWritten, part}
 use Rattle.fish_disk.specs.Crash.{LeavesOnly, Torn, TornFrom}
 use Rattle.fish_disk.proofs.Moments.{leaves_each}
 use Rattle.fish_disk.proofs.Regions.{put_within, told_at, torn_apart, torn_same}
-use Rattle.fish_slots.specs.Places.{body_at, body_bytes, gate_at, lines_at}
+use Rattle.fish_slots.specs.Offsets.{body_at, body_bytes, gate_at, lines_at}
 use Rattle.fish_slots.specs.Slots.{GatesAreSynced, IsOpen, SameSlot, body_of, line_count}
 
 -- what holds anyway holds where a call succeeds

@@ -4,7 +4,7 @@ use Rattle.std.specs.Prelude.{◌↔◌, Option, Some, None, IfSome, IsTrue}
 use Rattle.std.proofs.lemmas.Bool.Decides.{nat_tests}
 use Rattle.std.proofs.lemmas.List.{drop_all}
 use Rattle.fish_disk.specs.Content.{Gave, part}
-use Rattle.fish_slots.specs.Places.{gate_at}
+use Rattle.fish_slots.specs.Offsets.{gate_at}
 use Rattle.fish_slots.specs.Slots.{IsOpen}
 
 -- a test for 1 that holds tells that it is 1

@@ -1,3 +1,3 @@
 pub mod Commits
-pub mod Places
+pub mod Offsets
 pub mod Slots

@@ -2,7 +2,7 @@
 use Rattle.std.specs.Prelude.{◌≡◌, ℕ, ◌*◌, ◌-◌, ◌≤◌, List, [], ◌∷◌, drop}
 use Rattle.byteorder.specs.Endian.{little_number}
 use Rattle.fish_disk.specs.Content.{part}
-use Rattle.fish_slots.specs.Places.{body_at, body_bytes, gate_at, lines_at}
+use Rattle.fish_slots.specs.Offsets.{body_at, body_bytes, gate_at, lines_at}
 
 -- the gate of the slot is open: its byte is there, and is 1
 abbrev pub IsOpen : ℕ → List ℕ → Type 0

@@ -5,8 +5,8 @@
 //! that stands open has a synced body and synced lines.
 #![tactic(auto)]
 
-mod place;
+mod offsets;
 mod slot;
 
-pub use place::SLOT_BYTES;
+pub use offsets::SLOT_BYTES;
 pub use slot::{Gates, begin, best, close_old, open_gate, seal, switch};

@@ -6,10 +6,10 @@ ghost use Rattle.std.specs.Prelude.{◌≡◌, ◌≤◌, ◌+◌, ◌-◌, ◌�
 ghost use Rattle.fish_outside.specs.Causes.{HasCause};
 ghost use Rattle.fish_disk.specs.Content.{StillReads, WrittenThrough};
 ghost use Rattle.fish_disk.specs.Crash.{LeavesOnly, TornFrom};
-ghost use Rattle.fish_slots.specs.Places.{body_at, body_bytes, gate_at};
+ghost use Rattle.fish_slots.specs.Offsets.{body_at, body_bytes, gate_at};
 ghost use Rattle.fish_slots.specs.Slots.{GatesAreSynced, IsAlone, IsOpen, SameSlot, body_of};
 
-use crate::place::{body_place, gate_place};
+use crate::offsets::{body_offset, gate_offset};
 use fish_disk::{Disk, write_synced};
 use fish_outside::Failed;
 
@@ -71,7 +71,7 @@ fn is_open<D: Disk>(disk: &mut D, slot: u8) -> Result<bool, Failed>
     ensures cause { HasCause (D.faults disk.old) (D.faults disk.new) result }
 {
     let mut gate = [CLOSED];
-    let count = disk.read(gate_place(slot), &mut gate)?;
+    let count = disk.read(gate_offset(slot), &mut gate)?;
     Ok(count == 1 && gate[0] == OPEN)
 }
 
@@ -111,7 +111,7 @@ pub fn seal<D: Disk>(disk: &mut D, slot: u8, body: &[u8]) -> Result<(), Failed>
 
     ensures cause { HasCause (D.faults disk.old) (D.faults disk.new) result }
 {
-    write_synced(disk, body_place(slot), body)
+    write_synced(disk, body_offset(slot), body)
 }
 
 /// Opens the gate of a slot whose body and lines are synced. Two calls of the disk.
@@ -131,7 +131,7 @@ pub fn open_gate<D: Disk>(disk: &mut D, slot: u8) -> Result<(), Failed>
 
     ensures cause { HasCause (D.faults disk.old) (D.faults disk.new) result }
 {
-    write_synced(disk, gate_place(slot), &[OPEN])
+    write_synced(disk, gate_offset(slot), &[OPEN])
 }
 
 /// Closes the gate of a slot that is open in every image. To close one that is closed could tear it
@@ -151,7 +151,7 @@ pub fn close_old<D: Disk>(disk: &mut D, slot: u8) -> Result<(), Failed>
 
     ensures cause { HasCause (D.faults disk.old) (D.faults disk.new) result }
 {
-    write_synced(disk, gate_place(slot), &[CLOSED])
+    write_synced(disk, gate_offset(slot), &[CLOSED])
 }
 
 /// Opens the gate of a slot whose body and lines are synced, and then closes the other one, which is

@@ -8,7 +8,7 @@ use Rattle.fish_rule.proofs.laws.Moments.{entry_word, there_is}
 use Rattle.fish_rule.proofs.laws.ClosedLogs.{always_closed, settled_within}
 use Rattle.fish_rule.proofs.laws.Learning.{learns_self}
 use Rattle.fish_rule.specs.ClosedLog.{IsClosed}
-use Rattle.fish_rule.specs.Logs.{AreTold, TellsMark}
+use Rattle.fish_rule.specs.Logs.{AreKnown, KnowsMark}
 use Rattle.fish_rule.specs.Parts.{Rests}
 use Rattle.fish_rule.specs.Regions.{code}
 use Rattle.fish_rule.specs.World.{high, low}
@@ -29,7 +29,7 @@ module _ (v : View) (remains : Remains) (c : IsClosed v remains) where
       omega arith
 
   -- nothing is left from a mark on
-  left_marked : (to : ℕ) → v.about.number ≤ to → TellsMark v to → v.about.number + length remains.log ≤ to
+  left_marked : (to : ℕ) → v.about.number ≤ to → KnowsMark v to → v.about.number + length remains.log ≤ to
   left_marked to above mark = by (dec_lt to (v.about.number + length remains.log))
     where
       by : Dec (to < v.about.number + length remains.log) → v.about.number + length remains.log ≤ to
@@ -66,11 +66,11 @@ module _ (v : View) (remains : Remains) (c : IsClosed v remains) where
   -- a log that begins with what was there before the table, and goes on as the pass was told, up to that end, is what was there before
   -- and what is left
   pub whole_log : (past : Whole) (log : List Entry) → v.about.number ≡ length past.log → take (length past.log) log ≡ past.log
-      → AreTold v v.about.number (drop v.about.number log) → length log ≡ v.about.number + length remains.log
+      → AreKnown v v.about.number (drop v.about.number log) → length log ≡ v.about.number + length remains.log
       → log ≡ past.log ++ remains.log
   whole_log past log base begins told size =
       let n : ℕ = length past.log in
-      let behind : AreTold v n (drop n log) = subst (λ (z : ℕ). AreTold v z (drop z log)) base told in
+      let behind : AreKnown v n (drop n log) = subst (λ (z : ℕ). AreKnown v z (drop z log)) base told in
       let front = told_front past v v remains (drop n log) base (learns_self v) c behind in
       let cut = length-drop n log in
       let both = ap (λ (l : List Entry). length l) front.1 ∙ length-append (drop n log) front.0 in

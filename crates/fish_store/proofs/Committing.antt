@@ -21,7 +21,7 @@ use Rattle.fish_flush.specs.declared.refusal.FlushRefusal.{FlushRefusal}
 use Rattle.fish_flush.specs.declared.refusal.FlushRefusal.TheVariants.{DiskFault, OutOfMemory}
 use Rattle.fish_image.specs.Reached.{Reached}
 use Rattle.fish_image.specs.Stands.{Stands}
-use Rattle.fish_rule.specs.Logs.{AreTold}
+use Rattle.fish_rule.specs.Logs.{AreKnown}
 use Rattle.fish_rule.specs.declared.table.Shape.{Shape}
 use Rattle.fish_rule.specs.declared.view.Key.{Key}
 use Rattle.fish_rule.specs.declared.view.View.{View}
@@ -37,7 +37,7 @@ use Rattle.fish_whole.specs.Whole.{IsKnown, IsPrefix, Whole}
 
 -- a log that begins with what was there before the table, and goes on as the pass was told, is a part of the log for good
 known_of : (past : Whole) (u : View) (log : List Entry) → take (length past.log) log ≡ past.log
-    → AreTold u (length past.log) (drop (length past.log) log) → IsKnown past u log
+    → AreKnown u (length past.log) (drop (length past.log) log) → IsKnown past u log
 known_of past u log begins told = record {
   entries = drop (length past.log) log;
   told = told;
@@ -83,7 +83,7 @@ module _
         (omega arith, omega arith)
 
     -- the last commit's entries, and others that the pass was told, are a part of the log for good
-    more_known : (more : List Entry) → AreTold q.view rest.commit.count more → IsKnown past q.view (rest.log ++ more)
+    more_known : (more : List Entry) → AreKnown q.view rest.commit.count more → IsKnown past q.view (rest.log ++ more)
     more_known more told =
         let n : ℕ = length past.log in
         let size = past_size in
@@ -93,12 +93,12 @@ module _
         let cut : drop n (rest.log ++ more) ≡ drop n rest.log ++ more = drop-append-le n rest.log more size.0 in
         let left = length-drop n rest.log in
         let place : rest.commit.count ≡ n + length (drop n rest.log) = omega arith in
-        let first : AreTold q.view n (drop n rest.log) =
+        let first : AreKnown q.view n (drop n rest.log) =
         told_later p.view q.view n (drop n rest.log) reads.learns
-        (subst (λ (k : ℕ). AreTold p.view k (drop k rest.log)) base rest.carries.told) in
+        (subst (λ (k : ℕ). AreKnown p.view k (drop k rest.log)) base rest.carries.told) in
         known_of past q.view (rest.log ++ more) begins
-        (subst (AreTold q.view n) (sym cut)
-        (told_both q.view n (drop n rest.log) more first (subst (λ (k : ℕ). AreTold q.view k more) place told)))
+        (subst (AreKnown q.view n) (sym cut)
+        (told_both q.view n (drop n rest.log) more first (subst (λ (k : ℕ). AreKnown q.view k more) place told)))
 
     -- the last commit's entries are
     old_known : IsKnown past q.view rest.log
@@ -106,7 +106,7 @@ module _
         let n : ℕ = length past.log in
         known_of past q.view rest.log rest.begins
         (told_later p.view q.view n (drop n rest.log) reads.learns
-        (subst (λ (k : ℕ). AreTold p.view k (drop k rest.log)) s.fits.base rest.carries.told))
+        (subst (λ (k : ℕ). AreKnown p.view k (drop k rest.log)) s.fits.base rest.carries.told))
 
     -- whatever a crash leaves is a part of the log that has the last commit's entries
     either_image : (h : LeavesEither images since moment p.disk q.disk q.view p.rows rest.commit rest.log rest.carries.rest.lines)
@@ -186,8 +186,8 @@ module _
         let about = ap (λ (k : Key). k.number) reads.learns.about in
         let here : q.view.about.number ≡ length past.log = omega arith in
         let begins : take (length past.log) log ≡ past.log = take-append-le (length past.log) r.log d.0 size.0 ∙ r.begins in
-        let told : AreTold q.view (length past.log) (drop (length past.log) log) =
-        subst (λ (k : ℕ). AreTold q.view k (drop k log)) here d.2.told in
+        let told : AreKnown q.view (length past.log) (drop (length past.log) log) =
+        subst (λ (k : ℕ). AreKnown q.view k (drop k log)) here d.2.told in
         let count = done.count in
         let counted = done.counted in
         record {

@@ -31,7 +31,7 @@ use Rattle.fish_psf.specs.Records.{evaluation}
 use Rattle.fish_rule.specs.declared.view.Key.{Key}
 use Rattle.fish_slots.specs.Slots.{lines_of}
 use Rattle.fish_store.proofs.Pages.{first_lines, same_page}
-use Rattle.fish_image.specs.Reading.{IsTold}
+use Rattle.fish_image.specs.Reading.{IsBodyOf}
 use Rattle.fish_recover.proofs.Once.{told_once}
 use Rattle.fish_slots.proofs.Commits.{one_commit}
 use Rattle.fish_store.specs.Laws.{StaysCarried}
@@ -190,7 +190,7 @@ pub stays_carried : StaysCarried
 stays_carried k cold content later h c body lines image has told size g is =
     let one = one_commit h.prior.body h.prior.lines body lines h.image h.prior.has has in
     let same : c ≡ h.prior.commit =
-    told_once c h.prior.commit h.prior.body (subst (IsTold c) (sym one.0) told) h.prior.told in
+    told_once c h.prior.commit h.prior.body (subst (IsBodyOf c) (sym one.0) told) h.prior.told in
     let from : GoesOnFrom h.prior.commit h.prior.lines image =
     subst (λ (z : Commit). GoesOnFrom z h.prior.lines image) same
     (subst (λ (l : List ℕ). GoesOnFrom c l image) (sym one.1) g) in
@@ -203,7 +203,7 @@ stays_carried k cold content later h c body lines image has told size g is =
 pub one_prior : (image : List ℕ) (n : ℕ) (end other : Reached) → IsPrior image n end → IsPrior image n other → end ≡ other
 one_prior image n end other h g =
     let one = one_commit h.body h.lines g.body g.lines image h.has g.has in
-    let same : h.commit ≡ g.commit = told_once h.commit g.commit h.body h.told (subst (IsTold g.commit) (sym one.0) g.told) in
+    let same : h.commit ≡ g.commit = told_once h.commit g.commit h.body h.told (subst (IsBodyOf g.commit) (sym one.0) g.told) in
     agrees_once h.commit (words_in h.lines) n end other h.agrees
     (subst (λ (z : Commit). Agrees z (words_in h.lines) n other) (sym same)
     (subst (λ (l : List ℕ). Agrees g.commit (words_in l) n other) (sym one.1) g.agrees))

@@ -6,7 +6,7 @@ use Rattle.std.proofs.lemmas.List.{length-take, take-append-le, take-take, take_
 use Rattle.fish_cold.proofs.LogWords.{are_pages, length-words_of, words_of-take}
 use Rattle.fish_cold.specs.Pages.{lines_below, log_words, page_size, page_words}
 use Rattle.fish_image.specs.Stands.{words_in, words_of}
-use Rattle.fish_slots.specs.Places.{lines_at}
+use Rattle.fish_slots.specs.Offsets.{lines_at}
 use Rattle.fish_slots.specs.Slots.{lines_of}
 
 -- the words of lines are those of the file

@@ -5,7 +5,7 @@ use Rattle.fish_catalog.specs.declared.entry.Entry.{Entry}
 use Rattle.fish_cold.specs.Carries.{CarriesTable}
 use Rattle.fish_cold.specs.declared.cold.Cold.{Cold}
 use Rattle.fish_flush.specs.Going.{GoesOnFrom}
-use Rattle.fish_image.specs.Reading.{IsTold}
+use Rattle.fish_image.specs.Reading.{IsBodyOf}
 use Rattle.fish_image.specs.Stands.{Stands}
 use Rattle.fish_recover.specs.Stores.{IsOpened}
 use Rattle.fish_recover.specs.declared.opened.Opened.{Opened}
@@ -18,7 +18,7 @@ use Rattle.fish_store.specs.Sound.{GoesOnHere, IsImageOf, Point, Sound, Stays}
 -- what a file carries by the lines of a commit it carries by every image that goes on from it, with the same prior part
 abbrev pub StaysCarried : Type 0
 StaysCarried = (k : Key) (cold : Cold) (content later : Option (List ℕ)) (h : CarriesTable content k cold) (c : Commit)
-    (body lines image : List ℕ) → HasCommit body lines h.image → IsTold c body → length lines ≡ 32 * c.lines
+    (body lines image : List ℕ) → HasCommit body lines h.image → IsBodyOf c body → length lines ≡ 32 * c.lines
     → GoesOnFrom c lines image → later ≡ Some image → (t : CarriesTable later k cold) × (t.end ≡ h.end)
 
 -- ---- moments, of disks of which these are told

@@ -4,11 +4,11 @@ use Rattle.fish_rule.proofs.laws.Lists.{among_either}
 use Rattle.fish_layout.specs.Cleared.{choose}
 use Rattle.std.proofs.Common.{refl, sym, ap, subst, ⊎_elim, inl, inr, arith}
 use Rattle.std.proofs.Math.Decide.{dec_lt}
-use Rattle.fish_rule.proofs.laws.Alone.{seen, seen_here, tells_mark}
+use Rattle.fish_rule.proofs.laws.Alone.{seen, seen_here, knows_mark}
 use Rattle.fish_rule.proofs.laws.Clocks.{later_self, loaded_within, noted_load}
 use Rattle.fish_rule.proofs.laws.Learning.{extends_both, extends_look, extends_self, learns_both, learns_self}
 use Rattle.fish_rule.specs.Clocks.{HasLoaded, IsLater}
-use Rattle.fish_rule.specs.Logs.{Extends, Learns, TellsMark}
+use Rattle.fish_rule.specs.Logs.{Extends, Learns, KnowsMark}
 use Rattle.fish_rule.specs.LoadSteps.{after_look_at, found_after, kind_told, opens_after}
 use Rattle.fish_rule.specs.Table.{Sees, Stands}
 use Rattle.fish_rule.specs.Views.{Among}
@@ -245,10 +245,10 @@ settled_still v u first n looked settled m above below =
     (h.0, looked.extends.learns.found h.0 h.1, h.2, h.3)
 
 -- a look that tells of a mark found one
-marked : (v u : View) (n lines x : ℕ) → u ≡ after_look_at v n lines x → IsMark x → TellsMark u n
+marked : (v u : View) (n lines x : ℕ) → u ≡ after_look_at v n lines x → IsMark x → KnowsMark u n
 marked v u n lines zero e is = absurd (let bad : look.Unfinished ≡ look.Overflow = is in cc)
 marked v u n lines (suc x) e is =
-    tells_mark u (seen n lines (suc x)) (seen_here v u n lines (suc x) e (λ h. omega arith))
+    knows_mark u (seen n lines (suc x)) (seen_here v u n lines (suc x) e (λ h. omega arith))
     (mark_kind (kind_told (high (suc x))) is)
   where
     mark_kind : (kind : Kind) → look_of_kind kind ≡ look.Overflow → kind ≡ Mark

@@ -2,7 +2,7 @@
 use Rattle.std.specs.Prelude.{ℕ, ◌≡◌, ◌≢◌, ◌<◌, ◌≤◌, [], Some}
 use Rattle.std.proofs.Common.{◌⊎◌}
 use Rattle.fish_rule.specs.Clocks.{HasLoaded, IsLater}
-use Rattle.fish_rule.specs.Logs.{Extends, Learns, TellsMark}
+use Rattle.fish_rule.specs.Logs.{Extends, Learns, KnowsMark}
 use Rattle.fish_rule.specs.Views.{Among}
 use Rattle.fish_rule.specs.World.{high, low}
 use Rattle.fish_rule.specs.declared.view.Found.{Found}
@@ -45,7 +45,7 @@ StopsAt P v u number count = (number ≡ count) ⊎ HasEnd P v u number count
 
 -- the log ends here, in every moment of a view that knows as much: at the count, or at a mark below it
 abbrev pub EndsAt : View → ℕ → ℕ → Type 0
-EndsAt v number count = (number ≡ count) ⊎ ((number < count) × TellsMark v number)
+EndsAt v number count = (number ≡ count) ⊎ ((number < count) × KnowsMark v number)
 
 -- the tail is at this count, which is the one that the pass knows
 abbrev pub HasTail : View → ℕ → Type 0

@@ -1,7 +1,7 @@
 //! The entry that stands at a number.
 
 ghost use Rattle.std.specs.Prelude.{◌≡◌, ◌+◌, ◌≤◌, IfOk};
-ghost use Rattle.fish_rule.specs.Logs.{Extends, Tells};
+ghost use Rattle.fish_rule.specs.Logs.{Extends, KnowsAs};
 ghost use Rattle.fish_rule.specs.Passes.{IsPassOf, view};
 ghost use Rattle.fish_rule.specs.LoadSteps.{CanLookAt};
 ghost use Rattle.fish_rule.specs.Views.{Among};
@@ -31,7 +31,7 @@ pub fn read_entry<L: Ledger>(
         × (f.kind ≡ Stored) }
     ensures pass { IsPassOf log.now pass.new }
     ensures extends { Extends (view pass.old) (view pass.new) }
-    ensures entry { IfOk result (Tells (view pass.new) number) }
+    ensures entry { IfOk result (KnowsAs (view pass.new) number) }
     ensures loads { loads.old + 1 ≤ loads.new }
     ensures counted { IfOk result (λ _. CountsLoads (view pass.old) (view pass.new) number loads.old loads.new) }
 {

@@ -4,7 +4,7 @@ use Rattle.std.proofs.lemmas.List.{length-append}
 use Rattle.fish_catalog.specs.declared.entry.Entry.{Entry}
 use Rattle.fish_rule.proofs.laws.ClosedLogs.{always_closed, entry_at, entry_in, settled_within, within_log}
 use Rattle.fish_rule.specs.ChainFacts.{Always}
-use Rattle.fish_rule.specs.Logs.{IsEntry, Tells}
+use Rattle.fish_rule.specs.Logs.{IsEntry, KnowsAs}
 use Rattle.fish_rule.specs.Parts.{IsEntryWord}
 use Rattle.fish_rule.specs.declared.view.View.{View}
 use Rattle.fish_whole.proofs.Prefixes.{back_get, behind_get, front_get, prefix_there}
@@ -78,7 +78,7 @@ up_to_will past v end Q settled all w m =
     all w h (settled_there past v w h end settled)
 
 -- an entry that is told stands in the whole
-pub sure_entry : (past : Whole) (v : View) (n : ℕ) (e : Entry) → length past.log ≤ n → Tells v n e
+pub sure_entry : (past : Whole) (v : View) (n : ℕ) (e : Entry) → length past.log ≤ n → KnowsAs v n e
     → Sure past v (λ w. slice_get w.log n ≡ Some e)
 sure_entry past v n e above tells w m = entry_here past v w m n e above
     (always_closed v m.last (λ k x. IsEntry x n e) m.remains m.learns m.closed tells)

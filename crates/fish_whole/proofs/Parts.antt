@@ -2,10 +2,10 @@
 use Rattle.std.proofs.Common.{◌≡◌, ℕ, ◌+◌, ◌≤◌, List, ◌++◌, length, map, sym, subst}
 use Rattle.fish_catalog.specs.Listing.{listed_of}
 use Rattle.fish_catalog.specs.declared.entry.Entry.{Entry}
-use Rattle.fish_rule.proofs.laws.Alone.{tells_later}
-use Rattle.fish_rule.proofs.laws.ClosedLogs.{told_closed}
+use Rattle.fish_rule.proofs.laws.Alone.{knows_as_later}
+use Rattle.fish_rule.proofs.laws.ClosedLogs.{known_closed}
 use Rattle.fish_rule.specs.ClosedLog.{IsClosed}
-use Rattle.fish_rule.specs.Logs.{AreTold, Learns, Tells}
+use Rattle.fish_rule.specs.Logs.{AreKnown, Learns, KnowsAs}
 use Rattle.fish_rule.specs.declared.close.Remains.{Remains}
 use Rattle.fish_rule.specs.declared.view.Key.{Key}
 use Rattle.fish_rule.specs.declared.view.View.{View}
@@ -22,9 +22,9 @@ fits_later past v u learns fits = record {
 
 -- what is left of a table begins with the entries that are told
 pub told_front : (past : Whole) (v u : View) (remains : Remains) (entries : List Entry) → u.about.number ≡ length past.log
-    → Learns v u → IsClosed u remains → AreTold v (length past.log) entries → IsPrefix entries remains.log
+    → Learns v u → IsClosed u remains → AreKnown v (length past.log) entries → IsPrefix entries remains.log
 told_front past v u remains entries base learns c told = prefix_gets entries remains.log (λ i e at.
-    told_closed v u i e remains learns c (subst (λ (z : ℕ). Tells v (z + i) e) (sym base) (told i e at)))
+    known_closed v u i e remains learns c (subst (λ (z : ℕ). KnowsAs v (z + i) e) (sym base) (told i e at)))
 
 -- each whole begins with what is a part of the log for good
 pub known_sure : (past : Whole) (v : View) (log : List Entry) → IsKnown past v log → Sure past v (λ w. IsPrefix log w.log)
@@ -44,7 +44,7 @@ known_old past v old log front k less = prefix_shorter old log (past.log ++ k.en
 pub known_later : (past : Whole) (v u : View) (log : List Entry) → Learns v u → IsKnown past v log → IsKnown past u log
 known_later past v u log learns k = record {
   entries = k.entries;
-  told = λ i e at. tells_later v u (length past.log + i) e learns (k.told i e at);
+  told = λ i e at. knows_as_later v u (length past.log + i) e learns (k.told i e at);
   front = k.front;
 }
 

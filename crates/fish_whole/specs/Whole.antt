@@ -6,7 +6,7 @@ use Rattle.fish_catalog.specs.declared.entry.Entry.{Entry}
 use Rattle.fish_catalog.specs.declared.listed.Listed.{Listed}
 use Rattle.fish_layout.specs.Cleared.{choose}
 use Rattle.fish_rule.specs.ClosedLog.{IsClosed}
-use Rattle.fish_rule.specs.Logs.{AreTold, Learns}
+use Rattle.fish_rule.specs.Logs.{AreKnown, Learns}
 use Rattle.fish_rule.specs.Registry.{definitions_at}
 use Rattle.fish_rule.specs.Views.{Among}
 use Rattle.fish_rule.specs.declared.close.Remains.{Remains}
@@ -103,7 +103,7 @@ pub record FitsPast (past : Whole) (v : View) : Type 0 where
 -- the list is a part of the log for good: what stood before the table, and entries behind it that the pass was told, begin with it
 pub record IsKnown (past : Whole) (v : View) (log : List Entry) : Type 0 where
   pub entries : List Entry
-  pub told : AreTold v (length past.log) entries
+  pub told : AreKnown v (length past.log) entries
   pub front : IsPrefix log (past.log ++ entries)
 
 -- one state goes on to another, in the same table or in a later one

@@ -2,7 +2,7 @@
 
 ghost use Rattle.std.specs.Prelude.{ℕ, ◌≡◌, ◌≤◌, length, Some, slice_get};
 ghost use Rattle.fish_catalog.specs.declared.entry.Entry.{Entry};
-ghost use Rattle.fish_rule.specs.Logs.{Tells};
+ghost use Rattle.fish_rule.specs.Logs.{KnowsAs};
 ghost use Rattle.fish_rule.specs.declared.view.View.{View};
 ghost use Rattle.fish_whole.specs.Laws.{DefinitionsStay, PartsStay, TablesEnd, TablesGoOn};
 ghost use Rattle.fish_whole.specs.Whole.{Sure, Whole};
@@ -14,7 +14,7 @@ ghost use Rattle.fish_whole.specs.Whole.{Sure, Whole};
 ///
 /// Its contract is that law.
 pub fn law_whole()
-    ensures entries { (past : Whole) (v : View) (n : ℕ) (e : Entry) → length past.log ≤ n → Tells v n e
+    ensures entries { (past : Whole) (v : View) (n : ℕ) (e : Entry) → length past.log ≤ n → KnowsAs v n e
         → Sure past v (λ w. slice_get w.log n ≡ Some e) }
     ensures settled { (past : Whole) (v : View) (n : ℕ) → n ≤ v.learned.settled → Sure past v (λ w. n ≤ length w.log) }
     ensures definitions { DefinitionsStay }

@@ -1,6 +1,6 @@
 -- The lanes of a block, and a store between blocks.
 use Rattle.std.specs.Prelude.{ℕ, ◌≡◌, ◌+◌, ◌<◌, List, All, Some, length}
-use Rattle.fish_disk.specs.Sure.{told_of}
+use Rattle.fish_disk.specs.Sure.{content_in}
 use Rattle.fish_disk.specs.declared.sure.SureDisk.{SureDisk}
 use Rattle.fish_lanes.specs.Blocks.{At, IsNewLane}
 use Rattle.fish_lanes.specs.Controlling.{CanControl}
@@ -42,4 +42,4 @@ pub record IsBetween {D : Type 0} (images : D → List ℕ → Type 0) (disk : D
 
 -- the same of a store on a disk that never fails
 abbrev pub IsHeld : SureDisk → Store → Type 0
-IsHeld disk s = IsBetween (λ d c. told_of d ≡ Some c) disk s
+IsHeld disk s = IsBetween (λ d c. content_in d ≡ Some c) disk s

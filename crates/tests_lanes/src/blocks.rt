@@ -71,7 +71,7 @@ pub(crate) fn stored_in_order(
     lane: u8,
     words: usize,
 ) -> Result<usize, Cause> {
-    let mut place = 0;
+    let mut position = 0;
     for entry in entries.as_slice() {
         let Entry::Stored { lane: of, .. } = entry else {
             continue;
@@ -82,16 +82,16 @@ pub(crate) fn stored_in_order(
         let want = Entry::Stored {
             lane,
             form: Form::Json,
-            payload: record_of(alloc, lane, place, words)?,
+            payload: record_of(alloc, lane, position, words)?,
         };
         let same = entry.is(&want);
         drop(want);
         if !same {
             return Err(Cause("another record"));
         }
-        place += 1;
+        position += 1;
     }
-    Ok(place)
+    Ok(position)
 }
 
 /// How the records begin whose kind is k1.
@@ -290,8 +290,8 @@ fn ran_both<R: Threads + Sync>(rt: &R, alloc: Global) -> Result<(u32, Left), Cau
 /// How many records each lane has in a log.
 fn stored_by_each(alloc: Global, entries: &Entries) -> Result<[usize; 3], Cause> {
     let mut stored = [0; 3];
-    for place in 0..3 {
-        stored[place] = stored_in_order(alloc, entries, place as u8 + 1, 2)?;
+    for position in 0..3 {
+        stored[position] = stored_in_order(alloc, entries, position as u8 + 1, 2)?;
     }
     Ok(stored)
 }

@@ -38,11 +38,16 @@ pub(crate) enum Plain {
 pub(crate) type Script = &'static [Plain];
 
 /// Writes the record of a lane at a place. All records with as many words are equally long.
-fn write_record(text: &mut String, lane: u8, place: usize, words: usize) -> Result<(), AllocError> {
-    let (kind, place) = (place % 3, 10_000 + place % 10_000);
+fn write_record(
+    text: &mut String,
+    lane: u8,
+    position: usize,
+    words: usize,
+) -> Result<(), AllocError> {
+    let (kind, position) = (position % 3, 10_000 + position % 10_000);
     write!(
         text,
-        "{{\"kind\":\"k{kind}\",\"lane\":{lane},\"place\":{place},\"text\":\""
+        "{{\"kind\":\"k{kind}\",\"lane\":{lane},\"place\":{position},\"text\":\""
     )?;
     for _ in 0..words {
         text.push_str(" word")?;
@@ -54,11 +59,11 @@ fn write_record(text: &mut String, lane: u8, place: usize, words: usize) -> Resu
 pub(crate) fn record_of(
     alloc: Global,
     lane: u8,
-    place: usize,
+    position: usize,
     words: usize,
 ) -> Result<Text, AllocError> {
     let mut text = String::new(alloc);
-    match write_record(&mut text, lane, place, words) {
+    match write_record(&mut text, lane, position, words) {
         Ok(()) => Ok(Text::from_string(text)),
         Err(error) => {
             drop(text);

@@ -262,9 +262,9 @@ fn entries(rt: HostRuntime) -> Result<(), Fail> {
 
 /// The words that are not 0 in hexadecimal digits, each behind its place.
 fn put_words(alloc: Global, told: &mut String, words: &[u64]) -> Result<(), AllocError> {
-    for (place, word) in words.iter().enumerate() {
+    for (position, word) in words.iter().enumerate() {
         if *word != 0 {
-            let text = format!(in alloc; "{place}:{word:x} ")?;
+            let text = format!(in alloc; "{position}:{word:x} ")?;
             told.push_str(text.as_str())?;
         }
     }

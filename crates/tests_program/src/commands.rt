@@ -1,7 +1,7 @@
 //! Commands over files and an output in memory: how they end, and what is written, worked out by hand.
 
 use crate::expecting::{expect, expect_text};
-use crate::outside::{disk_of, host_of, sink_of, told_of, words_of};
+use crate::outside::{content_in, disk_of, host_of, sink_of, words_of};
 use fish_disk::MemoryDisk;
 use fish_feed::read_file;
 use fish_outside::{MemoryHost, MemorySink};
@@ -164,7 +164,7 @@ fn ended_by<R: Threads + Sync>(
 ) -> Result<String, AllocError> {
     let words = words_of(alloc, line)?;
     let outcome = run(rt, alloc, words.as_slice(), host, disk, out);
-    told_of(alloc, &outcome, out)
+    content_in(alloc, &outcome, out)
 }
 
 /// Asserts how a command ends.

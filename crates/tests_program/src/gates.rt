@@ -4,7 +4,7 @@
 
 use crate::expecting::{expect, expect_text};
 use crate::holds::{Hold, HoldGate};
-use crate::outside::{disk_of, host_of, sink_of, told_of, words_of};
+use crate::outside::{content_in, disk_of, host_of, sink_of, words_of};
 use fish_disk::MemoryDisk;
 use fish_lanes::Point;
 use fish_outside::{MemoryHost, MemorySink};
@@ -145,7 +145,7 @@ fn ended_by<R: Threads + Sync>(
 ) -> Result<String, AllocError> {
     let words = words_of(alloc, "run|store|script|--pages|1|")?;
     let outcome = run_gated(rt, alloc, words.as_slice(), host, disk, out, gate);
-    told_of(alloc, &outcome, out)
+    content_in(alloc, &outcome, out)
 }
 
 /// Asserts what a script tells, and that each lane came to where another one waited for it.

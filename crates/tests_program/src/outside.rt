@@ -65,7 +65,7 @@ pub(crate) fn words_of(alloc: Global, line: &str) -> Result<Texts, AllocError> {
 
 /// How a command ended: its status, its fault, whether something was refused, how many entries the log has that it
 /// left; and what was written.
-pub(crate) fn told_of(
+pub(crate) fn content_in(
     alloc: Global,
     outcome: &Outcome,
     out: &MemorySink,

@@ -1,7 +1,7 @@
 //! Files that are read in parts: a read that fails in the middle of one, and one of several parts.
 
 use crate::expecting::expect_text;
-use crate::outside::{disk_of, file_of, sink_of, told_of, words_of};
+use crate::outside::{content_in, disk_of, file_of, sink_of, words_of};
 use fish_outside::{HostFile, HostFiles, MemoryHost};
 use fish_program::run;
 use fish_value::{Bytes, Numbers64, Text};
@@ -62,7 +62,7 @@ fn ended_by<R: Threads + Sync>(rt: &R, alloc: Global, row: &Row) -> Result<Strin
     let mut out = sink_of(alloc, None)?;
     let words = words_of(alloc, "run|store|script|")?;
     let outcome = run(rt, alloc, words.as_slice(), &mut host, &mut disk, &mut out);
-    told_of(alloc, &outcome, &out)
+    content_in(alloc, &outcome, &out)
 }
 
 #[test]

@@ -1,7 +1,7 @@
 //! Runs whose logs outgrow a table of one page: what they write, worked out by hand, and what a later run finds of it.
 
 use crate::expecting::{expect, expect_text};
-use crate::outside::{disk_of, host_of, sink_of, told_of, words_of};
+use crate::outside::{content_in, disk_of, host_of, sink_of, words_of};
 use fish_disk::MemoryDisk;
 use fish_program::run;
 use std::alloc::{AllocError, Global};
@@ -64,7 +64,7 @@ fn ended_by<R: Threads + Sync>(
     let mut out = sink_of(alloc, None)?;
     let words = words_of(alloc, RUN)?;
     let outcome = run(rt, alloc, words.as_slice(), &mut host, disk, &mut out);
-    let told = told_of(alloc, &outcome, &out)?;
+    let told = content_in(alloc, &outcome, &out)?;
     short_of(alloc, told.as_str())
 }
 

@@ -2,7 +2,7 @@
 //! it writes.
 
 use crate::expecting::{expect, expect_text};
-use crate::outside::{disk_of, host_of, sink_of, told_of, words_of};
+use crate::outside::{content_in, disk_of, host_of, sink_of, words_of};
 use fish_disk::MemoryDisk;
 use fish_program::run;
 use std::alloc::{AllocError, Global};
@@ -119,7 +119,7 @@ fn ended_by<R: Threads + Sync>(
     let mut out = sink_of(alloc, None)?;
     let words = words_of(alloc, line)?;
     let outcome = run(rt, alloc, words.as_slice(), &mut host, disk, &mut out);
-    told_of(alloc, &outcome, &out)
+    content_in(alloc, &outcome, &out)
 }
 
 /// Asserts how runs over one disk end.

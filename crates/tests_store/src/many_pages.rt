@@ -2,7 +2,7 @@
 
 ghost use Rattle.std.specs.Prelude.{◌≡◌, ◌<◌, ◌*◌, All, IfOk, Some};
 ghost use Rattle.fish_catalog.specs.Clamps.{IsClamped};
-ghost use Rattle.fish_disk.specs.Content.{untold};
+ghost use Rattle.fish_disk.specs.Content.{no_content};
 ghost use Rattle.fish_rule.specs.Passes.{IsPassOf};
 ghost use Rattle.fish_scan.specs.Colder.{IsBelow};
 
@@ -39,13 +39,13 @@ impl Disk for Voids {
     ghost use Rattle.std.specs.Prelude.{is_some, true};
     ghost use Rattle.std.proofs.Common.{ap};
 
-    ghost content = { λ _. untold };
+    ghost content = { λ _. no_content };
 
-    ghost images = { λ _ c. untold ≡ Some c };
+    ghost images = { λ _ c. no_content ≡ Some c };
 
     ghost moment = { λ _. 0 };
 
-    ghost since = { λ _ _ c. untold ≡ Some c };
+    ghost since = { λ _ _ c. no_content ≡ Some c };
 
     ghost keeps_past = { true };
 

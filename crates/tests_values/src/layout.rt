@@ -195,7 +195,7 @@ const TURNED: &[((usize, u64, &str), &str)] = &[
         "Csv 16 512 268435455 [5 7 true] [0 7 int -2] [18446744073709551615 255 text é] a,b",
     ),
     ((2, 255 << 28, "ids out of order"), "none"),
-    ((2, 1 << 36, "an entry out of place"), "none"),
+    ((2, 1 << 36, "an entry out of position"), "none"),
     ((2, 1 << 45, "bit 45 of an entry"), "none"),
     ((3, 3 << 0, "kind 3"), "none"),
     ((6, 1 << 0, "a truth value of eight bytes"), "none"),
@@ -344,8 +344,8 @@ const OTHERS: &[((&[u64], &str), &str)] = &[
 /// Words of which one has other bits turned.
 fn turned(alloc: Global, words: &[u64], at: usize, bits: u64) -> Result<Vec<u64>, AllocError> {
     let mut turned = Vec::new(alloc);
-    for (place, word) in words.iter().enumerate() {
-        let other = if place == at { *word ^ bits } else { *word };
+    for (position, word) in words.iter().enumerate() {
+        let other = if position == at { *word ^ bits } else { *word };
         turned.push(other)?;
     }
     Ok(turned)

@@ -4,7 +4,7 @@ use Rattle.std.specs.Prelude.{Bool, false}
 use Rattle.fish_cold.specs.declared.cold.Cold.{Cold}
 use Rattle.fish_lanes.specs.within.Doing.{IsItem, IsStopped}
 use Rattle.fish_lanes.specs.Full.{IsNotFull}
-use Rattle.fish_lanes.specs.within.Full.{TellsLast}
+use Rattle.fish_lanes.specs.within.Full.{SaysLast}
 use Rattle.fish_lanes.specs.Gains.{WasShut}
 use Rattle.fish_lanes.specs.within.Gains.{Gains}
 use Rattle.fish_lanes.specs.within.Pasts.{WasHere, anywhere}
@@ -13,10 +13,10 @@ use Rattle.fish_lanes.specs.Records.{LaneRow, contents}
 use Rattle.fish_lanes.specs.Registering.{Registry, after_all}
 use Rattle.fish_lanes.specs.within.Running.{CanBegin, HasRun, IsFullItem, SayPlans}
 use Rattle.fish_lanes.specs.Seen.{IsShown, Shown, settled, shown_by}
-use Rattle.fish_lanes.specs.within.Sizes.{TellsShut}
+use Rattle.fish_lanes.specs.within.Sizes.{SaysShut}
 use Rattle.fish_lanes.specs.Spans.{IsAnswer, Span, answers, behind, made_by}
 use Rattle.fish_lanes.specs.within.Spans.{IsWithinSpan}
-use Rattle.fish_lanes.specs.Telling.{TellsItem, content_of, count_of}
+use Rattle.fish_lanes.specs.Telling.{SaysItem, content_of, count_of}
 use Rattle.fish_lanes.specs.declared.lane.Lane.{Lane}
 use Rattle.fish_lanes.specs.declared.lane.Seated.{Seated}
 use Rattle.fish_lanes.specs.declared.statements.Stop.{Stop}
@@ -43,28 +43,28 @@ made [] = 0
 made (x ∷ items) = made_by x + made items
 
 -- what items tell that are as many as the statements
-abbrev pub TellsAll : Whole → Span → List LaneRow → List Shown → List LaneRow → List Work → List Item → Type 0
-TellsAll z s before shown rows [] [] = rows ≡ []
-TellsAll z s before shown rows [] (x ∷ items) = ⊥
-TellsAll z s before shown rows (w ∷ works) [] = ⊥
-TellsAll z s before shown rows (w ∷ works) (x ∷ items) = (mine : List LaneRow) × (rest : List LaneRow)
+abbrev pub SaysAll : Whole → Span → List LaneRow → List Shown → List LaneRow → List Work → List Item → Type 0
+SaysAll z s before shown rows [] [] = rows ≡ []
+SaysAll z s before shown rows [] (x ∷ items) = ⊥
+SaysAll z s before shown rows (w ∷ works) [] = ⊥
+SaysAll z s before shown rows (w ∷ works) (x ∷ items) = (mine : List LaneRow) × (rest : List LaneRow)
     × (rows ≡ mine ++ rest)
     × (contents mine ≡ take (count_of x) (content_of w))
-    × TellsItem z s before shown w x
-    × TellsAll z (behind x s) (before ++ mine) (shown ++ shown_by x) rest works items
+    × SaysItem z s before shown w x
+    × SaysAll z (behind x s) (before ++ mine) (shown ++ shown_by x) rest works items
 
 -- the statements so far are told by as many items, behind each such past
-pub record HasTold (Past : Whole → Type 0) (v u : View) (works : List Work) (items : List Item) : Type 0 where
+pub record HasAnswered (Past : Whole → Type 0) (v u : View) (works : List Work) (items : List Item) : Type 0 where
   pub rows : List LaneRow
   pub gains : Gains v u rows
   pub tells : (past : Whole) → Past past → (s : Span) → IsWithinSpan v u s → s.full ≡ v.shut
-      → SureUpTo past u s.to (λ w. TellsAll w s [] [] rows works items)
+      → SureUpTo past u s.to (λ w. SaysAll w s [] [] rows works items)
   pub shown : (n : ℕ) (s : Shown) → Among s (shown_in items) → IsShown n s → u.about.number ≤ n → IsPublished u n
   pub settles : (m : ℕ) → Among (settled m) (shown_in items) → m ≤ u.learned.settled
   pub size : length items ≡ length works
   pub full : AllOf (IsFullItem u) items
   pub versions : v.learned.version + made items ≤ u.learned.version
-  pub shuts : TellsShut v u items
+  pub shuts : SaysShut v u items
 
 -- so many items answer the statements so far, and the definitions are the same behind them
 pub record HasSaid (v u : View) (works : List Work) (items : List Item) : Type 0 where
@@ -75,7 +75,7 @@ pub record HasSaid (v u : View) (works : List Work) (items : List Item) : Type 0
 
 -- its first statements are told by its items, one each
 pub record IsSoFar (Past : Whole → Type 0) (v u : View) (works : List Work) (items : List Item) : Type 0 where
-  pub told : HasTold Past v u (take (length items) works) (answers items)
+  pub told : HasAnswered Past v u (take (length items) works) (answers items)
   pub said : HasSaid v u (take (length items) works) items
   pub few : length items ≤ length works
 
@@ -120,7 +120,7 @@ pub record HasGone (log : Log) (old new : Lane) : Type 0 where
   pub number : new.number ≡ old.number
   pub left : new.left ≡ old.left
   pub on : GoesOnBy (view before.pass) (view after.pass) old.works old.items new.items new.fault
-  pub last : (view before.pass).shut ≡ None → AllOf IsNotFull old.items → TellsLast (view after.pass) new.items new.fault
+  pub last : (view before.pass).shut ≡ None → AllOf IsNotFull old.items → SaysLast (view after.pass) new.items new.fault
   pub short : IsShort new.fault
   pub more : length old.items ≤ length new.items
   pub answers : AllOf IsAnswer old.items → AllOf IsAnswer new.items
@@ -138,5 +138,5 @@ pub record HasFinished (Past : Whole → Type 0) (full : Bool) (log : Log) (old 
   pub run : (start : View) → IsOnAnyhow start (view before.pass) old.works old.items old.fault
       → HasRun Past start (view after.pass) new.works new.items new.fault × SayPlans start (view after.pass) new.works new.items
   pub cut : AllOf IsAnswer old.items → new.left ≢ [] → (new.fault ≡ fault.None) × (full ≡ false) × WasShut (view after.pass)
-  pub last : full ≡ false → TellsLast (view before.pass) old.items old.fault → TellsLast (view after.pass) new.items new.fault
+  pub last : full ≡ false → SaysLast (view before.pass) old.items old.fault → SaysLast (view after.pass) new.items new.fault
   pub answers : AllOf IsAnswer old.items → AllOf IsAnswer new.items

@@ -10,7 +10,7 @@ use Rattle.fish_lanes.specs.within.Registering.{KeepsRegistry}
 use Rattle.fish_lanes.specs.Running.{IsShared}
 use Rattle.fish_lanes.specs.within.Running.{CanBegin, HasDone, IsReady}
 use Rattle.fish_lanes.specs.Spans.{Span}
-use Rattle.fish_lanes.specs.Telling.{TellsLane}
+use Rattle.fish_lanes.specs.Telling.{SaysLane}
 use Rattle.fish_lanes.specs.declared.lane.Lane.{Lane}
 use Rattle.fish_lanes.specs.declared.lane.Seated.{Seated}
 use Rattle.fish_rule.specs.Logs.{Learns}
@@ -129,7 +129,7 @@ pub record WasTaken (x y : Lane) : Type 0 where
 abbrev pub WereTaken : List Lane → List Lane → Type 0
 WereTaken old new = Both (λ i x y. WasTaken x y) old new
 
--- the lane at a place has a pass of its number that is out with nothing in flight
+-- the lane at a position has a pass of its number that is out with nothing in flight
 pub record IsBack (log : Log) (i : ℕ) (x : Lane) : Type 0 where
   pub seat : Seated
   pub seat_is : x.seat ≡ Some seat
@@ -149,21 +149,21 @@ pub record AreJoined (log : Log) (m : View) (lanes : List Lane) : Type 0 where
 
 -- one of the first so many lanes has this among its own records
 pub record IsOfLane (lanes : List Lane) (many : ℕ) (o : Own) : Type 0 where
-  pub place : ℕ
+  pub position : ℕ
   pub lane : Lane
   pub seat : Seated
-  pub below : place < many
-  pub lane_is : slice_get lanes place ≡ Some lane
+  pub below : position < many
+  pub lane_is : slice_get lanes position ≡ Some lane
   pub seat_is : lane.seat ≡ Some seat
   pub among : Among o (view seat.pass).own
 
 -- this shut the pass of one of the first so many lanes
 pub record IsShutOfLane (lanes : List Lane) (many : ℕ) (s : Shut) : Type 0 where
-  pub place : ℕ
+  pub position : ℕ
   pub lane : Lane
   pub seat : Seated
-  pub below : place < many
-  pub lane_is : slice_get lanes place ≡ Some lane
+  pub below : position < many
+  pub lane_is : slice_get lanes position ≡ Some lane
   pub seat_is : lane.seat ≡ Some seat
   pub shut_is : (view seat.pass).shut ≡ Some s
 
@@ -187,8 +187,8 @@ pub record HasTakenAll (m u : View) (lanes : List Lane) (many : ℕ) : Type 0 wh
   pub none : many ≡ 0 → u ≡ m
 
 -- the same of the first lane, and of the others
-abbrev pub TellsFirst : Span → Lane → Claim
-TellsFirst s x w = TellsLane w s (rows_of_lane w.log s.from s.to 1) x.works x.items
+abbrev pub SaysFirst : Span → Lane → Claim
+SaysFirst s x w = SaysLane w s (rows_of_lane w.log s.from s.to 1) x.works x.items
 
-abbrev pub TellsOthers : Span → List Lane → Claim
-TellsOthers s lanes w = At (λ i x. TellsLane w s (rows_of_lane w.log s.from s.to (i + 2)) x.works x.items) lanes
+abbrev pub SaysOthers : Span → List Lane → Claim
+SaysOthers s lanes w = At (λ i x. SaysLane w s (rows_of_lane w.log s.from s.to (i + 2)) x.works x.items) lanes

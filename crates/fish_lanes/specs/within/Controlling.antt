@@ -8,8 +8,8 @@ use Rattle.fish_lanes.specs.within.Plans.{PlansAreSoBy}
 use Rattle.fish_lanes.specs.Records.{LaneRow, contents}
 use Rattle.fish_lanes.specs.Registering.{AreSo, IsBetween, IsSo, KnowsEach, KnowsRegistry, after, after_all, bound, registry_of}
 use Rattle.fish_lanes.specs.within.Running.{HasRun}
-use Rattle.fish_lanes.specs.Single.{NamesNone, TellsOnly}
-use Rattle.fish_lanes.specs.within.Sizes.{TellsShut}
+use Rattle.fish_lanes.specs.Single.{NamesNone, SaysOnly}
+use Rattle.fish_lanes.specs.within.Sizes.{SaysShut}
 use Rattle.fish_lanes.specs.Telling.{content_of, count_of}
 use Rattle.fish_lanes.specs.declared.block.Boundary.{Boundary}
 use Rattle.fish_lanes.specs.declared.work.LaneFault.{LaneFault}
@@ -66,8 +66,8 @@ abbrev pub KnowsAll : View → Type 0
 KnowsAll t = (r : Registrar) → Knows t r → KnowsRegistry t (registry_of t r)
 
 -- the item of a registration that was just made: its index begins, or it waits for a lane at an older version
-abbrev pub TellsBegun : View → Registrar → View → Registrar → List ℕ → ℕ → List ℕ → Item → Type 0
-TellsBegun u r t s name id def x = KnowsRegistry t (registry_of t s)
+abbrev pub SaysBegun : View → Registrar → View → Registrar → List ℕ → ℕ → List ℕ → Item → Type 0
+SaysBegun u r t s name id def x = KnowsRegistry t (registry_of t s)
     × (((seat : ℕ) × (version : ℕ) × (x ≡ item.Rolling name id def seat version) × (version < u.learned.version)
     × (registry_of t s ≡ registry_of u r))
     ⊎ ((from : ℕ) × (x ≡ item.Registered name id from def) × IsBetween u.learned.count t.learned.count from
@@ -99,10 +99,10 @@ deregister_cause refusal.OutOfMemory = None
 deregister_cause refusal.UnknownName = Some deregister.UnknownName
 
 -- a boundary that the item tells is where the pass knew the tail
-abbrev pub TellsTail : View → Item → Type 0
-TellsTail u (item.Registered name id from def) = IsAtTail u from
-TellsTail u (item.Deregistered name id to) = IsAtTail u to
-TellsTail u x = ⊤
+abbrev pub SaysTail : View → Item → Type 0
+SaysTail u (item.Registered name id from def) = IsAtTail u from
+SaysTail u (item.Deregistered name id to) = IsAtTail u to
+SaysTail u x = ⊤
 
 -- one statement was done
 pub record IsControlled (Past : Whole → Type 0) (u : View) (r : Registrar) (t : View) (s : Registrar) (w : Work) (x : Item) : Type 0 where
@@ -110,9 +110,9 @@ pub record IsControlled (Past : Whole → Type 0) (u : View) (r : Registrar) (t 
   pub gains : Gains u t rows
   pub first : contents rows ≡ take (count_of x) (content_of w)
   pub fit : IsFit Past u t w x
-  pub shuts : TellsShut u t (x ∷ [])
+  pub shuts : SaysShut u t (x ∷ [])
   pub none : IsAlone u → NamesNone x
-  pub tail : IsAlone u → TellsTail u x
+  pub tail : IsAlone u → SaysTail u x
   pub rolls : RollsBy u t x
   pub does : Does u r t s x
 
@@ -129,7 +129,7 @@ pub record HasControlled (Past : Whole → Type 0) (v u : View) (r s : Registrar
   pub run : HasRun Past v u works items fault
   pub so : AreSo v.learned.count u.learned.count (registry_of v r) items
   pub closed : IsAlone v → AllOf NamesNone items
-  pub only : (end : ℕ) → HasEnd v end → r.waiting ≡ None → TellsOnly Past v u r.catalog end works items
+  pub only : (end : ℕ) → HasEnd v end → r.waiting ≡ None → SaysOnly Past v u r.catalog end works items
   pub plans : PlansAreSoBy v u (registry_of v r) works items
   pub is : fault ≡ cause.None → registry_of u s ≡ after_all (registry_of v r) items
   pub each : KnowsEach u (registry_of v r) items

@@ -13,8 +13,8 @@ use Rattle.fish_lanes.specs.Records.{Content, LaneRow, contents}
 use Rattle.fish_lanes.specs.Registering.{IsDeregisterItem, IsRegisterItem}
 use Rattle.fish_lanes.specs.within.Registering.{KeepsRegistry}
 use Rattle.fish_lanes.specs.Sizes.{claim_of}
-use Rattle.fish_lanes.specs.within.Sizes.{IsSizeBetween, TellsShut}
-use Rattle.fish_lanes.specs.Telling.{AreCountedUpTo, TellsStored, TellsTooLong, content_of, count_of}
+use Rattle.fish_lanes.specs.within.Sizes.{IsSizeBetween, SaysShut}
+use Rattle.fish_lanes.specs.Telling.{AreCountedUpTo, SaysStored, SaysTooLong, content_of, count_of}
 use Rattle.fish_lanes.specs.declared.statements.Stop.{Stop}
 use Rattle.fish_lanes.specs.declared.statements.Stop.TheVariants as stop
 use Rattle.fish_lanes.specs.declared.work.Work.{Work}
@@ -183,8 +183,8 @@ pub record FitsCheckpoint (v u : View) (x : Item) : Type 0 where
 abbrev pub IsFit : (Whole → Type 0) → View → View → Work → Item → Type 0
 IsFit Past v u (work.Register name def) x = IsRegisterItem name (definition_text (definition_of def)) x
 IsFit Past v u (work.Deregister name) x = IsDeregisterItem name x
-IsFit Past v u (work.Ingest form begin name file) x = TellsStored (outcomes_from form begin file) name file x
-    ⊎ (FitsFull v u form (outcomes_from form begin file) name file x ⊎ TellsTooLong name file x)
+IsFit Past v u (work.Ingest form begin name file) x = SaysStored (outcomes_from form begin file) name file x
+    ⊎ (FitsFull v u form (outcomes_from form begin file) name file x ⊎ SaysTooLong name file x)
 IsFit Past v u (work.Scan ask) x = FitsScanned Past v u ask x ⊎ FitsRefused v u ask item.ScanRefused x
 IsFit Past v u (work.Explain ask) x = FitsExplained v u ask x ⊎ FitsRefused v u ask item.ExplainRefused x
 IsFit Past v u work.Checkpoint x = FitsCheckpoint v u x
@@ -193,7 +193,7 @@ IsFit Past v u work.Checkpoint x = FitsCheckpoint v u x
 pub record IsItem (Past : Whole → Type 0) (v u : View) (w : Work) (x : Item) : Type 0 where
   pub gained : GainsFirst v u (content_of w) (count_of x)
   pub fit : IsFit Past v u w x
-  pub shuts : TellsShut v u (x ∷ [])
+  pub shuts : SaysShut v u (x ∷ [])
 
 -- a part of it was done
 abbrev pub IsPart : View → View → Work → Type 0

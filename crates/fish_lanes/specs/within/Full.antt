@@ -15,7 +15,7 @@ abbrev pub HasFound : View → List Item → Type 0
 HasFound u items = ((u.shut ≡ None) × AllOf IsNotFull items) ⊎ (WasShut u × EndsFull items)
 
 -- none but the last item tells that the log is full; and without a fault that one does exactly where the pass is shut
-pub record TellsLast (u : View) (items : List Item) (why : LaneFault) : Type 0 where
+pub record SaysLast (u : View) (items : List Item) (why : LaneFault) : Type 0 where
   pub full : AreFullLast items
   pub found : why ≡ fault.None → HasFound u items
 
@@ -43,4 +43,4 @@ pub record IsCut (v u : View) (x : Lane) : Type 0 where
 -- tells that the log is full
 pub record StopsFull (v u : View) (x : Lane) : Type 0 where
   pub cut : x.left ≢ [] → IsCut v u x
-  pub last : v.shut ≡ None → TellsLast u x.items x.fault
+  pub last : v.shut ≡ None → SaysLast u x.items x.fault

@@ -3,15 +3,15 @@ use Rattle.std.specs.Prelude.{ℕ, ◌≡◌, ◌+◌, ◌<◌, ◌++◌, List, 
 use Rattle.fish_lanes.specs.Records.{LaneRow}
 use Rattle.fish_lanes.specs.within.Records.{Ascends, entry_of, owned}
 use Rattle.fish_rule.specs.Clocks.{IsLater}
-use Rattle.fish_rule.specs.Logs.{Learns, Tells}
+use Rattle.fish_rule.specs.Logs.{Learns, KnowsAs}
 use Rattle.fish_rule.specs.declared.view.Epoch.TheVariants.{Out}
 use Rattle.fish_rule.specs.declared.view.View.{View}
-use Rattle.fish_lanes.specs.Gains.{IsShutTold, KeepsShut}
+use Rattle.fish_lanes.specs.Gains.{IsShutSaid, KeepsShut}
 
 -- in every later moment each row is the entry at its number
-abbrev pub AreTold : View → ℕ → List LaneRow → Type 0
-AreTold v lane [] = ⊤
-AreTold v lane (r ∷ rows) = Tells v r.number (entry_of lane r) × AreTold v lane rows
+abbrev pub AreKnown : View → ℕ → List LaneRow → Type 0
+AreKnown v lane [] = ⊤
+AreKnown v lane (r ∷ rows) = KnowsAs v r.number (entry_of lane r) × AreKnown v lane rows
 
 -- the pass is shut by a claim of so many lines at a line, which ends past the log's end
 pub record IsFullBy (u : View) (line lines end : ℕ) : Type 0 where
@@ -34,6 +34,6 @@ pub record Gains (v u : View) (rows : List LaneRow) : Type 0 where
   pub idle : u.flight ≡ None
   pub own : u.own ≡ v.own ++ owned v.lane rows
   pub ascends : Ascends v.learned.count rows u.learned.count
-  pub told : AreTold u v.lane rows
+  pub told : AreKnown u v.lane rows
   pub shut : KeepsShut v u
-  pub marks : IsShutTold v → IsShutTold u
+  pub marks : IsShutSaid v → IsShutSaid u

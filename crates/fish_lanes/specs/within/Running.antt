@@ -6,10 +6,10 @@ use Rattle.fish_lanes.specs.within.Gains.{Gains, IsFullBy}
 use Rattle.fish_lanes.specs.within.Plans.{AreReadBounds, PlansAreSoBy}
 use Rattle.fish_lanes.specs.Records.{LaneRow}
 use Rattle.fish_lanes.specs.Registering.{KnowsRegistry, Registry}
-use Rattle.fish_lanes.specs.within.Sizes.{TellsShut}
+use Rattle.fish_lanes.specs.within.Sizes.{SaysShut}
 use Rattle.fish_lanes.specs.Spans.{IsAnswer, Span, answers}
 use Rattle.fish_lanes.specs.within.Spans.{IsWithinSpan}
-use Rattle.fish_lanes.specs.Telling.{TellsLane}
+use Rattle.fish_lanes.specs.Telling.{SaysLane}
 use Rattle.fish_lanes.specs.declared.lane.Lane.{Lane}
 use Rattle.fish_lanes.specs.declared.lane.Seated.{Seated}
 use Rattle.fish_lanes.specs.declared.work.LaneFault.{LaneFault}
@@ -43,10 +43,10 @@ pub record HasRun (Past : Whole → Type 0) (v u : View) (works : List Work) (it
   pub rows : List LaneRow
   pub gains : Gains v u rows
   pub tells : (past : Whole) → Past past → (s : Span) → IsWithinSpan v u s → s.full ≡ v.shut
-      → SureUpTo past u s.to (λ w. TellsLane w s rows works items)
+      → SureUpTo past u s.to (λ w. SaysLane w s rows works items)
   pub full : AllOf (IsFullItem u) items
   pub ended : IsEnded works items fault
-  pub shuts : fault ≡ cause.None → TellsShut v u items
+  pub shuts : fault ≡ cause.None → SaysShut v u items
 
 -- what the items of statements that change no definition say of plans, where the pass had read these definitions before
 abbrev pub SayPlans : View → View → List Work → List Item → Type 0

@@ -6,7 +6,7 @@ use Rattle.fish_rule.specs.Registry.{KnowsDefinitions}
 use Rattle.fish_rule.specs.declared.view.Shut.{Shut}
 use Rattle.fish_rule.specs.declared.view.View.{View}
 use Rattle.fish_value.specs.declared.field.Form.{Form}
-use Rattle.fish_lanes.specs.Sizes.{HasSize, TellsClaim}
+use Rattle.fish_lanes.specs.Sizes.{HasSize, SaysClaim}
 
 -- so they are at a version that the pass knew between the two views
 pub record IsSizeBetween (v u : View) (form : Form) (payload : List ℕ) (lines : ℕ) : Type 0 where
@@ -17,5 +17,5 @@ pub record IsSizeBetween (v u : View) (form : Form) (payload : List ℕ) (lines 
   pub size : HasSize rows form payload lines
 
 -- what shuts the pass did so before, or an item tells of it
-abbrev pub TellsShut : View → View → List Item → Type 0
-TellsShut v u items = (c : Shut) → u.shut ≡ Some c → (v.shut ≡ Some c) ⊎ TellsClaim c items
+abbrev pub SaysShut : View → View → List Item → Type 0
+SaysShut v u items = (c : Shut) → u.shut ≡ Some c → (v.shut ≡ Some c) ⊎ SaysClaim c items

@@ -1,6 +1,6 @@
 -- What a sink gets of a text that is written by pieces.
 use Rattle.std.specs.Prelude.{◌≡◌, ℕ, List, ◌++◌, Option}
-use Rattle.fish_outside.specs.Told.{Gained}
+use Rattle.fish_outside.specs.Content.{Gained}
 
 -- how many bytes a piece has at least, the last one aside
 abbrev pub piece_size : ℕ

@@ -10,7 +10,7 @@ use Rattle.fish_rule.proofs.basics.OneMoment.{claimed}
 use Rattle.fish_rule.proofs.basics.Regions.{starts_rise}
 use Rattle.fish_rule.proofs.laws.Learning.{extends_look, found_here, learns_both, learns_self}
 use Rattle.fish_rule.specs.ClosedLog.{IsClosed, IsClosedAt, ReadsOn}
-use Rattle.fish_rule.specs.Logs.{AreTold, Extends, Learns, Tells, TellsMark}
+use Rattle.fish_rule.specs.Logs.{AreKnown, Extends, Learns, KnowsAs, KnowsMark}
 use Rattle.fish_rule.specs.Parts.{Rests, quotas}
 use Rattle.fish_rule.specs.Facts.{Facts, IsFound, IsKnown, IsRecorded, Owns}
 use Rattle.fish_rule.specs.Regions.{code, kind_of}
@@ -34,8 +34,8 @@ found_kind v f among u learns w r j at =
     (learns.found f among)).kind
 
 -- what is told stays told
-pub tells_later : (v u : View) (n : ℕ) (e : Entry) → Learns v u → Tells v n e → Tells u n e
-tells_later v u n e learns tells x more = tells x (learns_both v u x learns more)
+pub knows_as_later : (v u : View) (n : ℕ) (e : Entry) → Learns v u → KnowsAs v n e → KnowsAs u n e
+knows_as_later v u n e learns tells x more = tells x (learns_both v u x learns more)
 
 -- ---- the entries so far
 
@@ -66,9 +66,9 @@ module _ {A : Type 0} where
 
 -- entries stay told, and one more is
 pub told_more : (v u : View) (base : ℕ) (entries : List Entry) (e : Entry) → Learns v u
-    → AreTold v base entries → Tells u (base + length entries) e → AreTold u base (entries ++ e ∷ [])
-told_more v u base entries e learns told next = each_more (λ i x. Tells u (base + i) x) entries e
-    (λ i x at. tells_later v u (base + i) x learns (told i x at)) next
+    → AreKnown v base entries → KnowsAs u (base + length entries) e → AreKnown u base (entries ++ e ∷ [])
+told_more v u base entries e learns told next = each_more (λ i x. KnowsAs u (base + i) x) entries e
+    (λ i x at. knows_as_later v u (base + i) x learns (told i x at)) next
 
 -- ---- the whole
 
@@ -115,12 +115,12 @@ pub extends_to_look : (v u : View) (n lines x : ℕ) → u ≡ after_look_at v n
 extends_to_look v u n lines x e = subst (Extends v) (sym e) (extends_look v n lines x)
 
 -- a void is told
-pub tells_void : (v : View) (f : Found) → Among f v.learned.found → f.kind ≡ Void → Tells v f.number entry.Void
-tells_void v f among is u learns w r j at = found_kind v f among u learns w r j at ∙ ap code is
+pub knows_void : (v : View) (f : Found) → Among f v.learned.found → f.kind ≡ Void → KnowsAs v f.number entry.Void
+knows_void v f among is u learns w r j at = found_kind v f among u learns w r j at ∙ ap code is
 
 -- a mark is told
-pub tells_mark : (v : View) (f : Found) → Among f v.learned.found → f.kind ≡ Mark → TellsMark v f.number
-tells_mark v f among is u learns w r j at = found_kind v f among u learns w r j at ∙ ap code is
+pub knows_mark : (v : View) (f : Found) → Among f v.learned.found → f.kind ≡ Mark → KnowsMark v f.number
+knows_mark v f among is u learns w r j at = found_kind v f among u learns w r j at ∙ ap code is
 
 -- ---- the end
 
@@ -203,7 +203,7 @@ quotas_all q (suc l) h =
     omega arith
 
 -- while all lanes may still claim past the log's end, none has done so: no number is a mark
-pub no_mark : (v : View) (n : ℕ) → Stands v → IsAlone v → v.shut ≡ None → v.about.number ≤ n → ¬ TellsMark v n
+pub no_mark : (v : View) (n : ℕ) → Stands v → IsAlone v → v.shut ≡ None → v.about.number ≤ n → ¬ KnowsMark v n
 no_mark v n s alone live above mark =
     let w : World = s.moment in
     let r = s.rule in

@@ -6,7 +6,7 @@ use Rattle.fish_catalog.specs.declared.entry.Entry.{Entry}
 use Rattle.fish_catalog.specs.declared.entry.Entry.TheVariants as entry
 use Rattle.fish_rule.proofs.laws.Learning.{learns_both}
 use Rattle.fish_rule.proofs.basics.Bodies.{published}
-use Rattle.fish_rule.specs.ClosedLaws.{DefinitionsAreClosed, IsOfLane, OwnIsClosed, ToldIsClosed}
+use Rattle.fish_rule.specs.ClosedLaws.{DefinitionsAreClosed, IsOfLane, OwnIsClosed, KnownIsClosed}
 use Rattle.fish_rule.specs.ClosedLog.{IsClosed}
 use Rattle.fish_rule.specs.Logs.{IsEntry, IsLog, Learns}
 use Rattle.fish_rule.specs.Parts.{IsEntryWord}
@@ -70,8 +70,8 @@ always_closed v u P remains learns c all =
     (subst (λ (z : Key). Rule z c.moment) (sym about) c.rule) c.seat c.at)
 
 -- an entry that was told stands in the log
-pub told_closed : ToldIsClosed
-told_closed v u i e remains learns c tells = entry_in c.rule remains.log c.log i e
+pub known_closed : KnownIsClosed
+known_closed v u i e remains learns c tells = entry_in c.rule remains.log c.log i e
     (always_closed v u (λ k w. IsEntry w (u.about.number + i) e) remains learns c tells)
 
 -- a record of the log is of the lane that claimed it

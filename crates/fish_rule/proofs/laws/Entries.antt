@@ -1,7 +1,7 @@
 -- What the words that were read of a region say of the entry there.
 use Rattle.std.proofs.Common.{◌≡◌, ℕ, ◌+◌, ◌*◌, ◌<◌, List, get_or, sym, ap, ◌∙◌, subst, arith, ◌≢◌, ◌-◌, ◌≤◌, suc}
 use Rattle.fish_layout.specs.Cleared.{IsKeyWord, Spells, body_of, unlinked}
-use Rattle.fish_rule.specs.Logs.{HasWords, IsEntry, Learns, Tells}
+use Rattle.fish_rule.specs.Logs.{HasWords, IsEntry, Learns, KnowsAs}
 use Rattle.fish_rule.proofs.basics.Context.{Among, Found, Kind, Rule, View, World, get_elem?, some}
 use Rattle.fish_layout.proofs.Clearing.{cleared_at, cleared_head, cleared_same}
 use Rattle.fish_layout.proofs.Spelled.{body_spelled}
@@ -114,12 +114,12 @@ has_later v u f words learns has = record {
 }
 
 -- what a view's words tell in every moment that it knows of
-pub tells_entry : (v : View) (f : Found) (words : List ℕ) → Among f v.learned.found → f.kind ≡ Stored
+pub knows_entry : (v : View) (f : Found) (words : List ℕ) → Among f v.learned.found → f.kind ≡ Stored
     → HasWords v f words → (lane : ℕ) (form : Form) (payload : List ℕ)
     → ((q : BodyParts) → IsBody q words → lane ≡ q.lane)
     → ((q : BodyParts) → IsBody q words → form ≡ q.form)
-    → ((q : BodyParts) → IsBody q words → payload ≡ q.payload) → Tells v f.number (entry.Stored lane form payload)
-tells_entry v f words among is has lane form payload lanes forms payloads u learns w r j at =
+    → ((q : BodyParts) → IsBody q words → payload ≡ q.payload) → KnowsAs v f.number (entry.Stored lane form payload)
+knows_entry v f words among is has lane form payload lanes forms payloads u learns w r j at =
     entry_there w r j at f (learns.found f among) is words
     (has_later v u f words learns has) lane form payload lanes forms payloads
 

@@ -64,8 +64,8 @@ module _ {k : Key} {w : World} (r : Rule k w) (id : ℕ) {v : View} (at : get_el
   others_stay = dir_else r id at f flying kind is_kind version ready
 
   -- the own word tells the kind
-  tells_kind : high (dir' f.number) ≡ code kind
-  tells_kind = kind_here r id at f flying kind is_kind version ready
+  knows_kind : high (dir' f.number) ≡ code kind
+  knows_kind = kind_here r id at f flying kind is_kind version ready
 
   -- nothing that lasts has changed
   final : Kept r publication
@@ -84,7 +84,7 @@ module _ {k : Key} {w : World} (r : Rule k w) (id : ℕ) {v : View} (at : get_el
         e,
         sym own.owner ∙ ap r.lane_of (sym e) ∙ h.lane,
         code_once kind Stored
-            (sym tells_kind ∙ ap (λ (z : ℕ). high (dir' z)) (sym e) ∙ h.stored),
+            (sym knows_kind ∙ ap (λ (z : ℕ). high (dir' z)) (sym e) ∙ h.stored),
       )
       pick (no ne) = inl (record {
         above = h.above;
@@ -142,7 +142,7 @@ module _ {k : Key} {w : World} (r : Rule k w) (id : ℕ) {v : View} (at : get_el
       newest o (inl e) = subst (λ (z : Own). Has v.lane v.out z.lane
           × IsStoredBy k w.count dir' r.lane_of z.lane z.number) e (
             has_own w.views id v at live r.seats,
-            record { above = own.above; below = own.below; stored = tells_kind ∙ ap code is; lane = own.owner },
+            record { above = own.above; below = own.below; stored = knows_kind ∙ ap code is; lane = own.owner },
           )
   own_own Void is = no_more (λ e. cc)
   own_own Mark is = no_more (λ e. cc)
@@ -156,7 +156,7 @@ module _ {k : Key} {w : World} (r : Rule k w) (id : ℕ) {v : View} (at : get_el
   -- and so is what the pass learns of its region
   found_here : IsFound k w.count dir' r.start
       (record { number = f.number; kind = kind; line = f.line; lines = f.lines })
-  found_here = record { above = own.above; below = own.below; kind = tells_kind; line = own.line; lines = own.lines }
+  found_here = record { above = own.above; below = own.below; kind = knows_kind; line = own.line; lines = own.lines }
 
   -- the words of a record are known from now on
   records_here : (kd : Kind) → kind ≡ kd → IsReady active version kd v.lane f
@@ -165,7 +165,7 @@ module _ {k : Key} {w : World} (r : Rule k w) (id : ℕ) {v : View} (at : get_el
     record {
       above = own.above;
       below = own.below;
-      stored = tells_kind ∙ ap code is;
+      stored = knows_kind ∙ ap code is;
       words = ap (body w.log) own.line
           ∙ own_body r id at f flying version h;
     },
@@ -196,7 +196,7 @@ module _ {k : Key} {w : World} (r : Rule k w) (id : ℕ) {v : View} (at : get_el
     number = f.number;
     end = refl;
     past = mark-past k.end f.line (f.line + f.lines) (is_kind ∙ is);
-    mark = assumption (own, tells_kind ∙ ap code is);
+    mark = assumption (own, knows_kind ∙ ap code is);
   }
 
   -- each published record has the keys of its version
@@ -210,7 +210,7 @@ module _ {k : Key} {w : World} (r : Rule k w) (id : ℕ) {v : View} (at : get_el
           subst (λ (z : ℕ). IsKeyed (AreActiveAt k w.registry) (r.version_of z) (r.lane_of z) z
           (r.start (suc z) - r.start z) (body w.log (r.start z))) (sym e)
           (own_keyed r id at f flying version live entered (subst (λ (z : Kind). IsReady active version z v.lane f)
-          (code_once kind Stored (sym tells_kind ∙ ap (λ (z : ℕ). high (dir' z)) (sym e) ∙ stored)) ready))
+          (code_once kind Stored (sym knows_kind ∙ ap (λ (z : ℕ). high (dir' z)) (sym e) ∙ stored)) ready))
       pick n above below stored (no ne) = r.keyed.each n above below (ap high (sym (others_stay n ne)) ∙ stored)
 
   -- a publication keeps the rule

@@ -8,7 +8,7 @@ use Rattle.fish_lanes.specs.Blocks.{At, IsNewLane}
 use Rattle.fish_lanes.specs.declared.block.BlockEnd.{BlockEnd}
 use Rattle.fish_lanes.specs.declared.lane.Lane.{Lane}
 use Rattle.fish_lanes.specs.declared.work.Work.{Work}
-use Rattle.fish_outside.specs.Told.{Files}
+use Rattle.fish_outside.specs.Content.{Files}
 use Rattle.fish_run.specs.Blocks.{with_cut}
 use Rattle.fish_run.specs.within.Going.{EndsRounds, StopsBlock}
 use Rattle.fish_run.specs.Rounds.{AreRounds}

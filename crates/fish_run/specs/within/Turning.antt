@@ -22,13 +22,13 @@ use Rattle.fish_run.specs.within.Going.{EndsRounds, GoesIn, IsReady, StopsBlock}
 -- ---- a full table
 
 -- the item tells that the table is full
-abbrev pub tells_full : Item → Bool
-tells_full (item.IngestFull file line lines end stored refused) = true
-tells_full x = false
+abbrev pub says_full : Item → Bool
+says_full (item.IngestFull file line lines end stored refused) = true
+says_full x = false
 
 -- no item of a lane does
 abbrev pub FindNoneFull : List Lane → Type 0
-FindNoneFull lanes = At (λ i x. list_any tells_full x.items ≡ false) lanes
+FindNoneFull lanes = At (λ i x. list_any says_full x.items ≡ false) lanes
 
 -- ---- a round
 

@@ -3,7 +3,7 @@ use Rattle.std.specs.Prelude.{ℕ, ◌≡◌, ◌+◌, ◌<◌, ◌≤◌, List,
 use Rattle.std.specs.Prelude.{slice_get, true}
 use Rattle.fish_catalog.specs.declared.row.CatRow.{CatRow}
 use Rattle.fish_lang.specs.Canonical.{definition_text}
-use Rattle.fish_lanes.specs.Blocks.{At, Both, TellsBlock}
+use Rattle.fish_lanes.specs.Blocks.{At, Both, SaysBlock}
 use Rattle.fish_lanes.specs.Controlling.{CanControl}
 use Rattle.fish_lanes.specs.Ending.{HasEnd}
 use Rattle.fish_lanes.specs.Registering.{AreSo, KnowsRegistry, after_all, registry_of}
@@ -27,8 +27,8 @@ use Rattle.fish_store.specs.declared.store.Store.{Store}
 use Rattle.fish_whole.specs.Whole.{Later, Whole, Will}
 
 -- the content of a disk of this kind is always told
-abbrev pub IsAlwaysTold : {D : Type 0} → (D → Option (List ℕ)) → Type 0
-IsAlwaysTold {D} content = (d : D) → IsSome (content d)
+abbrev pub IsAlwaysShown : {D : Type 0} → (D → Option (List ℕ)) → Type 0
+IsAlwaysShown {D} content = (d : D) → IsSome (content d)
 
 -- ---- between blocks
 
@@ -88,7 +88,7 @@ pub record HasRun {D : Type 0} (content : D → Option (List ℕ)) (images : D �
   pub many : length new ≡ length old
   pub ended : At (λ i x. length (answers x.items) ≡ length x.works) new
   pub told : (past : Whole) → Sound content images (point_at disk s) past → (from ≤ to)
-      × Will past (view t.pass) (λ w. TellsBlock w (span_of (view s.pass) (view t.pass) from to (length new)) new)
+      × Will past (view t.pass) (λ w. SaysBlock w (span_of (view s.pass) (view t.pass) from to (length new)) new)
   pub so : (x : Lane) → slice_get new 0 ≡ Some x → AreSo from (to + 16) (registry_of (view s.pass) s.registrar) x.items
   pub registry : (x : Lane) → slice_get new 0 ≡ Some x
       → registry_of (view t.pass) t.registrar ≡ after_all (registry_of (view s.pass) s.registrar) x.items

@@ -3,5 +3,5 @@ use Rattle.std.proofs.Common.{All}
 use Rattle.bench.specs.Stores.{IsRecordOf}
 use Rattle.bench.proofs.records.records_of.Given as goal
 
-abbrev pub invariant-loop-place : goal.invariant-loop-place
-invariant-loop-place g l = All (IsRecordOf l.lane l.defs) l.records.items
+abbrev pub invariant-loop-position : goal.invariant-loop-position
+invariant-loop-position g l = All (IsRecordOf l.lane l.defs) l.records.items

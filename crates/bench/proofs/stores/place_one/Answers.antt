@@ -22,9 +22,9 @@ write_record-requires-clause-can c =
     let at = c.in-Placed in
     let can = can_place c.args.log.now v c.args.prepared c.requires.pass.about c.requires.pass.stands c.requires.entered
     c.requires.prepared c.requires.unshut in
-    let place = trying_placed v v u c.lines.result (trying_begins v can.claim) at.number at.line at.ensures.claimed in (
-      placed_flight v c.args.prepared can at.number u c.lines.result c.lines.ensures place,
-      can_write v c.args.prepared can at.number u c.lines.result c.lines.ensures place,
+    let position = trying_placed v v u c.lines.result (trying_begins v can.claim) at.number at.line at.ensures.claimed in (
+      placed_flight v c.args.prepared can at.number u c.lines.result c.lines.ensures position,
+      can_write v c.args.prepared can at.number u c.lines.result c.lines.ensures position,
     )
 
 pub publish-requires-clause-view : goal.publish-requires-clause-view

@@ -4,4 +4,4 @@ use Rattle.fish_catalog.proofs.Lookups.{apart_all}
 use Rattle.fish_catalog.proofs.restore.are_apart.Goals as goal
 
 pub returns : goal.returns
-returns c = ((λ _. apart_all c.args.rows.now (λ k less. c.loop-place.invariant k (omega arith))), λ _. refl)
+returns c = ((λ _. apart_all c.args.rows.now (λ k less. c.loop-position.invariant k (omega arith))), λ _. refl)

@@ -6,6 +6,6 @@ use Rattle.fish_catalog.specs.declared.row.CatRow.{CatRow}
 use Rattle.fish_catalog.proofs.restore.are_apart.Given as goal
 
 -- no active row so far has the name of an active one in front of it
-abbrev pub invariant-loop-place : goal.invariant-loop-place
-invariant-loop-place l =
-    (k : ℕ) → k < l.place → (row : CatRow) → slice_get l.rows k ≡ Some row → IsActive row → IsAlone (take k l.rows) row.name
+abbrev pub invariant-loop-position : goal.invariant-loop-position
+invariant-loop-position l =
+    (k : ℕ) → k < l.position → (row : CatRow) → slice_get l.rows k ≡ Some row → IsActive row → IsAlone (take k l.rows) row.name

@@ -1,4 +1,4 @@
--- What holds of each row by its place holds of all.
+-- What holds of each row by its position holds of all.
 use Rattle.std.proofs.Common.{arith, refl}
 use Rattle.fish_catalog.proofs.Lookups.{all_rows, rows_more}
 use Rattle.fish_catalog.proofs.restore.are_rows.Goals as goal

@@ -1,4 +1,4 @@
--- Each word, by its place.
+-- Each word, by its position.
 use Rattle.std.proofs.Common.{◌-◌, sym, ap, ◌∙◌, arith}
 use Rattle.fish_layout.specs.Bytes.{word_at}
 use Rattle.fish_catalog.specs.Words.{row_word}
@@ -18,13 +18,13 @@ returns-in-1 c = c.word_of_bound-in-1.ensures ∙ ap (row_word c.args.row.now) (
 -- a word of the name
 pub returns-in-3-to-6 : goal.returns-in-3-to-6
 returns-in-3-to-6 c =
-    let place = c.args.place in
-    c.word_of_bytes.ensures ∙ ap (λ b. word_at b (place - 3)) c.as_bytes.ensures.value
-    ∙ sym (word_of_name c.args.row.now place (omega arith) (omega arith))
+    let position = c.args.position in
+    c.word_of_bytes.ensures ∙ ap (λ b. word_at b (position - 3)) c.as_bytes.ensures.value
+    ∙ sym (word_of_name c.args.row.now position (omega arith) (omega arith))
 
 -- a word of the text
 pub returns-in_default : goal.returns-in_default
 returns-in_default c =
-    let place = c.args.place in
-    c.word_of_bytes-in_default.ensures ∙ ap (λ b. word_at b (place - 7)) c.as_bytes-in_default.ensures.value
-    ∙ sym (word_of_text c.args.row.now place (omega arith))
+    let position = c.args.position in
+    c.word_of_bytes-in_default.ensures ∙ ap (λ b. word_at b (position - 7)) c.as_bytes-in_default.ensures.value
+    ∙ sym (word_of_text c.args.row.now position (omega arith))

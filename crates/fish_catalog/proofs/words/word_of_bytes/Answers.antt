@@ -7,7 +7,7 @@ use Rattle.fish_catalog.proofs.words.word_of_bytes.Goals as goal
 pub returns : goal.returns
 returns c =
     let b : List ℕ = c.args.bytes.now in
-    let i : ℕ = c.args.place in
+    let i : ℕ = c.args.position in
     omega (
       arith,
       c.from_le_bytes.ensures,

@@ -8,10 +8,10 @@ pub returns-in_default : goal.returns-in_default
 returns-in_default c = no-column c.args.path.now _ c.in_default.ensures
 
 pub returns-in_default-get : goal.returns-in_default-get
-returns-in_default-get c = no-field c.args.path.now _ c.in-Some.place c.in-Some.ensures c.in_default-get.ensures.value
+returns-in_default-get c = no-field c.args.path.now _ c.in-Some.position c.in-Some.ensures c.in_default-get.ensures.value
 
 pub to_field-requires : goal.to_field-requires
-to_field-requires c = field-text _ c.in-Some.place _ c.requires c.in-Some-get.ensures.value
+to_field-requires c = field-text _ c.in-Some.position _ c.requires c.in-Some-get.ensures.value
 
 pub returns : goal.returns
-returns c = c.to_field.ensures ∙ the-field c.args.path.now _ c.in-Some.place _ c.in-Some.ensures c.in-Some-get.ensures.value
+returns c = c.to_field.ensures ∙ the-field c.args.path.now _ c.in-Some.position _ c.in-Some.ensures c.in-Some-get.ensures.value

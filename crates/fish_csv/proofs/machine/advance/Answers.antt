@@ -1,6 +1,6 @@
--- Each place takes the byte by a function of its own, and some take it alike.
+-- Each position takes the byte by a function of its own, and some take it alike.
 use Rattle.std.proofs.Common.{sym, ◌∙◌}
-use Rattle.fish_csv.specs.declared.machine.Place.TheVariants as place
+use Rattle.fish_csv.specs.declared.machine.Position.TheVariants as position
 use Rattle.fish_csv.proofs.Steps.{closed-other, row-end, row-other, IfOk-as}
 use Rattle.fish_csv.proofs.machine.advance.Goals as goal
 
@@ -10,11 +10,11 @@ returns-then-is_line_end-clause-goes c = λ rest.
 
 pub returns-else-is_line_end-clause-goes : goal.returns-else-is_line_end-clause-goes
 returns-else-is_line_end-clause-goes c =
-    rw c.in-Row.is (IfOk-as _ place.Row place.Field c.args.c _ _ _ _
+    rw c.in-Row.is (IfOk-as _ position.Row position.Field c.args.c _ _ _ _
     (λ rest. row-other c.args.c _ _ rest
     (sym c.is_line_end.ensures ∙ c.if-is_line_end.false)) c.advance_field.ensures.goes)
 
 pub returns-else-c-eq34-clause-goes : goal.returns-else-c-eq34-clause-goes
 returns-else-c-eq34-clause-goes c =
-    rw c.in-Closed.is (IfOk-as _ place.Closed place.Plain c.args.c _ _ _ _
+    rw c.in-Closed.is (IfOk-as _ position.Closed position.Plain c.args.c _ _ _ _
     (λ rest. closed-other c.args.c _ _ rest c.if-c-eq34.false) c.advance_plain-in-Closed.ensures.goes)

@@ -6,4 +6,4 @@ pub returns-in-Row : goal.returns-in-Row
 returns-in-Row c = rw c.in-Row.is (end-row _ _)
 
 pub returns-in_ok-end_field-in_default : goal.returns-in_ok-end_field-in_default
-returns-in_ok-end_field-in_default c = rw c.in_ok-end_field-in_default.ensures.fields (end-other c.args.place _ _ c.in_default.not-Row)
+returns-in_ok-end_field-in_default c = rw c.in_ok-end_field-in_default.ensures.fields (end-other c.args.position _ _ c.in_default.not-Row)

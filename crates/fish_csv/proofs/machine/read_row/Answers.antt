@@ -11,14 +11,14 @@ returns-then-not-found c =
     let on = turn-run _ _ _ _ _ _ _ _ _ c.loop-c.invariant.same c.run_len.ensures.runs c.split_at.ensures.front
     c.split_at.ensures.back c.in_ok-extend_from_slice.ensures.items in
     rows-none c.args.b.now
-    (turn-end c.args.b.now c.loop-c.place _ _ _ _ c.in_ok-found.found on c.in_default.ensures c.in_ok-found.ensures
+    (turn-end c.args.b.now c.loop-c.position _ _ _ _ c.in_ok-found.found on c.in_default.ensures c.in_ok-found.ensures
     ∙ rw c.if-not-found.true refl)
 
 pub returns-in_default : goal.returns-in_default
 returns-in_default c =
     let on = turn-run _ _ _ _ _ _ _ _ _ c.loop-c.invariant.same c.run_len.ensures.runs c.split_at.ensures.front
     c.split_at.ensures.back c.in_ok-extend_from_slice.ensures.items in
-    let found = turn-end c.args.b.now c.loop-c.place _ _ _ _ c.in_ok-found.found on c.in_default.ensures
+    let found = turn-end c.args.b.now c.loop-c.position _ _ _ _ c.in_ok-found.found on c.in_default.ensures
     c.in_ok-found.ensures ∙ rw c.if-not-found.false refl in
     rw c.in_default.ensures (rows-more c.args.b.now _ st.StartRecord [] found)
 
@@ -28,7 +28,7 @@ returns-in_default-2 c =
     c.split_at.ensures.back c.in_ok-extend_from_slice.ensures.items in
     let last = (rw c.in_default-2.is at c.in_ok-next.ensures.goes) c.in-Some.more.now in
     rows-more c.args.b.now _ last.0 c.in-Some.more.now
-    (on ∙ ap (λ t. row_from c.loop-c.place
+    (on ∙ ap (λ t. row_from c.loop-c.position
     (fields_of c.loop-c.row) c.extend_from_slice.new.self.items t) c.in-Some.ensures ∙ last.2)
 
 pub loop-c-preserved : goal.loop-c-preserved
@@ -45,6 +45,6 @@ loop-c-preserved c =
       );
       whole = c.in_ok-next.ensures.whole;
       same = on
-          ∙ ap (λ t. row_from c.loop-c.place (fields_of c.loop-c.row) c.extend_from_slice.new.self.items t) c.in-Some.ensures
+          ∙ ap (λ t. row_from c.loop-c.position (fields_of c.loop-c.row) c.extend_from_slice.new.self.items t) c.in-Some.ensures
           ∙ next;
     }

@@ -1,4 +1,4 @@
--- The fields in front of this place were written, with the commas between them.
+-- The fields in front of this position were written, with the commas between them.
 use Rattle.std.proofs.Common.{◌≡◌, ◌≤◌, ◌-◌, length, take}
 use Rattle.csv.specs.Records.{fields_of}
 use Rattle.csv.specs.Writing.{default_writer, row_body}
@@ -6,9 +6,9 @@ use Rattle.fish_csv.proofs.write.write_row.Given as goal
 
 abbrev pub invariant-loop-field : goal.invariant-loop-field
 invariant-loop-field l = record {
-  within : l.place ≤ length (fields_of l.row);
-  written : l.out.items ≡ row_body default_writer (take l.place (fields_of l.row));
+  within : l.position ≤ length (fields_of l.row);
+  written : l.out.items ≡ row_body default_writer (take l.position (fields_of l.row));
 }
 
 abbrev pub decreases-loop-field : goal.decreases-loop-field
-decreases-loop-field l = length (fields_of l.row) - l.place
+decreases-loop-field l = length (fields_of l.row) - l.position

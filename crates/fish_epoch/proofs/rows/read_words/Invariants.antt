@@ -5,11 +5,11 @@ use Rattle.fish_rule.specs.Passes.{IsPassOf, view}
 use Rattle.fish_epoch.specs.Rows.{HasRowWords, OnlyReads}
 use Rattle.fish_epoch.proofs.rows.read_words.Given as goal
 
-abbrev pub invariant-loop-place : goal.invariant-loop-place
-invariant-loop-place l = record {
+abbrev pub invariant-loop-position : goal.invariant-loop-position
+invariant-loop-position l = record {
   of : IsPassOf l.log l.pass;
   reads : OnlyReads (view l.fn.pass) (view l.pass);
   wide : length l.words ≡ 39;
-  within : l.place ≤ 39;
-  words : HasRowWords (view l.pass) l.id l.place (slice_index l.words);
+  within : l.position ≤ 39;
+  words : HasRowWords (view l.pass) l.id l.position (slice_index l.words);
 }

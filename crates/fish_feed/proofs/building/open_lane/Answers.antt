@@ -8,7 +8,7 @@ use Rattle.fish_feed.proofs.Queues.{dues_later}
 use Rattle.fish_feed.specs.Queues.{AreFitTodos, IsDue}
 use Rattle.fish_feed.specs.Works.{Pairs}
 use Rattle.fish_feed.specs.declared.queue.Todo.{Todo}
-use Rattle.fish_outside.proofs.ToldLemmas.{StillTold_trans}
+use Rattle.fish_outside.proofs.ContentLemmas.{SameFiles_trans}
 use Rattle.fish_script.specs.declared.script.Statement.{Statement}
 use Rattle.fish_feed.proofs.building.open_lane.Goals as goal
 
@@ -35,11 +35,11 @@ loop-statement-preserved g c =
       todos = subst (λ (z : List Statement × List (Todo g.row.H-Feed.Denot)). Pairs (IsDue new left) z.0 z.1)
           (λ j. (sym next j, sym pushed j))
           (pairs_push (IsDue new left) (take i ss) todos s t
-          (dues_later left old new c.todo_of.ensures.told (take i ss) todos inv.todos) c.in-Ok.ensures.due);
+          (dues_later left old new c.todo_of.ensures.content (take i ss) todos inv.todos) c.in-Ok.ensures.due);
       fit = λ first free. subst (λ (z : List (Todo g.row.H-Feed.Denot)). AreFitTodos faults first z) (sym pushed)
           (todos_push faults first todos t (inv.fit first free)
           (c.in-Ok.ensures.fit first (λ no. free_at ss i s at (free no))));
-      told = StillTold_trans was old new inv.told c.todo_of.ensures.told;
+      told = SameFiles_trans was old new inv.told c.todo_of.ensures.content;
       later = omega (later, then, arith);
     }
 

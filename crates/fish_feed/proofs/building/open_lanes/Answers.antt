@@ -7,15 +7,15 @@ use Rattle.fish_feed.proofs.Giving.{cause_after, failed_too}
 use Rattle.fish_feed.proofs.Opening.{AreOpened, opened_later, some_before}
 use Rattle.fish_feed.specs.Queues.{AreFit, IsQueue}
 use Rattle.fish_feed.specs.declared.queue.Queue.{Queue}
-use Rattle.fish_outside.proofs.ToldLemmas.{StillTold_trans}
+use Rattle.fish_outside.proofs.ContentLemmas.{SameFiles_trans}
 use Rattle.fish_outside.specs.declared.fault.FeedRefusal.TheVariants.{Failed}
 use Rattle.fish_script.specs.Script.{AreFree}
 use Rattle.fish_script.specs.declared.script.Statement.{Statement}
 use Rattle.fish_feed.proofs.building.open_lanes.Goals as goal
 
-pub returns-in-Err-clause-told : goal.returns-in-Err-clause-told
-returns-in-Err-clause-told g c = StillTold_trans (g.H.Host.files c.args.host.now) (g.H.Host.files c.loop-text.host)
-    (g.H.Host.files c.open_lane.new.host) c.loop-text.invariant.told c.open_lane.ensures.told
+pub returns-in-Err-clause-content : goal.returns-in-Err-clause-content
+returns-in-Err-clause-content g c = SameFiles_trans (g.H.Host.files c.args.host.now) (g.H.Host.files c.loop-text.host)
+    (g.H.Host.files c.open_lane.new.host) c.loop-text.invariant.told c.open_lane.ensures.content
 
 pub returns-in-Err-clause-cause : goal.returns-in-Err-clause-cause
 returns-in-Err-clause-cause g c =
@@ -27,9 +27,9 @@ returns-in-Err-clause-cause g c =
           (let same : c.in-Err.refusal ≡ Failed = cc in same));
     }
 
-pub returns-in-Err-push-clause-told : goal.returns-in-Err-push-clause-told
-returns-in-Err-push-clause-told g c = StillTold_trans (g.H.Host.files c.args.host.now) (g.H.Host.files c.loop-text.host)
-    (g.H.Host.files c.open_lane.new.host) c.loop-text.invariant.told c.open_lane.ensures.told
+pub returns-in-Err-push-clause-content : goal.returns-in-Err-push-clause-content
+returns-in-Err-push-clause-content g c = SameFiles_trans (g.H.Host.files c.args.host.now) (g.H.Host.files c.loop-text.host)
+    (g.H.Host.files c.open_lane.new.host) c.loop-text.invariant.told c.open_lane.ensures.content
 
 pub returns-in-Err-push-clause-cause : goal.returns-in-Err-push-clause-cause
 returns-in-Err-push-clause-cause g c =
@@ -56,7 +56,7 @@ loop-text-preserved g c =
     let next : take (i + 1) texts ≡ take i texts ++ ss ∷ [] = take_more texts i ss test
     ∙ ap (λ (z : List Statement). take i texts ++ z ∷ []) (sym c.text-item.is) in
     let pushed : c.push.new.self.items ≡ queues ++ q ∷ [] = c.in-Ok-push.ensures.items in
-    let before : AreOpened new left (take i texts) queues = opened_later left old new c.open_lane.ensures.told (take i texts) queues
+    let before : AreOpened new left (take i texts) queues = opened_later left old new c.open_lane.ensures.content (take i texts) queues
     inv.queues in
     let many : length queues ≡ i = pairs_length (λ (x : List Statement) (y : Queue g.row.H-Feed.Denot). IsQueue new left x [] y)
     (take i texts) queues before ∙ take_length i texts (omega (test, arith)) in
@@ -74,7 +74,7 @@ loop-text-preserved g c =
           let some = some_before queues no in
           let after : 0 < i = omega (some, many, arith) in
           subst AreFree (sym c.as_slice.ensures) (c.requires.free i ss after at))));
-      told = StillTold_trans was old new inv.told c.open_lane.ensures.told;
+      told = SameFiles_trans was old new inv.told c.open_lane.ensures.content;
       later = omega (later, then, arith);
     }
 

@@ -1,8 +1,8 @@
 -- What was taken before a read that failed, and what that read took, are together no more than may be.
 use Rattle.std.proofs.Common.{arith, ◌++◌, length-append, sym, subst}
 use Rattle.std.proofs.lemmas.Grind.{common_steps}
-use Rattle.fish_outside.proofs.ToldLemmas.{Took_trans}
-use Rattle.fish_outside.specs.Told.{Took}
+use Rattle.fish_outside.proofs.ContentLemmas.{Took_trans}
+use Rattle.fish_outside.specs.Content.{Took}
 use Rattle.fish_feed.proofs.Lists.{reads_all}
 use Rattle.fish_feed.proofs.file.read_up_to.Goals as goal
 

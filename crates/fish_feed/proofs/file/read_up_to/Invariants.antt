@@ -1,6 +1,6 @@
 -- What was taken from the source so far is what the bytes hold; each turn takes at least one more.
 use Rattle.std.proofs.Common.{◌≡◌, ◌-◌, ◌≤◌, length, vec_len}
-use Rattle.fish_outside.specs.Told.{Took}
+use Rattle.fish_outside.specs.Content.{Took}
 use Rattle.fish_feed.specs.declared.file.TheConstants.{CHUNK}
 use Rattle.fish_feed.proofs.file.read_up_to.Given as goal
 

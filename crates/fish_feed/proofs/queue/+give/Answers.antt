@@ -27,7 +27,7 @@ returns-in-Ok-clause-given g t c =
     let qs = c.in-Some.other_queues.now in
     let all : c.args.queues.now ≡ q ∷ qs = search rules in
     on_ok_weaker c.give.result
-    (λ others texts given h. given_all left old mid new c.give_one.ensures.told c.give.ensures.told q c.give_one.new.queue qs
+    (λ others texts given h. given_all left old mid new c.give_one.ensures.content c.give.ensures.content q c.give_one.new.queue qs
     c.give.new.queues c.give_one.new.lane c.give.new.lanes c.in-Ok.ensures.given others texts given
     (subst (λ (z : List (Queue g.row.H-Feed.Denot)). Triples (IsQueue old left) texts given z) all h))
     c.give.ensures.given
@@ -42,7 +42,7 @@ returns-in-Ok-clause-failed g t c =
     let qs = c.in-Some.other_queues.now in
     let all : c.args.queues.now ≡ q ∷ qs = search rules in
     on_err_weaker c.give.result
-    (λ others texts given h. failed_all left old mid new c.give_one.ensures.told c.give.ensures.told q c.give_one.new.queue qs
+    (λ others texts given h. failed_all left old mid new c.give_one.ensures.content c.give.ensures.content q c.give_one.new.queue qs
     c.give.new.queues c.give_one.new.lane c.in-Ok.ensures.given others texts given
     (subst (λ (z : List (Queue g.row.H-Feed.Denot)). Triples (IsQueue old left) texts given z) all h))
     c.give.ensures.failed
@@ -72,7 +72,7 @@ returns-in-Err-clause-failed g t c = λ texts given h.
     let q = c.in-Some.queue.now in
     let qs = c.in-Some.other_queues.now in
     let all : c.args.queues.now ≡ q ∷ qs = search rules in
-    failed_first left old new c.give_one.ensures.told q c.give_one.new.queue qs c.in-Err.ensures.failed texts given
+    failed_first left old new c.give_one.ensures.content q c.give_one.new.queue qs c.in-Err.ensures.failed texts given
     (subst (λ (z : List (Queue g.row.H-Feed.Denot)). Triples (IsQueue old left) texts given z) all h)
 
 pub returns-in-Err-clause-lanes : goal.returns-in-Err-clause-lanes

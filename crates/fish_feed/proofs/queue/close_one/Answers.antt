@@ -8,7 +8,7 @@ pub returns-in-Some-clause-first : goal.returns-in-Some-clause-first
 returns-in-Some-clause-first g c = λ ss given h.
     let o = c.in-Some.file in
     let is : c.args.queue.now.current ≡ Some o = search rules in
-    first_of_end g.H.Feed.Source.left (g.H.Host.files c.args.host.now) (g.H.Host.files c.close_file.new.host) c.close_file.ensures.told
+    first_of_end g.H.Feed.Source.left (g.H.Host.files c.args.host.now) (g.H.Host.files c.close_file.new.host) c.close_file.ensures.content
     ss given c.args.queue.now (Some o) is c.close_file.ensures.feed h
 
 pub returns-in-None-clause-first : goal.returns-in-None-clause-first

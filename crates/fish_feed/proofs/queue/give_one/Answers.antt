@@ -8,7 +8,7 @@ use Rattle.fish_feed.proofs.Told.{still_self}
 use Rattle.fish_feed.specs.Queues.{IsQueue, MayDo, MayDoAll, left_of}
 use Rattle.fish_feed.specs.Works.{AreAnew, AreAnewAfterFirst, IsAnew}
 use Rattle.fish_lanes.specs.declared.work.Work.{Work}
-use Rattle.fish_outside.proofs.ToldLemmas.{StillTold_trans}
+use Rattle.fish_outside.proofs.ContentLemmas.{SameFiles_trans}
 use Rattle.fish_feed.proofs.queue.give_one.Goals as goal
 
 pub loop-most-init : goal.loop-most-init
@@ -80,7 +80,7 @@ loop-most-preserved g c =
           (c.is_some.ensures ∙ ap (λ (z : Option _). is_some z) open_is)));
       down = omega (less, down, arith);
       falls = inr (omega (less, down, arith));
-      told = StillTold_trans was mid new inv.told c.in-Ok-Some.ensures.told;
+      told = SameFiles_trans was mid new inv.told c.in-Ok-Some.ensures.content;
       later = omega (cause, later, arith);
     }
 

@@ -3,7 +3,7 @@ use Rattle.std.proofs.Common.{◌≡◌, ◌<◌, ◌≤◌, ◌⊎◌, ◌++◌
 use Rattle.fish_feed.specs.Queues.{IsFit, IsQueue, MayDoAll, left_of}
 use Rattle.fish_feed.specs.Works.{AreAnewAfterFirst}
 use Rattle.fish_lanes.specs.declared.work.Work.{Work}
-use Rattle.fish_outside.specs.Told.{StillTold}
+use Rattle.fish_outside.specs.Content.{SameFiles}
 use Rattle.fish_script.specs.declared.script.Statement.{Statement}
 use Rattle.fish_feed.proofs.queue.give_one.Given as goal
 
@@ -19,7 +19,7 @@ invariant-loop-most g l = record {
   last : (l.lane.works ≡ []) ⊎ ((l.most ≡ 0) ⊎ (l.queue.current ≡ None));
   down : left_of l.queue ≤ left_of l.fn.queue;
   falls : (l.most ≡ 1048576) ⊎ (left_of l.queue < left_of l.fn.queue);
-  told : StillTold (g.H.Host.files l.fn.host) (g.H.Host.files l.host);
+  told : SameFiles (g.H.Host.files l.fn.host) (g.H.Host.files l.host);
   later : g.H.Host.faults l.fn.host ≤ g.H.Host.faults l.host;
 }
 

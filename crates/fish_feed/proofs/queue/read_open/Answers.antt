@@ -16,7 +16,7 @@ returns-in-Ok-true-clause-given g c = λ ss given h.
     let none : c.take.new.self ≡ None = search rules in
     let last : c.in-Ok-true.field-0.last ≡ true = search rules in
     subst (λ (z : Option _). HasQueue new left ss (given ++ w ∷ []) z todos) (sym none)
-    (queue_rest left told ss given new c.close_file.ensures.told o c.read_part.new.file w todos
+    (queue_rest left told ss given new c.close_file.ensures.content o c.read_part.new.file w todos
     (subst (λ (z : Option _). HasQueue told left ss given z todos) open_is h) (c.in-Ok-true.ensures.part.rest last)
     c.close_file.ensures.feed)
 
@@ -39,7 +39,7 @@ returns-in-Err-clause-failed g c = λ ss given h.
     let todos = c.args.queue.now.todos.items in
     let o = c.in-Some.file in
     let open_is : c.args.queue.now.current ≡ Some o = search rules in
-    let end = queue_end left told ss given new c.close_file-in-Err.ensures.told (Some o) todos
+    let end = queue_end left told ss given new c.close_file-in-Err.ensures.content (Some o) todos
     (subst (λ (z : Option _). HasQueue told left ss given z todos) open_is h)
-    (λ some. c.read_part.ensures.told (c.close_file-in-Err.ensures.feed some)) in
+    (λ some. c.read_part.ensures.content (c.close_file-in-Err.ensures.feed some)) in
     (end.0, inr end.1)

@@ -7,7 +7,7 @@ use Rattle.fish_disk.proofs.Moments.{leaves_more, leaves_then}
 use Rattle.fish_disk.proofs.Regions.{told_at}
 use Rattle.fish_slots.proofs.Keeping.{one_gates, one_slot}
 use Rattle.fish_disk.specs.Crash.{TornFrom}
-use Rattle.fish_slots.specs.Places.{body_at, body_bytes, gate_at, lines_at}
+use Rattle.fish_slots.specs.Offsets.{body_at, body_bytes, gate_at, lines_at}
 use Rattle.fish_slots.specs.Slots.{IsOpen}
 use Rattle.fish_flush.proofs.creation.put_first.Goals as goal
 

@@ -3,7 +3,7 @@ use Rattle.std.proofs.Common.{ℕ, ◌+◌, ◌%◌, List, refl, ap}
 use Rattle.std.proofs.Common.{subst, arith}
 use Rattle.fish_catalog.specs.Limits.{newest_format}
 use Rattle.fish_flush.proofs.Drafted.{within_limits}
-use Rattle.fish_image.specs.Reading.{IsTold}
+use Rattle.fish_image.specs.Reading.{IsBodyOf}
 use Rattle.fish_rule.specs.Passes.{view}
 use Rattle.fish_rule.specs.declared.view.Key.{Key}
 use Rattle.fish_rule.specs.declared.view.View.{View}
@@ -36,7 +36,7 @@ returns-clause-drafts c =
     let line : ℕ = c.end_line-line.result in
     let body' : List ℕ = c.in_ok-body.field-0 in
     record {
-      told = subst (λ (z : Shape × Shape × List CatRow). IsTold (record {
+      told = subst (λ (z : Shape × Shape × List CatRow). IsBodyOf (record {
         format = newest_format;
         turn = (f.turn + 1) % 3;
         pages = z.0.pages;
@@ -44,7 +44,7 @@ returns-clause-drafts c =
         count = c.args.to;
         lines = line;
         rows = z.2;
-      }) body') (λ i. (c.shape.ensures i, c.shape-2.ensures i, c.in_ok-again.ensures i)) c.in_ok-body.ensures.told;
+      }) body') (λ i. (c.shape.ensures i, c.shape-2.ensures i, c.in_ok-again.ensures i)) c.in_ok-body.ensures.body;
       turn = refl;
       count = refl;
       line = c.end_line-line.ensures.line;

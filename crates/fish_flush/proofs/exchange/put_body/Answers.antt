@@ -3,7 +3,7 @@ use Rattle.std.proofs.Common.{◌-◌, inl, ℕ, List, ◌++◌, arith}
 use Rattle.std.proofs.lemmas.Result.{on_ok_weaker}
 use Rattle.fish_disk.specs.Crash.{TornFrom}
 use Rattle.fish_disk.proofs.Moments.{leaves_more, leaves_then}
-use Rattle.fish_slots.specs.Places.{body_at, body_bytes}
+use Rattle.fish_slots.specs.Offsets.{body_at, body_bytes}
 use Rattle.fish_slots.proofs.Commits.{rests_commit}
 use Rattle.fish_flush.specs.Writing.{EitherCommit}
 use Rattle.fish_flush.proofs.Images.{now_sealed, rests_body, resting_gates}

@@ -3,7 +3,7 @@ use Rattle.std.proofs.Common.{◌≡◌, ◌-◌, inr, ℕ, List, sym, ◌∙◌
 use Rattle.std.proofs.lemmas.Result.{on_ok_weaker}
 use Rattle.fish_disk.specs.Crash.{TornFrom}
 use Rattle.fish_disk.proofs.Moments.{leaves_more, leaves_then}
-use Rattle.fish_slots.specs.Places.{gate_at}
+use Rattle.fish_slots.specs.Offsets.{gate_at}
 use Rattle.fish_slots.specs.Slots.{line_count, lines_of}
 use Rattle.fish_slots.proofs.Keeping.{one_gates, other_gate}
 use Rattle.fish_flush.specs.Writing.{EitherCommit, IsSealed}

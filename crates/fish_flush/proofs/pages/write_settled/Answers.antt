@@ -9,7 +9,7 @@ use Rattle.fish_flush.specs.declared.batch.Batch.{Batch}
 use Rattle.fish_rule.proofs.laws.Learning.{extends_both, extends_self}
 use Rattle.fish_rule.specs.Passes.{view}
 use Rattle.fish_rule.specs.declared.view.Key.{Key}
-use Rattle.fish_slots.specs.Places.{lines_at}
+use Rattle.fish_slots.specs.Offsets.{lines_at}
 use Rattle.fish_flush.proofs.pages.write_settled.Goals as goal
 use Rattle.fish_flush.proofs.pages.write_settled.Goals.{then-full+in_ok-write_pending, then-full-via-then-full}
 use Rattle.fish_flush.proofs.pages.write_settled.Goals.{then-full-via-else-full+then-number-to, else-full+else-number-to}

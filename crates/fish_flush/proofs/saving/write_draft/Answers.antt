@@ -11,7 +11,7 @@ use Rattle.fish_image.proofs.Spelling.{told_length}
 use Rattle.fish_rule.specs.Passes.{view}
 use Rattle.fish_rule.specs.declared.view.Key.{Key}
 use Rattle.fish_slots.specs.Commits.{Rests}
-use Rattle.fish_slots.specs.Places.{lines_at}
+use Rattle.fish_slots.specs.Offsets.{lines_at}
 use Rattle.fish_flush.proofs.saving.write_draft.Goals as goal
 
 pub write_settled-requires-clause-ordered : goal.write_settled-requires-clause-ordered

@@ -1,4 +1,4 @@
--- Key entries stand in the order of their places.
+-- Key entries stand in the order of their positions.
 use Rattle.fish_image.proofs.Newest.{agrees_lower, agrees_newest}
 use Rattle.fish_image.proofs.law.heads_are_newest.Goals as goal
 

@@ -4,7 +4,7 @@ use Rattle.std.specs.Prelude.{IsUtf8}
 use Rattle.fish_image.proofs.Spelling.{gone, name_length, name_read, row_word, text_length, text_read}
 use Rattle.fish_image.proofs.read.read_row.Goals as goal
 
--- the bytes from a place on, as many as a byte says
+-- the bytes from a position on, as many as a byte says
 cut : (b text : List ℕ) (at size n : ℕ) → n ≡ size → take size (drop at b) ≡ text → take (at + n - at) (drop at b) ≡ text
 cut b text at size n same read = let e : at + n - at ≡ size = omega arith in ap (λ (k : ℕ). take k (drop at b)) e ∙ read
 

@@ -2,8 +2,8 @@
 use Rattle.fish_image.proofs.Spelling.{told_length}
 use Rattle.fish_image.proofs.slot.slot_body.Goals as goal
 
-pub returns-clause-told : goal.returns-clause-told
-returns-clause-told c = record { commit = c.in_ok-body.ensures.commit; bytes = c.in_ok-body.ensures.bytes }
+pub returns-clause-body : goal.returns-clause-body
+returns-clause-body c = record { commit = c.in_ok-body.ensures.commit; bytes = c.in_ok-body.ensures.bytes }
 
 pub returns-clause-size : goal.returns-clause-size
 returns-clause-size c =

@@ -61,14 +61,14 @@ fill-requires-clause-view c =
     (c.set_number.ensures b.0 b.2) in
     (f, subst (CanFill v f) (sym c.as_slice.ensures) (can_fill v f c.args.prepared can c.set_number.new.body body))
 
-pub overflow_cast-place : goal.overflow_cast-place
-overflow_cast-place c =
+pub overflow_cast-position : goal.overflow_cast-position
+overflow_cast-position c =
     let can = c.requires.can.1 in
-    let s = c.loop-place.invariant.writing c.requires.can.0 can in
+    let s = c.loop-position.invariant.writing c.requires.can.0 can in
     let few = few_keys_of s.made.proper in
     let keys = ap length (c.as_slice-key-items.ensures ∙ can.made.1) in
-    let less = c.loop-place-test.true in
-    let end = c.loop-place.auto.place-end in
+    let less = c.loop-position-test.true in
+    let end = c.loop-position.auto.position-end in
     omega arith
 
 -- the key is the next one of the record
@@ -82,36 +82,36 @@ pub link-requires-clause-view : goal.link-requires-clause-view
 link-requires-clause-view c =
     let f : Flight = c.requires.can.0 in
     let can = c.requires.can.1 in
-    let s = c.loop-place.invariant.writing f can in
+    let s = c.loop-position.invariant.writing f can in
     let p = parts_at (view c.args.pass.now) f c.args.prepared can in
     let k : KeyPart = c.key-item.result in
-    let u = view c.loop-place.pass in
+    let u = view c.loop-position.pass in
     let keys : c.as_slice-key-items.result.now ≡ p.keys = c.as_slice-key-items.ensures ∙ can.made.1 in
     let size = ap length keys in
-    let inside : c.loop-place.place < length c.as_slice-key-items.result.now =
-    (let t = c.loop-place-test.true in let e = c.loop-place.auto.place-end in omega arith) in
+    let inside : c.loop-position.position < length c.as_slice-key-items.result.now =
+    (let t = c.loop-position-test.true in let e = c.loop-position.auto.position-end in omega arith) in
     let buckets : u.about.buckets ≡ c.buckets.result =
-    ap (λ (z : Key). z.buckets) c.loop-place.invariant.of.about ∙ sym c.buckets.ensures.value in
+    ap (λ (z : Key). z.buckets) c.loop-position.invariant.of.about ∙ sym c.buckets.ensures.value in
     let hashed : bucket_in (key_hash_of k.id k.value) u.about.buckets ≡ c.bucket_of-bucket.result =
     (λ i. bucket_in (sym c.key_hash.ensures i) (buckets i)) ∙ sym c.bucket_of-bucket.ensures.value in
     let fits = c.bucket_of-bucket.ensures.fits in (
       s.flight,
-      writing_links (view c.args.pass.now) f p c.loop-place.place u s k c.bucket_of-bucket.result
-          (key_found _ p.keys c.loop-place.place k keys inside c.key-item.is) (omega arith) hashed (omega arith),
+      writing_links (view c.args.pass.now) f p c.loop-position.position u s k c.bucket_of-bucket.result
+          (key_found _ p.keys c.loop-position.position k keys inside c.key-item.is) (omega arith) hashed (omega arith),
     )
 
-pub loop-place-preserved : goal.loop-place-preserved
-loop-place-preserved c = record {
+pub loop-position-preserved : goal.loop-position-preserved
+loop-position-preserved c = record {
   of = c.link.ensures.pass;
   writing = λ f can.
       let v = view c.args.pass.now in
-      let s = c.loop-place.invariant.writing f can in
+      let s = c.loop-position.invariant.writing f can in
       let p = parts_at v f c.args.prepared can in
       let size = ap length (c.as_slice-key-items.ensures ∙ can.made.1) in
-      let less : c.loop-place.place < length p.keys =
-      (let t = c.loop-place-test.true in let e = c.loop-place.auto.place-end in omega arith) in
-      subst (λ (z : ℕ). IsWriting v f p z (view c.link.new.pass)) (sym (add-one c.loop-place.place))
-      (writing_more v f p c.loop-place.place (view c.loop-place.pass) s (view c.link.new.pass)
+      let less : c.loop-position.position < length p.keys =
+      (let t = c.loop-position-test.true in let e = c.loop-position.auto.position-end in omega arith) in
+      subst (λ (z : ℕ). IsWriting v f p z (view c.link.new.pass)) (sym (add-one c.loop-position.position))
+      (writing_more v f p c.loop-position.position (view c.loop-position.pass) s (view c.link.new.pass)
       c.bucket_of-bucket.result less (c.link.ensures.linked s.flight s.filled.flying));
 }
 
@@ -121,17 +121,17 @@ returns-clause-written c f flying =
     let g : Flight = c.requires.can.0 in
     let same : g ≡ f = one_flight g f (sym c.requires.can.1.flying ∙ flying) in
     let can = c.requires.can.1 in
-    let s = c.loop-place.invariant.writing g can in
+    let s = c.loop-position.invariant.writing g can in
     let p = parts_at v g c.args.prepared can in
     let size = ap length (c.as_slice-key-items.ensures ∙ can.made.1) in
-    let all : c.loop-place.place ≡ length p.keys =
-    (let t = c.loop-place-test.false in let e = c.loop-place.auto.place-end in omega arith) in
-    subst (λ (z : Flight). HasWritten v z (view c.loop-place.pass)) same
-    (writing_done v g p c.loop-place.place (view c.loop-place.pass) s all)
+    let all : c.loop-position.position ≡ length p.keys =
+    (let t = c.loop-position-test.false in let e = c.loop-position.auto.position-end in omega arith) in
+    subst (λ (z : Flight). HasWritten v z (view c.loop-position.pass)) same
+    (writing_done v g p c.loop-position.position (view c.loop-position.pass) s all)
 
 -- its words are those of the record that was prepared
 pub returns-clause-stored : goal.returns-clause-stored
 returns-clause-stored c f can =
     let v = view c.args.pass.now in
     let p = parts_at v f c.args.prepared can in
-    writing_stored v f p c.loop-place.place (view c.loop-place.pass) (c.loop-place.invariant.writing f can)
+    writing_stored v f p c.loop-position.position (view c.loop-position.pass) (c.loop-position.invariant.writing f can)

@@ -5,9 +5,9 @@ use Rattle.fish_rule.specs.Passes.{IsPassOf, view}
 use Rattle.fish_rule.specs.declared.view.Flight.{Flight}
 use Rattle.fish_ingest.proofs.placement.write_record.Given as goal
 
-abbrev pub invariant-loop-place : goal.invariant-loop-place
-invariant-loop-place l = record {
+abbrev pub invariant-loop-position : goal.invariant-loop-position
+invariant-loop-position l = record {
   of : IsPassOf l.log l.pass;
   writing : (f : Flight) (can : CanWrite (view l.fn.pass) f l.fn.prepared)
-      → IsWriting (view l.fn.pass) f (parts_at (view l.fn.pass) f l.fn.prepared can) l.place (view l.pass);
+      → IsWriting (view l.fn.pass) f (parts_at (view l.fn.pass) f l.fn.prepared can) l.position (view l.pass);
 }

@@ -3,10 +3,10 @@ use Rattle.std.proofs.Common.{◌≡◌, ◌≤◌, ◌+◌, ◌∙◌, [], ◌�
 use Rattle.fish_lanes.proofs.Firsts.{kept_both, alone_first, first_acceptable, first_new, first_there, lanes_again, others_many, others_new}
 use Rattle.fish_lanes.proofs.Firsts.{vacant_both}
 use Rattle.fish_lanes.proofs.Kept.{left_none}
-use Rattle.fish_lanes.specs.Blocks.{AreEnded, AreKept, At, HasRegistered, IsKept, IsNewLane, NameMarks, TellsBlock}
+use Rattle.fish_lanes.specs.Blocks.{AreEnded, AreKept, At, HasRegistered, IsKept, IsNewLane, NameMarks, SaysBlock}
 use Rattle.fish_lanes.specs.within.Blocks.{CanGive}
 use Rattle.fish_lanes.specs.Controlling.{IsCommitted}
-use Rattle.fish_lanes.specs.Outcome.{AreVacant, HandsBack, LanesSayPlans, Stops, TellFullLast, TellsAloneBy, TellsShutBy}
+use Rattle.fish_lanes.specs.Outcome.{AreVacant, HandsBack, LanesSayPlans, Stops, SayFullLast, SaysAloneBy, SaysShutBy}
 use Rattle.fish_lanes.specs.Plans.{KnowsRows}
 use Rattle.fish_lanes.specs.Registering.{IsAcceptable, registry_of}
 use Rattle.fish_lanes.specs.declared.lane.Lane.{Lane}
@@ -76,9 +76,9 @@ returns-clause-lanes g c =
       stops = subst (At (λ i x. Stops (IsSoundBehind disk.content disk.images (point_at c.args.disk.now c.args.store.now)
           (disk.content c.run_lanes.new.disk)) (disk.faults c.args.disk.now) (disk.faults c.run_lanes.new.disk) x)) again e.stops;
       left = left;
-      last = subst (TellFullLast v) again e.last;
+      last = subst (SayFullLast v) again e.last;
       goes_on = λ was i x at. left_none v x.left was (λ some. (left i x at some).unshut);
-      shuts = subst (TellsShutBy v u) again e.shuts;
+      shuts = subst (SaysShutBy v u) again e.shuts;
       marks = subst (NameMarks u) again e.marks;
     }
 
@@ -95,7 +95,7 @@ returns-clause-items g c =
     let again = lanes_again c.split_at_mut-first.result.0.now c.args.lanes.now first others c.requires.lanes front in
     record {
       told = λ past behind k span many.
-          subst (λ (z : List Lane). (k.from ≤ k.to) × Will past u (λ w. TellsBlock w k z)) again
+          subst (λ (z : List Lane). (k.from ≤ k.to) × Will past u (λ w. SaysBlock w k z)) again
           (e.told past behind k span
           (many ∙ subst (λ (z : List Lane). length c.args.lanes.now ≡ length z + 1) (sym c.split_at_mut-first.ensures.back)
           (others_many c.args.lanes.now c.requires.lanes)));
@@ -103,7 +103,7 @@ returns-clause-items g c =
           first_there (λ (z : Lane). HasRegistered v u r c.run_lanes.new.registrar z c.run_lanes.result) first c.args.lanes.now others
           c.requires.lanes e.registered x (subst (λ (z : List Lane). slice_get (set z 0 first ++ others) 0 ≡ Some x) front at);
       alone = λ x is.
-          alone_first (TellsAloneBy (IsSoundBehind disk.content disk.images (point_at c.args.disk.now c.args.store.now)
+          alone_first (SaysAloneBy (IsSoundBehind disk.content disk.images (point_at c.args.disk.now c.args.store.now)
           (disk.content c.run_lanes.new.disk)) v u r) first c.args.lanes.now c.split_at_mut-first.result.1.now others c.requires.lanes
           c.run_lanes.auto.others e.alone x (subst (λ (z : List Lane). set z 0 first ++ others ≡ x ∷ []) front is);
       plans = λ from end.

@@ -1,6 +1,6 @@
 -- The block from its start to its end.
 use Rattle.std.proofs.Common.{◌≡◌, ap, arith, length, refl, subst, sym}
-use Rattle.fish_lanes.proofs.Course.{all_ended, all_marks, has_end, is_later, kept_at, tells_all, vacant_at, within}
+use Rattle.fish_lanes.proofs.Course.{all_ended, all_marks, has_end, is_later, kept_at, says_all, vacant_at, within}
 use Rattle.fish_lanes.proofs.Ends.{registered_end, taken_alone}
 use Rattle.fish_lanes.proofs.Leaving.{all_last, all_left, all_plans, all_shuts}
 use Rattle.fish_lanes.proofs.Moments.{counted_from, few_behind}
@@ -77,14 +77,14 @@ returns-clause-alone g c none =
           (first.controlled.only end (subst (λ (z : View). HasEnd z end) (sym given) e) wait);
     }
 
-pub returns-clause-told : goal.returns-clause-told
-returns-clause-told g c past behind k span many =
+pub returns-clause-sound : goal.returns-clause-sound
+returns-clause-sound g c past behind k span many =
     let course = c.run_by_passes.ensures.course in
     let ended = c.end_block.ensures.ended in
     let stands = c.end_block.ensures.can.of.stands in
     let stood = c.requires.can.of.stands in (
       within course.run course.back ended c.requires.end stands past behind k span many stood,
-      tells_all course.run course.back ended c.requires.end stands past behind k span many stood c.requires.others.few,
+      says_all course.run course.back ended c.requires.end stands past behind k span many stood c.requires.others.few,
     )
 
 pub returns-clause-registered : goal.returns-clause-registered

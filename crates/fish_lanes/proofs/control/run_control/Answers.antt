@@ -18,7 +18,7 @@ use Rattle.fish_lanes.proofs.Stepping.{looked_goes, looked_may, rows_self, stays
 use Rattle.fish_lanes.specs.Controlling.{IsCommitted}
 use Rattle.fish_lanes.specs.within.Controlling.{HasControlled, HasPolled}
 use Rattle.fish_lanes.specs.Full.{IsNotFull}
-use Rattle.fish_lanes.specs.within.Full.{HasFound, TellsLast}
+use Rattle.fish_lanes.specs.within.Full.{HasFound, SaysLast}
 use Rattle.fish_lanes.specs.Pending.{AreFound}
 use Rattle.fish_lanes.specs.Registering.{registry_of}
 use Rattle.fish_lanes.specs.Spans.{answers}
@@ -399,7 +399,7 @@ returns-then-is_err-clause-last g c unshut =
     let u = view c.loop-work.pass in
     let free = open_test u.shut c.is_full-full.result c.finds_full.result c.finds_full.ensures c.if-finds_full.false
     (c.is_full-full.ensures ∙ ap is_some unshut) in
-    subst (λ (z : List Item). TellsLast (view c.find_boundary.new.pass) z cause.Memory)
+    subst (λ (z : List Item). SaysLast (view c.find_boundary.new.pass) z cause.Memory)
     (sym (err_told c.find_boundary.result c.is_err.result c.is_err.ensures.value c.if-is_err.true c.find_boundary.ensures.refused))
     (fault_tells (view c.find_boundary.new.pass) c.loop-work.items cause.Memory (λ e. absurd cc)
     (found_none u c.loop-work.items (c.loop-work.invariant.last unshut) free))
@@ -424,7 +424,7 @@ returns-in-Err-push-clause-last g c unshut =
     let polled : HasPolled u c.loop-work.registrar (view c.find_boundary.new.pass) c.find_boundary.new.registrar c.loop-work.items
     c.find_boundary.new.items =
     ok_told c.find_boundary.result c.is_err.result c.is_err.ensures.value c.if-is_err.false c.find_boundary.ensures.polled in
-    subst (λ (z : List Item). TellsLast (view c.run_statement.new.pass) z cause.Memory) (sym c.in-Err-push.ensures.err)
+    subst (λ (z : List Item). SaysLast (view c.run_statement.new.pass) z cause.Memory) (sym c.in-Err-push.ensures.err)
     (fault_tells (view c.run_statement.new.pass) c.find_boundary.new.items cause.Memory (λ e. absurd cc)
     (polled_found u c.loop-work.registrar (view c.find_boundary.new.pass) c.find_boundary.new.registrar c.loop-work.items
     c.find_boundary.new.items polled (found_none u c.loop-work.items (c.loop-work.invariant.last unshut) free)))

@@ -10,7 +10,7 @@ use Rattle.fish_lanes.proofs.Pages.{here_on, here_same, pages_both, pages_none, 
 use Rattle.fish_lanes.proofs.Showing.{fit_answer}
 use Rattle.fish_lanes.proofs.SoFar.{far_next, far_part, item_fewer}
 use Rattle.fish_lanes.specs.within.Advancing.{IsOn, IsSoFar}
-use Rattle.fish_lanes.specs.within.Full.{HasFound, TellsLast}
+use Rattle.fish_lanes.specs.within.Full.{HasFound, SaysLast}
 use Rattle.fish_lanes.specs.within.Pasts.{IsHere, WasHere}
 use Rattle.fish_lanes.specs.Running.{IsShared}
 use Rattle.fish_lanes.specs.Spans.{IsAnswer}
@@ -33,7 +33,7 @@ loop-next-init g c =
       flusher = refl;
       reads = pages_none disk.content disk.images disk.since disk.moment disk.faults c.args.log.now.key c.args.file.now.cold
           c.args.disk.now;
-      place = sym c.len-next.ensures;
+      position = sym c.len-next.ensures;
       far = λ start later told before. before;
       last = λ unset found. found;
       answers = λ all. all;
@@ -56,8 +56,8 @@ loop-next-preserved g c =
     let t = view c.run_shared.new.pass in
     let test = c.loop-next-test.true in
     let end = c.loop-next.auto.next-end in
-    let place = inv.place in
-    let at : w ≡ get_or works (length old) w = subst (λ (n : ℕ). w ≡ get_or works n w) (sym place) c.index-works-next.is in
+    let position = inv.position in
+    let at : w ≡ get_or works (length old) w = subst (λ (n : ℕ). w ≡ get_or works n w) (sym position) c.index-works-next.is in
     let k = c.args.log.now.key in
     let first = c.args.disk.now in
     let before = c.loop-next.disk in
@@ -84,7 +84,7 @@ loop-next-preserved g c =
       below = c.run_shared.ensures.below;
       flusher = c.run_shared.ensures.flusher ∙ inv.flusher;
       reads = pages_both disk.content disk.images disk.since disk.moment disk.faults k cold read after first before now inv.reads step;
-      place = ap (λ (z : List Item). length z) pushed ∙ length-append old (x ∷ []) ∙ ap (λ (z : ℕ). z + 1) place;
+      position = ap (λ (z : List Item). length z) pushed ∙ length-append old (x ∷ []) ∙ ap (λ (z : ℕ). z + 1) position;
       far = λ start later still began. subst (IsSoFar (Was later) start t works) (sym pushed)
           (far_next start u t works old (inv.far start later (λ some. told (still some)) began) w (omega arith) at x shared
           c.run_shared.ensures.pass.stands
@@ -134,8 +134,8 @@ returns-in-Err-clause-goes g c start began =
     let t = view c.run_shared.new.pass in
     let test = c.loop-next-test.true in
     let end = c.loop-next.auto.next-end in
-    let place = inv.place in
-    let at : w ≡ get_or works (length old) w = subst (λ (n : ℕ). w ≡ get_or works n w) (sym place) c.index-works-next.is in
+    let position = inv.position in
+    let at : w ≡ get_or works (length old) w = subst (λ (n : ℕ). w ≡ get_or works n w) (sym position) c.index-works-next.is in
     let k = c.args.log.now.key in
     let before = c.loop-next.disk in
     let now = c.run_shared.new.disk in
@@ -211,8 +211,8 @@ returns-in-Err-push-clause-goes g c start began =
     let t = view c.run_shared.new.pass in
     let test = c.loop-next-test.true in
     let end = c.loop-next.auto.next-end in
-    let place = inv.place in
-    let at : w ≡ get_or works (length old) w = subst (λ (n : ℕ). w ≡ get_or works n w) (sym place) c.index-works-next.is in
+    let position = inv.position in
+    let at : w ≡ get_or works (length old) w = subst (λ (n : ℕ). w ≡ get_or works n w) (sym position) c.index-works-next.is in
     let k = c.args.log.now.key in
     let first = c.args.disk.now in
     let before = c.loop-next.disk in
@@ -246,7 +246,7 @@ pub returns-clause-all : goal.returns-clause-all
 returns-clause-all g c none =
     let test = c.loop-next-test.false in
     let end = c.loop-next.auto.next-end in
-    let place = c.loop-next.invariant.place in
+    let position = c.loop-next.invariant.position in
     inl (omega arith)
 
 pub returns-then-finds_full-clause-all : goal.returns-then-finds_full-clause-all
@@ -278,6 +278,6 @@ pub returns-in-Err-push-clause-last : goal.returns-in-Err-push-clause-last
 returns-in-Err-push-clause-last g c unset found =
     let u = view c.loop-next.pass in
     let free = open_test u.shut c.args.full c.finds_full.result c.finds_full.ensures c.if-finds_full.false unset in
-    subst (λ (z : List Item). TellsLast (view c.run_shared.new.pass) z fault.Memory) (sym c.in-Err-push.ensures.err)
+    subst (λ (z : List Item). SaysLast (view c.run_shared.new.pass) z fault.Memory) (sym c.in-Err-push.ensures.err)
     (fault_tells (view c.run_shared.new.pass) c.loop-next.items fault.Memory (λ e. absurd cc)
     (found_none u c.loop-next.items (c.loop-next.invariant.last unset found) free))

@@ -25,7 +25,7 @@ invariant-loop-next g l =
       flusher : l.file.flusher ≡ l.fn.file.flusher;
       reads : ReadsPages disk.content disk.images disk.since disk.moment disk.faults l.log.key l.fn.file.cold l.file.cold l.fn.disk
           l.disk;
-      place : length l.items ≡ l.next;
+      position : length l.items ≡ l.next;
       far : (start : View) (later : Option (List ℕ)) → (IsSome later → IsSome (disk.content l.disk))
           → IsSoFar (WasHere (disk.content l.fn.disk) l.log.key l.fn.file.cold later) start (view l.fn.pass) l.works l.fn.items
           → IsSoFar (WasHere (disk.content l.fn.disk) l.log.key l.fn.file.cold later) start (view l.pass) l.works l.items;

@@ -8,7 +8,7 @@ use Rattle.fish_lanes.proofs.Gaining.{gains_both}
 use Rattle.fish_lanes.proofs.Single.{alone_changes}
 use Rattle.fish_lanes.proofs.Growing.{rows_begun, rows_both}
 use Rattle.fish_lanes.proofs.Registrations.{gains_changes, registry_later}
-use Rattle.fish_lanes.specs.within.Controlling.{TellsBegun}
+use Rattle.fish_lanes.specs.within.Controlling.{SaysBegun}
 use Rattle.fish_lanes.specs.Registering.{IsRegisterCause, registry_of}
 use Rattle.fish_registry.proofs.Changing.{learns_changes}
 use Rattle.fish_rule.specs.Passes.{view}
@@ -41,7 +41,7 @@ returns-in-Ok-clause-does c =
     (λ x h. does_begun v u t r q s name c.in_ok-text.text c.args.def.now c.in-Ok.id x c.in-Ok.ensures.begun c.in_ok-text.ensures
     (registered_here v r c.begin.result c.begin.ensures.rolling c.begin.ensures.versions name c.begin.ensures.active
     c.begin.ensures.many_active c.begin.ensures.many c.in-Ok.id c.in-Ok.is) c.begin.ensures.changes.count h)
-    (subst (λ (z : List ℕ). IfOk c.registered.result (TellsBegun u q t s z c.in-Ok.id c.in_ok-text.text)) c.in_ok-told.ensures
+    (subst (λ (z : List ℕ). IfOk c.registered.result (SaysBegun u q t s z c.in-Ok.id c.in_ok-text.text)) c.in_ok-told.ensures
     c.registered.ensures.tells)
 
 pub returns-in-Some-clause-gains : goal.returns-in-Some-clause-gains

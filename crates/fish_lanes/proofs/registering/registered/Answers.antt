@@ -2,7 +2,7 @@
 use Rattle.std.proofs.Common.{refl}
 use Rattle.fish_epoch.proofs.Reading.{defs_later}
 use Rattle.fish_lanes.proofs.Growing.{rows_both, rows_polled, rows_same}
-use Rattle.fish_lanes.proofs.Registrations.{polls_gain, reads_gain, reads_know, reads_start, tells_at_once, tells_rolling}
+use Rattle.fish_lanes.proofs.Registrations.{polls_gain, reads_gain, reads_know, reads_start, says_at_once, says_rolling}
 use Rattle.fish_registry.proofs.Changing.{learns_changes, same_tail}
 use Rattle.fish_registry.specs.declared.outcome.Poll.TheVariants as poll
 use Rattle.fish_rule.proofs.laws.Clocks.{later_self, loaded_within}
@@ -52,7 +52,7 @@ pub returns-in-NotYet-clause-tells : goal.returns-in-NotYet-clause-tells
 returns-in-NotYet-clause-tells c =
     let can = c.requires.can in
     let tells = c.in-NotYet.ensures.tells in
-    tells_rolling (view c.args.pass.now) (view c.read_definitions.new.pass) c.args.registrar.now can.of.stands can.start can.knows
+    says_rolling (view c.args.pass.now) (view c.read_definitions.new.pass) c.args.registrar.now can.of.stands can.start can.knows
     c.read_definitions.ensures.only c.read_definitions.ensures.pass.stands c.read_definitions.ensures.version
     c.in_ok-read_definitions.ensures.read (view c.poll.new.pass) c.poll.new.self c.poll.ensures.pass.stands c.poll.ensures.knows
     c.poll.ensures.changes c.args.name c.args.id c.args.def c.in-NotYet.seat c.in-NotYet.version c.requires.waits
@@ -76,7 +76,7 @@ pub returns-in-Bound-clause-tells : goal.returns-in-Bound-clause-tells
 returns-in-Bound-clause-tells c =
     let can = c.requires.can in
     let tells = c.in-Bound.ensures.tells in
-    tells_at_once (view c.args.pass.now) (view c.read_definitions.new.pass) c.args.registrar.now can.of.stands can.start can.knows
+    says_at_once (view c.args.pass.now) (view c.read_definitions.new.pass) c.args.registrar.now can.of.stands can.start can.knows
     c.read_definitions.ensures.only c.read_definitions.ensures.pass.stands c.read_definitions.ensures.version
     c.in_ok-read_definitions.ensures.read (view c.poll.new.pass) c.poll.new.self c.poll.ensures.pass.stands c.poll.ensures.knows
     c.poll.ensures.changes c.args.name c.args.id c.args.def c.in-Bound.id c.in-Bound.from c.requires.waits tells.0 tells.1

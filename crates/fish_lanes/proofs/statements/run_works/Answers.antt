@@ -5,7 +5,7 @@ use Rattle.std.specs.Prelude.{is_some}
 use Rattle.fish_ingest.proofs.IngestionStart.{idle_law}
 use Rattle.fish_lanes.proofs.Full.{found_none, found_tells, next_found, open_test, stopped_found}
 use Rattle.fish_lanes.proofs.SoFar.{next_answers, next_done, next_more, next_start, next_stopped, stopped_short}
-use Rattle.fish_lanes.specs.within.Full.{TellsLast}
+use Rattle.fish_lanes.specs.within.Full.{SaysLast}
 use Rattle.fish_lanes.specs.within.Advancing.{IsOn, IsShort}
 use Rattle.fish_lanes.specs.within.Pasts.{WasHere}
 use Rattle.fish_lanes.specs.Running.{IsShared}
@@ -19,7 +19,7 @@ loop-next-init g c = record {
   of = c.requires.pass;
   start = c.requires.start;
   read = c.requires.defs;
-  place = sym c.len-next.ensures;
+  position = sym c.len-next.ensures;
   far = λ start content k cold later far. far;
   last = λ unshut none. inl (unshut, none);
   more = omega arith;
@@ -43,16 +43,16 @@ loop-next-preserved g c =
     let t = view c.run_next.new.pass in
     let test = c.loop-next-test.true in
     let end = c.loop-next.auto.next-end in
-    let place = inv.place in
+    let position = inv.position in
     let idle = idle_law u inv.of.stands inv.start in
-    let at : w ≡ get_or works (length old) w = subst (λ (n : ℕ). w ≡ get_or works n w) (sym place) c.index-works-next.is in
+    let at : w ≡ get_or works (length old) w = subst (λ (n : ℕ). w ≡ get_or works n w) (sym position) c.index-works-next.is in
     let n = c.in-Ok.ensures.next in
     let shared = subst IsShared (sym c.index-works-next.is) (c.requires.shared c.loop-next.next w (omega arith)) in
     record {
       of = c.run_next.ensures.pass;
       start = next_start u t w old new (Ok tt) idle inv.start n;
       read = c.run_next.ensures.defs;
-      place = ap (λ (z : List Item). length z) n.1 ∙ length-append old (n.0 ∷ []) ∙ ap (λ (z : ℕ). z + 1) place;
+      position = ap (λ (z : List Item). length z) n.1 ∙ length-append old (n.0 ∷ []) ∙ ap (λ (z : ℕ). z + 1) position;
       far = λ start content k cold later before. next_done start u t works old new w (inv.far start content k cold later before)
           (omega arith) at tt shared c.run_next.ensures.pass.stands n;
       last = λ unshut none.
@@ -74,8 +74,8 @@ returns-in-Err-clause-goes g c start content k cold later before =
     let t = view c.run_next.new.pass in
     let test = c.loop-next-test.true in
     let end = c.loop-next.auto.next-end in
-    let place = inv.place in
-    let at : w ≡ get_or works (length old) w = subst (λ (n : ℕ). w ≡ get_or works n w) (sym place) c.index-works-next.is in
+    let position = inv.position in
+    let at : w ≡ get_or works (length old) w = subst (λ (n : ℕ). w ≡ get_or works n w) (sym position) c.index-works-next.is in
     subst (IsOn (WasHere content k cold later) start t works new) (sym c.fault_at.ensures)
     (next_stopped start u t works old new w (inv.far start content k cold later before) (omega arith) at c.in-Err.stop
     inv.start.outside (idle_law u inv.of.stands inv.start) c.in-Err.ensures.next)
@@ -111,7 +111,7 @@ returns-in-Err-clause-last g c unshut none =
     let t = view c.run_next.new.pass in
     let free = open_test u.shut c.is_full-full.result c.finds_full.result c.finds_full.ensures c.if-finds_full.false
     (c.is_full-full.ensures ∙ ap is_some unshut) in
-    subst (TellsLast t new) (sym c.fault_at.ensures)
+    subst (SaysLast t new) (sym c.fault_at.ensures)
     (stopped_found u t c.index-works-next.result old new free (found_none u old (inv.last unshut none) free) c.in-Err.stop
     c.in-Err.ensures.next)
 

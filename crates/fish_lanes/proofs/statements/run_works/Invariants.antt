@@ -19,7 +19,7 @@ invariant-loop-next g l = record {
   of : IsPassOf l.log l.pass;
   start : CanStart (view l.pass);
   read : IsDefsOf (view l.pass) l.defs;
-  place : length l.items ≡ l.next;
+  position : length l.items ≡ l.next;
   far : (start : View) (content : Option (List ℕ)) (k : Key) (cold : Cold) (later : Option (List ℕ))
       → IsSoFar (WasHere content k cold later) start (view l.fn.pass) l.works l.fn.items
       → IsSoFar (WasHere content k cold later) start (view l.pass) l.works l.items;

@@ -6,7 +6,7 @@ use Rattle.fish_lang.proofs.token.tokens_of.Goals as goal
 
 pub loop-first-init : goal.loop-first-init
 unfolding tokens
-loop-first-init c = record { found = rw c.new-found.ensures.items; place = omega arith }
+loop-first-init c = record { found = rw c.new-found.ensures.items; position = omega arith }
 
 pub loop-first-preserved : goal.loop-first-preserved
 loop-first-preserved c =
@@ -15,5 +15,5 @@ loop-first-preserved c =
       found = tokens-turn _ _ _ _ _ _ _ _ _ _ c.in-Some.ensures.cases.0
           c.length_behind.ensures.value parts.front parts.front_len parts.back c.in_ok-list.ensures
           c.loop-first.invariant.found;
-      place = omega (arith, parts.back_len, parts.front_len);
+      position = omega (arith, parts.back_len, parts.front_len);
     }

@@ -6,7 +6,7 @@ use Rattle.fish_lang.proofs.token.tokens_of.Given as goal
 abbrev pub invariant-loop-first : goal.invariant-loop-first
 invariant-loop-first l = record {
   found : l.found.items ++ tokens_from (length l.rest) l.at l.rest ≡ tokens l.b;
-  place : l.at + length l.rest ≡ length l.b;
+  position : l.at + length l.rest ≡ length l.b;
 }
 
 abbrev pub decreases-loop-first : goal.decreases-loop-first

@@ -4,11 +4,11 @@ use Rattle.fish_layout.specs.Cleared.{IsNumberWord}
 use Rattle.fish_layout.specs.Entry.{renumbered}
 use Rattle.fish_layout.proofs.body.renumber_keys.Given as goal
 
-abbrev pub invariant-loop-place : goal.invariant-loop-place
-invariant-loop-place l =
+abbrev pub invariant-loop-position : goal.invariant-loop-position
+invariant-loop-position l =
     record {
       len : length l.words.items ≡ length l.fn.words.items;
-      others : (i : ℕ) → ¬ (IsNumberWord l.place i) → get_or l.words.items i 0 ≡ get_or l.fn.words.items i 0;
-      entries : (i : ℕ) → IsNumberWord l.place i →
+      others : (i : ℕ) → ¬ (IsNumberWord l.position i) → get_or l.words.items i 0 ≡ get_or l.fn.words.items i 0;
+      entries : (i : ℕ) → IsNumberWord l.position i →
           get_or l.words.items i 0 ≡ renumbered (get_or l.fn.words.items i 0) l.number;
     }

@@ -6,11 +6,11 @@ use Rattle.fish_layout.proofs.keys.read_key.Goals as goal
 
 pub returns-then-values-end : goal.returns-then-values-end
 returns-then-values-end c p k h values within is =
-    let says = body_key c.args.place k h within is in
+    let says = body_key c.args.position k h within is in
     absurd (omega (
       arith,
       ap length values,
-      values_within p.keys c.args.place k within is,
+      values_within p.keys c.args.position k within is,
       says.offset,
       says.size,
       c.offset_in-from.ensures.value,
@@ -19,20 +19,20 @@ returns-then-values-end c p k h values within is =
 
 pub returns-in_default : goal.returns-in_default
 returns-in_default c p k h values within is =
-    let says = body_key c.args.place k h within is in
-    let bytes = value_pointed c.args.place k _ _ _ h within is values c.offset_in-from.ensures.value c.size_in.ensures.value in
+    let says = body_key c.args.position k h within is in
+    let bytes = value_pointed c.args.position k _ _ _ h within is values c.offset_in-from.ensures.value c.size_in.ensures.value in
     let found =
-    c.in_ok-value.ensures k.value (proper_at 0 p.keys c.args.place k h.proper.keys within is).1
+    c.in_ok-value.ensures k.value (proper_at 0 p.keys c.args.position k h.proper.keys within is).1
     (c.kind_in.ensures ∙ says.kind) bytes in
     let none = c.in_default.is in
     cc
 
 pub returns : goal.returns
 returns c p k h values within is =
-    let says = body_key c.args.place k h within is in
-    let bytes = value_pointed c.args.place k _ _ _ h within is values c.offset_in-from.ensures.value c.size_in.ensures.value in
+    let says = body_key c.args.position k h within is in
+    let bytes = value_pointed c.args.position k _ _ _ h within is values c.offset_in-from.ensures.value c.size_in.ensures.value in
     let found =
-    c.in_ok-value.ensures k.value (proper_at 0 p.keys c.args.place k h.proper.keys within is).1
+    c.in_ok-value.ensures k.value (proper_at 0 p.keys c.args.position k h.proper.keys within is).1
     (c.kind_in.ensures ∙ says.kind) bytes in
     let value : c.in-Some.value ≡ k.value = some_same (sym c.in-Some.is ∙ found) in
     ap (λ n. Some (record { prev = n; id = c.id_in.result; value = c.in-Some.value })) says.prev

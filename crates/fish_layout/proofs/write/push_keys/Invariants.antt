@@ -3,9 +3,9 @@ use Rattle.std.proofs.Common.{◌≡◌, ◌++◌, length, take}
 use Rattle.fish_layout.specs.Body.{key_words, values_of}
 use Rattle.fish_layout.proofs.write.push_keys.Given as goal
 
-abbrev pub invariant-loop-place : goal.invariant-loop-place
-invariant-loop-place l =
+abbrev pub invariant-loop-position : goal.invariant-loop-position
+invariant-loop-position l =
     record {
-      words : l.words.items ≡ l.fn.words.items ++ key_words l.number 0 0 (take l.place l.keys);
-      offset : l.offset ≡ length (values_of (take l.place l.keys));
+      words : l.words.items ≡ l.fn.words.items ++ key_words l.number 0 0 (take l.position l.keys);
+      offset : l.offset ≡ length (values_of (take l.position l.keys));
     }

@@ -1,7 +1,7 @@
 -- The bytes of this turn follow those of the turns before.
 use Rattle.std.proofs.Common.{take, arith}
 use Rattle.std.proofs.Math.Seq.{take-add}
-use Rattle.fish_outside.proofs.ToldLemmas.{Gained_trans}
+use Rattle.fish_outside.proofs.ContentLemmas.{Gained_trans}
 use Rattle.fish_outside.proofs.sink.write_whole.Goals as goal
 
 pub loop-sent-preserved : goal.loop-sent-preserved

@@ -21,7 +21,7 @@ returns-in-Ok-clause-ended g c =
     let new = g.W.Sink.written c.run_store-outcome.new.out in
     let ended = c.run_store-outcome.result in
     let read : HasScript file told texts = rw c.as_slice.ensures
-    (script_still file (g.H.Host.files c.read_script.new.host) told c.in-Ok.script c.run_store-outcome.ensures.told
+    (script_still file (g.H.Host.files c.read_script.new.host) told c.in-Ok.script c.run_store-outcome.ensures.content
     c.in-Ok.ensures.script) in
     inr (
       texts,

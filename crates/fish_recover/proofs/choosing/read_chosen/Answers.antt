@@ -14,7 +14,7 @@ returns-in-Ok-clause-found g c =
     chosen new c.args.slot c.args.gates.first c.args.gates.second c.are_both-both.result c.in-Ok.commit c.requires.slot
     (still_holds (λ e. IsTrue c.args.gates.first ↔ IsOpen 0 e) old new still c.requires.first)
     (still_holds (λ e. IsTrue c.args.gates.second ↔ IsOpen 1 e) old new still c.requires.second)
-    c.are_both-both.ensures (still_holds (IsNewer c.args.slot) old new still c.requires.counts) c.in-Ok.ensures.told
+    c.are_both-both.ensures (still_holds (IsNewer c.args.slot) old new still c.requires.counts) c.in-Ok.ensures.body
 
 pub returns-in-Err-clause-refused : goal.returns-in-Err-clause-refused
 returns-in-Err-clause-refused g c =

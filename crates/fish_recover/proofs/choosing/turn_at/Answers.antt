@@ -3,7 +3,7 @@ use Rattle.std.proofs.Common.{◌≡◌, ◌+◌, ◌∙◌, ℕ, List, length, 
 use Rattle.std.proofs.lemmas.Option.{IfSome_then}
 use Rattle.byteorder.specs.Endian.{little_number}
 use Rattle.fish_recover.proofs.Pieces.{part_read, turn_read}
-use Rattle.fish_slots.specs.Places.{body_at}
+use Rattle.fish_slots.specs.Offsets.{body_at}
 use Rattle.fish_recover.proofs.choosing.turn_at.Goals as goal
 
 pub returns-clause-turn : goal.returns-clause-turn

@@ -5,7 +5,7 @@ use Rattle.fish_disk.proofs.Moments.{leaves_more, leaves_none}
 use Rattle.fish_disk.specs.Crash.{TornFrom}
 use Rattle.fish_slots.proofs.Keeping.{one_gates}
 use Rattle.fish_slots.specs.Commits.{HasCommit}
-use Rattle.fish_slots.specs.Places.{gate_at}
+use Rattle.fish_slots.specs.Offsets.{gate_at}
 use Rattle.fish_recover.proofs.Closings.{alone_rest, closed_rest, closing_commit, gate_within, stored_commit}
 use Rattle.fish_recover.proofs.resting.close_other.Goals as goal
 
@@ -39,8 +39,8 @@ returns-then-both-clause-crash g c = λ b w h.
     (closing_commit (disk.images c.args.disk.now) c.args.slot c.args.both c.requires.slot b w h c.if-both.true)
     c.begin.ensures.crash
 
-pub returns-then-both-clause-told : goal.returns-then-both-clause-told
-returns-then-both-clause-told g c i here = (let from = c.begin.ensures.crash.now i here in (from.0, from.1))
+pub returns-then-both-clause-before : goal.returns-then-both-clause-before
+returns-then-both-clause-before g c i here = (let from = c.begin.ensures.crash.now i here in (from.0, from.1))
 
 pub returns-else-both-clause-rests : goal.returns-else-both-clause-rests
 returns-else-both-clause-rests g c = λ b w h.

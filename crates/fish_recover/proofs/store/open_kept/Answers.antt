@@ -35,12 +35,12 @@ returns-in_err-resume-in-Ok-rest_store-clause-crash g c i d log all h =
     c.args.disk.now c.find_store.new.disk c.rest_store.new.disk all c.find_store.ensures.crash c.in-Ok.ensures.found
     c.in-Ok.ensures.synced c.rest_store.ensures.crash
 
-pub returns-in_err-resume-in-Ok-rest_store-clause-told : goal.returns-in_err-resume-in-Ok-rest_store-clause-told
-returns-in_err-resume-in-Ok-rest_store-clause-told g c =
+pub returns-in_err-resume-in-Ok-rest_store-clause-before : goal.returns-in_err-resume-in-Ok-rest_store-clause-before
+returns-in_err-resume-in-Ok-rest_store-clause-before g c =
     let disk = g.D.Disk in
     told_through (disk.content c.args.disk.now) (disk.content c.find_store.new.disk) (disk.content c.rest_store.new.disk)
     (disk.images c.rest_store.new.disk) (disk.images c.find_store.new.disk) c.find_store.ensures.content
-    (g.met.D.Disk.as_read c.rest_store.new.disk) c.rest_store.ensures.told c.in-Ok.ensures.synced
+    (g.met.D.Disk.as_read c.rest_store.new.disk) c.rest_store.ensures.before c.in-Ok.ensures.synced
 
 pub returns-in_err-resume-in-Ok-rest_store-clause-refused : goal.returns-in_err-resume-in-Ok-rest_store-clause-refused
 returns-in_err-resume-in-Ok-rest_store-clause-refused g c =
@@ -59,12 +59,12 @@ returns-in_err-resume-in-Ok-rest_store-clause-cause g c =
     memory_cause (disk.faults c.args.disk.now) (disk.faults c.rest_store.new.disk) c.from_residual.result (omega arith)
     c.from_residual.ensures.1
 
-pub returns-in_ok-resume-in-Ok-rest_store-clause-told : goal.returns-in_ok-resume-in-Ok-rest_store-clause-told
-returns-in_ok-resume-in-Ok-rest_store-clause-told g c =
+pub returns-in_ok-resume-in-Ok-rest_store-clause-before : goal.returns-in_ok-resume-in-Ok-rest_store-clause-before
+returns-in_ok-resume-in-Ok-rest_store-clause-before g c =
     let disk = g.D.Disk in
     told_through (disk.content c.args.disk.now) (disk.content c.find_store.new.disk) (disk.content c.rest_store.new.disk)
     (disk.images c.rest_store.new.disk) (disk.images c.find_store.new.disk) c.find_store.ensures.content
-    (g.met.D.Disk.as_read c.rest_store.new.disk) c.rest_store.ensures.told c.in-Ok.ensures.synced
+    (g.met.D.Disk.as_read c.rest_store.new.disk) c.rest_store.ensures.before c.in-Ok.ensures.synced
 
 pub returns-in_ok-resume-in-Ok-rest_store-clause-opened : goal.returns-in_ok-resume-in-Ok-rest_store-clause-opened
 returns-in_ok-resume-in-Ok-rest_store-clause-opened g c =
@@ -86,7 +86,7 @@ returns-in_ok-resume-in-Ok-rest_store-clause-opened g c =
       opened = begun_open images o.flusher f.commit k.held.end.entries rest (shape_of f.commit) refl f.commit.rows
           (grown_self f.commit.count f.commit.rows) 0 false o r.begins new (g.met.D.Disk.as_read c.rest_store.new.disk) refl r.live;
       was = was_stored old x new c.args.asked f k o.made r.begins.opens.made_is c.in-Ok.ensures.found c.find_store.ensures.content
-          (told_before new x images before (g.met.D.Disk.as_read c.rest_store.new.disk) c.rest_store.ensures.told
+          (told_before new x images before (g.met.D.Disk.as_read c.rest_store.new.disk) c.rest_store.ensures.before
           c.in-Ok.ensures.synced);
     }
 
@@ -111,12 +111,12 @@ returns-in-Err-rest_store-clause-crash g c i d log all h =
     c.args.disk.now c.find_store.new.disk c.rest_store.new.disk all c.find_store.ensures.crash c.in-Ok.ensures.found
     c.in-Ok.ensures.synced c.rest_store.ensures.crash
 
-pub returns-in-Err-rest_store-clause-told : goal.returns-in-Err-rest_store-clause-told
-returns-in-Err-rest_store-clause-told g c =
+pub returns-in-Err-rest_store-clause-before : goal.returns-in-Err-rest_store-clause-before
+returns-in-Err-rest_store-clause-before g c =
     let disk = g.D.Disk in
     told_through (disk.content c.args.disk.now) (disk.content c.find_store.new.disk) (disk.content c.rest_store.new.disk)
     (disk.images c.rest_store.new.disk) (disk.images c.find_store.new.disk) c.find_store.ensures.content
-    (g.met.D.Disk.as_read c.rest_store.new.disk) c.rest_store.ensures.told c.in-Ok.ensures.synced
+    (g.met.D.Disk.as_read c.rest_store.new.disk) c.rest_store.ensures.before c.in-Ok.ensures.synced
 
 pub returns-in-Err-rest_store-clause-refused : goal.returns-in-Err-rest_store-clause-refused
 returns-in-Err-rest_store-clause-refused g c =
@@ -136,8 +136,8 @@ returns-in-Err-clause-crash g c i d log all h =
     let disk = g.D.Disk in
     read_leaves disk.images disk.since disk.moment i d log h c.args.disk.now c.find_store.new.disk all c.find_store.ensures.crash
 
-pub returns-in-Err-clause-told : goal.returns-in-Err-clause-told
-returns-in-Err-clause-told g c =
+pub returns-in-Err-clause-before : goal.returns-in-Err-clause-before
+returns-in-Err-clause-before g c =
     still_before (g.D.Disk.content c.args.disk.now) (g.D.Disk.content c.find_store.new.disk) c.find_store.ensures.content
 
 -- ---- calls of the disk

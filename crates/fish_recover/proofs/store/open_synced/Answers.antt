@@ -137,7 +137,7 @@ returns-else-size-eq0-clause-calls g c =
     let test = c.if-size-eq0.false in
     IfSome_then new
     (empty_told x new c.in_ok-size.size (disk.moment c.open_kept.new.disk ≤ disk.moment c.args.disk.now + 7) (omega arith)
-    c.in_ok-size.ensures.length c.open_kept.ensures.told)
+    c.in_ok-size.ensures.length c.open_kept.ensures.before)
     (λ j give. λ none. give (λ i is. none i (told_at (λ e. old ≡ Rattle.std.specs.Prelude.Some e) x i is c.length.ensures.content)))
 
 pub returns-else-size-eq0-clause-refused : goal.returns-else-size-eq0-clause-refused

@@ -9,11 +9,11 @@ use Rattle.fish_rule.proofs.laws.Learning.{extends_both, extends_to_read, read_h
 use Rattle.fish_rule.proofs.laws.Steps.{found_law, header_law}
 use Rattle.fish_rule.proofs.basics.RegionWords.{ArePut, put_head, put_known, put_more, put_rest, put_size}
 use Rattle.fish_rule.proofs.basics.Context.{Among, View, view}
-use Rattle.fish_rule.specs.Logs.{IsWordTold}
+use Rattle.fish_rule.specs.Logs.{IsWordKnown}
 use Rattle.fish_rule.proofs.entry.read_region.Goals as goal
 
 -- a word that was told is known, unless it is the first of a key entry
-told_word : (v u : View) (n keys line i : ℕ) (r : Option ℕ) (x : ℕ) → IsWordTold v u n line i r → x ≡ unwrap_or r 0
+told_word : (v u : View) (n keys line i : ℕ) (r : Option ℕ) (x : ℕ) → IsWordKnown v u n line i r → x ≡ unwrap_or r 0
     → keys ≡ n → ¬ IsKeyWord keys i → Among (record { place = line * 4 + i; value = x }) u.learned.known
 told_word v u n keys line i None x told is same plain =
     absurd (plain (subst (λ (z : ℕ). IsKeyWord z i) (sym same) told.0))
@@ -21,7 +21,7 @@ told_word v u n keys line i (Some y) x told is same plain =
     subst (λ (z : ℕ). Among (record { place = line * 4 + i; value = z }) u.learned.known) (sym is) told.0
 
 -- and it took at most one load
-told_loads : (v u : View) (n line i : ℕ) (r : Option ℕ) → IsWordTold v u n line i r
+told_loads : (v u : View) (n line i : ℕ) (r : Option ℕ) → IsWordKnown v u n line i r
     → (u.clock.loads ≡ v.clock.loads + from_bool (is_some r)) × (from_bool (is_some r) ≤ 1)
 told_loads v u n line i None told = (let e = told.1 in (omega arith, omega arith))
 told_loads v u n line i (Some y) told = (let e = told.1 in (omega arith, omega arith))

@@ -53,10 +53,10 @@ returns-in-Err-clause-stopped g c =
       may = λ texts h. c.in-Err.ensures.failed texts inv.given (inv.queues texts h);
     }
 
-pub returns-in-Err-clause-told : goal.returns-in-Err-clause-told
-returns-in-Err-clause-told g c =
+pub returns-in-Err-clause-content : goal.returns-in-Err-clause-content
+returns-in-Err-clause-content g c =
     still_both (g.H.Host.files c.args.host.now) (g.H.Host.files c.loop-refusal.host) (g.H.Host.files c.give.new.host)
-    c.loop-refusal.invariant.told c.in-Err.ensures.told
+    c.loop-refusal.invariant.told c.in-Err.ensures.content
 
 pub returns-in-Err-clause-inner : goal.returns-in-Err-clause-inner
 returns-in-Err-clause-inner g c = λ is. feed_no_output c.in-Err.refusal (sym c.from.ensures ∙ is)
@@ -100,10 +100,10 @@ returns-in_err-turned-clause-stopped g c =
       may = λ texts h. may_all left told texts given c.give.new.queues (c.in-Ok.ensures.given texts inv.given (inv.queues texts h));
     })
 
-pub returns-in_err-turned-clause-told : goal.returns-in_err-turned-clause-told
-returns-in_err-turned-clause-told g c =
+pub returns-in_err-turned-clause-content : goal.returns-in_err-turned-clause-content
+returns-in_err-turned-clause-content g c =
     still_both (g.H.Host.files c.args.host.now) (g.H.Host.files c.loop-refusal.host) (g.H.Host.files c.give.new.host)
-    c.loop-refusal.invariant.told c.in-Ok.ensures.told
+    c.loop-refusal.invariant.told c.in-Ok.ensures.content
 
 -- ---- nothing is left to be given
 
@@ -125,10 +125,10 @@ returns-then-not-has_more-clause-ended g c =
           c.has_more.ensures.none c.if-not-has_more.true texts given told (c.in-Ok.ensures.given texts inv.given (inv.queues texts h));
     }
 
-pub returns-then-not-has_more-clause-told : goal.returns-then-not-has_more-clause-told
-returns-then-not-has_more-clause-told g c =
+pub returns-then-not-has_more-clause-content : goal.returns-then-not-has_more-clause-content
+returns-then-not-has_more-clause-content g c =
     still_both (g.H.Host.files c.args.host.now) (g.H.Host.files c.loop-refusal.host) (g.H.Host.files c.give.new.host)
-    c.loop-refusal.invariant.told c.in-Ok.ensures.told
+    c.loop-refusal.invariant.told c.in-Ok.ensures.content
 
 -- ---- more is left
 
@@ -154,7 +154,7 @@ loop-refusal-preserved g c =
       given = given;
       goes = on.goes a.disk.now a.store a.from (works_of lanes) given ready;
       queues = λ texts h. c.in-Ok.ensures.given texts inv.given (inv.queues texts h);
-      told = still_both (g.H.Host.files a.host.now) (g.H.Host.files l.host) (g.H.Host.files c.give.new.host) inv.told c.in-Ok.ensures.told;
+      told = still_both (g.H.Host.files a.host.now) (g.H.Host.files l.host) (g.H.Host.files c.give.new.host) inv.told c.in-Ok.ensures.content;
       later = (let was = inv.later in let now = c.in-Ok.ensures.cause.later in omega (was, now, arith));
       disk = (let was = inv.disk in let now = c.run_turns.ensures.rises in omega (was, now, arith));
     }

@@ -4,7 +4,7 @@ use Rattle.fish_feed.specs.Queues.{AreFit, AreIdle, IsQueue}
 use Rattle.fish_feed.specs.Works.{Triples}
 use Rattle.fish_lanes.specs.Blocks.{AreLanes}
 use Rattle.fish_lanes.specs.declared.work.Work.{Work}
-use Rattle.fish_outside.specs.Told.{StillTold}
+use Rattle.fish_outside.specs.Content.{SameFiles}
 use Rattle.fish_run.specs.within.Going.{GoesIn}
 use Rattle.fish_run.specs.within.Parts.{AreUngiven}
 use Rattle.fish_run.specs.Runs.{CanGoOn}
@@ -25,7 +25,7 @@ invariant-loop-refusal g l = record {
       l.said given;
   queues : (texts : List (List Statement)) → AreUngiven (g.H.Host.files l.fn.host) g.H.Feed.Source.left texts l.fn.queues
       → Triples (IsQueue (g.H.Host.files l.host) g.H.Feed.Source.left) texts given l.queues;
-  told : StillTold (g.H.Host.files l.fn.host) (g.H.Host.files l.host);
+  told : SameFiles (g.H.Host.files l.fn.host) (g.H.Host.files l.host);
   later : g.H.Host.faults l.fn.host ≤ g.H.Host.faults l.host;
   disk : g.D.Disk.faults l.fn.disk ≤ g.D.Disk.faults l.disk;
 }

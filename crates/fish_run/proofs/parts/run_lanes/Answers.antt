@@ -52,7 +52,7 @@ returns-in-Ok-clause-ended g c =
     (λ e h. record {
       given = h.given;
       rounds = h.rounds;
-      done = done_later mid new c.close.ensures.told a.texts.now h.given (h.done a.texts.now opened);
+      done = done_later mid new c.close.ensures.content a.texts.now h.given (h.done a.texts.now opened);
     }) c.run_parts-ended.ensures.ended
 
 -- ---- or a fault came
@@ -88,12 +88,12 @@ returns-in-Ok-clause-stopped g c =
           (c.close.ensures.first a.texts.now h.given may);
     }) c.run_parts-ended.ensures.stopped
 
-pub returns-in-Ok-clause-told : goal.returns-in-Ok-clause-told
-returns-in-Ok-clause-told g c =
+pub returns-in-Ok-clause-content : goal.returns-in-Ok-clause-content
+returns-in-Ok-clause-content g c =
     let files = g.H.Host.files in
-    still_both (files c.args.host.now) (files c.open_lanes.new.host) (files c.close.new.host) c.in-Ok.ensures.told
-    (still_both (files c.open_lanes.new.host) (files c.run_parts-ended.new.host) (files c.close.new.host) c.run_parts-ended.ensures.told
-    c.close.ensures.told)
+    still_both (files c.args.host.now) (files c.open_lanes.new.host) (files c.close.new.host) c.in-Ok.ensures.content
+    (still_both (files c.open_lanes.new.host) (files c.run_parts-ended.new.host) (files c.close.new.host) c.run_parts-ended.ensures.content
+    c.close.ensures.content)
 
 pub returns-in-Ok-clause-input : goal.returns-in-Ok-clause-input
 returns-in-Ok-clause-input g c =

@@ -57,8 +57,8 @@ returns-in-Ok-clause-stopped g c =
           (ungiven g.H.Feed.Source.left told texts (nones queues) queues (nones_length queues) (nones_at queues) h);
     }
 
-pub returns-in-Ok-clause-told : goal.returns-in-Ok-clause-told
-returns-in-Ok-clause-told g c = still_self (g.H.Host.files c.args.host.now)
+pub returns-in-Ok-clause-content : goal.returns-in-Ok-clause-content
+returns-in-Ok-clause-content g c = still_self (g.H.Host.files c.args.host.now)
 
 pub returns-clause-stopped : goal.returns-clause-stopped
 returns-clause-stopped g c =
@@ -74,5 +74,5 @@ returns-clause-stopped g c =
           (ungiven g.H.Feed.Source.left told texts (nones queues) queues (nones_length queues) (nones_at queues) h);
     }
 
-pub returns-clause-told : goal.returns-clause-told
-returns-clause-told g c = still_self (g.H.Host.files c.args.host.now)
+pub returns-clause-content : goal.returns-clause-content
+returns-clause-content g c = still_self (g.H.Host.files c.args.host.now)

@@ -5,7 +5,7 @@ use Rattle.std.specs.List.{list_any}
 use Rattle.fish_lanes.specs.declared.lane.Lane.{Lane}
 use Rattle.fish_run.proofs.Lists.{below_push, get_at}
 use Rattle.fish_run.proofs.Stepping.{left_more}
-use Rattle.fish_run.specs.within.Turning.{tells_full}
+use Rattle.fish_run.specs.within.Turning.{says_full}
 use Rattle.fish_run.proofs.rounds.go_on.Goals as goal
 use Rattle.fish_run.proofs.rounds.go_on.Goals.{else-some, then-some}
 
@@ -18,7 +18,7 @@ loop-lane-preserved c =
     let none : length x.left ≡ 0 = (let len = c.len.ensures in let test = c.if-len-gt0.false in omega arith) in
     record {
       left = left_more lanes i x at none c.loop-lane.invariant.left;
-      full = λ some. below_push (λ (y : Lane). list_any tells_full y.items ≡ false) lanes i x at
+      full = λ some. below_push (λ (y : Lane). list_any says_full y.items ≡ false) lanes i x at
           (elim c.if-some.branch [
             | then-some w ↦ sym w.is_full.ensures ∙ sym w.value-is ∙ c.if-is_full.false
             | else-some w ↦ absurd (let bad : true ≡ false = sym some ∙ w.if-some.false in cc)

@@ -86,10 +86,10 @@ loop-block-preserved g c =
       writes = subst (λ (z : List Block). WritesBlocks disk.content disk.images disk.since disk.moment p q c.args.count first begin new z
           b.count t (written c.args.out.now) (written c.run_one.new.out) c.run_one.new.refused) (sym next)
           (writes_more disk.content disk.images disk.since disk.moment c.args.count first begin p m q a.count
-          (registry_of (view a.store.pass) a.store.registrar) old new c.run_one.ensures.told (written c.args.out.now)
+          (registry_of (view a.store.pass) a.store.registrar) old new c.run_one.ensures.content (written c.args.out.now)
           (written c.loop-block.out) (written c.run_one.new.out) text x b.count t c.loop-block.refused c.run_one.new.refused one.block
           inv.writes one.is one.ran one.renewed one.written one.refused);
-      told = still_both (g.H.Host.files c.args.host.now) old new inv.told c.run_one.ensures.told;
+      told = still_both (g.H.Host.files c.args.host.now) old new inv.told c.run_one.ensures.content;
       later = (omega arith, (omega arith, omega arith));
     }
 
@@ -145,15 +145,15 @@ returns-in_err-lasts-clause-some g c =
     (StopsRun disk.content disk.images disk.since disk.moment c.args.disk.now c.run_one.new.disk c.args.store c.args.count begin new
     c.args.script.now (written c.args.out.now) (written c.run_one.new.out)) e c.from_residual.ensures.1
     (stops_more disk.content disk.images disk.since disk.moment c.args.count first begin p m m a.count
-    (registry_of (view a.store.pass) a.store.registrar) old new c.run_one.ensures.told (written c.args.out.now)
+    (registry_of (view a.store.pass) a.store.registrar) old new c.run_one.ensures.content (written c.args.out.now)
     (written c.loop-block.out) (written c.run_one.new.out) c.args.script.now c.loop-block.block-index c.block-item.result
     c.loop-block.refused c.run_one.new.disk stop.rounds stop.cut e (omega (c.loop-block-test.true, arith)) c.block-item.is inv.writes
     stop.stops stop.renewed stop.how)
 
-pub returns-in_err-lasts-clause-told : goal.returns-in_err-lasts-clause-told
-returns-in_err-lasts-clause-told g c =
+pub returns-in_err-lasts-clause-content : goal.returns-in_err-lasts-clause-content
+returns-in_err-lasts-clause-content g c =
     still_both (g.H.Host.files c.args.host.now) (g.H.Host.files c.loop-block.host) (g.H.Host.files c.run_one.new.host)
-    c.loop-block.invariant.told c.run_one.ensures.told
+    c.loop-block.invariant.told c.run_one.ensures.content
 
 pub returns-in_err-lasts-clause-cause : goal.returns-in_err-lasts-clause-cause
 returns-in_err-lasts-clause-cause g c =

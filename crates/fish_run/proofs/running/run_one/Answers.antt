@@ -3,7 +3,7 @@ use Rattle.std.proofs.Common.{◌≡◌, ◌∙◌, Err, List, refl, subst, sym}
 use Rattle.std.specs.Prelude.{◌||◌}
 use Rattle.fish_feed.specs.Queues.{AllFree}
 use Rattle.fish_feed.specs.Works.{AreDone, Pairs}
-use Rattle.fish_outside.specs.Told.{Gained, GainedPart}
+use Rattle.fish_outside.specs.Content.{Gained, GainedPart}
 use Rattle.fish_report.specs.ReportText.{report_text}
 use Rattle.fish_run.proofs.Caused.{caused_given, caused_write}
 use Rattle.fish_run.proofs.Faults.{write_other, write_well}

@@ -1,7 +1,7 @@
 -- The number of a lane, its items, and what stands behind them.
 use Rattle.std.proofs.lemmas.Result.{on_err_weaker, on_ok_weaker}
 use Rattle.std.proofs.Common.{◌++◌, List, subst}
-use Rattle.fish_outside.specs.Told.{Gained, GainedPart}
+use Rattle.fish_outside.specs.Content.{Gained, GainedPart}
 use Rattle.fish_report.specs.ReportText.{report_text}
 use Rattle.fish_report.specs.declared.item.Item.{Item}
 use Rattle.fish_run.proofs.Written.{on_err_any, part_first, part_then, written_both}

@@ -1,7 +1,7 @@
 -- The items of the lanes so far were written.
 use Rattle.std.proofs.Common.{◌≤◌, take}
 use Rattle.std.specs.List.{flat_map}
-use Rattle.fish_outside.specs.Told.{Gained}
+use Rattle.fish_outside.specs.Content.{Gained}
 use Rattle.fish_report.specs.ReportText.{report_text}
 use Rattle.fish_run.specs.Reports.{lane_items}
 use Rattle.fish_run.proofs.telling.write_lanes.Given as goal

@@ -6,4 +6,4 @@ pub returns-in-Ok : goal.returns-in-Ok
 returns-in-Ok g c =
     let disk = g.D.Disk in
     new_opened disk.content disk.images c.args.disk.now c.open_store.new.disk (g.met.D.Disk.as_read c.open_store.new.disk)
-    c.requires.told c.requires.empty _ c.in-Ok.opened c.in-Ok.ensures.opened c.of_made.result c.of_made.ensures
+    c.requires.content c.requires.empty _ c.in-Ok.opened c.in-Ok.ensures.opened c.of_made.result c.of_made.ensures

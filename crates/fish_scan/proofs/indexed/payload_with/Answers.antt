@@ -3,7 +3,7 @@ use Rattle.std.proofs.Common.{ap, subst, arith}
 use Rattle.fish_chain.proofs.Comparing.{given_later, given_look, looked}
 use Rattle.fish_rule.proofs.laws.Learning.{extends_both, learns_both}
 use Rattle.fish_rule.proofs.laws.ChainFacts.{always_later}
-use Rattle.fish_rule.specs.Logs.{Tells}
+use Rattle.fish_rule.specs.Logs.{KnowsAs}
 use Rattle.fish_rule.specs.Passes.{view}
 use Rattle.fish_rule.specs.declared.view.View.{View}
 use Rattle.fish_scan.proofs.Loading.{compared, compared_read}
@@ -47,7 +47,7 @@ unreachable-requires g c =
     let on = looked (view c.node_has.new.pass) (view c.look.new.pass) c.args.node.now.number t.0 t.1 t.2 in
     let all = learns_both _ _ _ c.node_has.ensures.extends.learns (learns_both _ _ _ on.learns c.read_entry.ensures.extends.learns) in
     absurd (stored_told u c.args.node.now.number c.read_entry.ensures.pass.stands
-    (subst (Tells u c.args.node.now.number) c.in-Void.is c.in_ok-payload.ensures.entry)
+    (subst (KnowsAs u c.args.node.now.number) c.in-Void.is c.in_ok-payload.ensures.entry)
     (given_stored u c.args.node.now (given_later v u c.args.node.now all c.requires.given)))
 
 pub returns-clause-extends : goal.returns-clause-extends
@@ -65,7 +65,7 @@ returns-clause-payload g c =
       (
         c.in-Stored.lane,
         c.in-Stored.form,
-        subst (Tells (view c.read_entry.new.pass) c.args.node.now.number) c.in-Stored.is c.in_ok-payload.ensures.entry,
+        subst (KnowsAs (view c.read_entry.new.pass) c.args.node.now.number) c.in-Stored.is c.in_ok-payload.ensures.entry,
       ),
     )
 

@@ -1,8 +1,8 @@
 -- A look tells of the mark, unless the range begins, or ends, no further than where the settled numbers stop.
 use Rattle.std.proofs.Common.{refl, inl, inr, subst, arith}
-use Rattle.fish_rule.specs.Logs.{TellsMark}
+use Rattle.fish_rule.specs.Logs.{KnowsMark}
 use Rattle.fish_rule.specs.Passes.{view}
-use Rattle.fish_rule.proofs.laws.Alone.{tells_mark}
+use Rattle.fish_rule.proofs.laws.Alone.{knows_mark}
 use Rattle.fish_scan.proofs.Ends.{look_mark}
 use Rattle.fish_scan.proofs.Looking.{unmarked}
 use Rattle.fish_walk.proofs.Looking.{look_looks}
@@ -24,8 +24,8 @@ returns-in-Overflow-clause-cut c =
       omega arith,
       omega arith,
       refl,
-      subst (TellsMark (view c.look.new.pass)) found.2
-          (tells_mark (view c.look.new.pass) found.0 found.1 found.3),
+      subst (KnowsMark (view c.look.new.pass)) found.2
+          (knows_mark (view c.look.new.pass) found.0 found.1 found.3),
     )
 
 -- where it found no mark there is none, for a pass that is alone

@@ -37,7 +37,7 @@ returns-then-number-reach-clause-unfinished c is =
 pub returns-then-number-reach-clause-finished : goal.returns-then-number-reach-clause-finished
 returns-then-number-reach-clause-finished c some among =
     let t = c.requires.reached.seen.open_ones c.args.number among in
-    let place = t.1 in
+    let position = t.1 in
     let below = c.if-number-reach.true in
     absurd (omega arith)
 

@@ -58,14 +58,14 @@ pub returns-in-Some-empty_range-clause-refused : goal.returns-in-Some-empty_rang
 returns-in-Some-empty_range-clause-refused c = (
   c.in-Some-empty_range.ensures,
   (
-    c.in-Some.place,
+    c.in-Some.position,
     record {
       loaded = version_loaded (view c.args.pass.now) (view c.load_version-version.new.pass) (view c.refresh.new.pass)
           c.load_version-version.result c.refresh.new.self c.load_version-version.ensures.view
           c.refresh.ensures.reads.extends.clock c.in_ok-refresh.ensures.version;
       least = (let is = c.in_ok-refresh.ensures.version in let rises = c.load_version-version.ensures.rises in omega arith);
       read = c.in_ok-refresh.ensures.read;
-      newest = subst (λ (z : List Listed). IsNewest z c.args.ask.now.name c.in-Some.place) c.rows.ensures c.in-Some.ensures;
+      newest = subst (λ (z : List Listed). IsNewest z c.args.ask.now.name c.in-Some.position) c.rows.ensures c.in-Some.ensures;
     },
   ),
 )
@@ -78,7 +78,7 @@ returns-clause-asked c = record {
         c.refresh.ensures.reads.extends.clock c.in_ok-refresh.ensures.version;
     least = (let is = c.in_ok-refresh.ensures.version in let rises = c.load_version-version.ensures.rises in omega arith);
     read = c.in_ok-refresh.ensures.read;
-    newest = subst (λ (z : List Listed). IsNewest z c.args.ask.now.name c.in-Some.place) c.rows.ensures c.in-Some.ensures;
+    newest = subst (λ (z : List Listed). IsNewest z c.args.ask.now.name c.in-Some.position) c.rows.ensures c.in-Some.ensures;
   };
   some = c.in_default-empty_range.ensures;
 }

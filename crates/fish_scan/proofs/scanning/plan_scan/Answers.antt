@@ -23,13 +23,13 @@ pub returns-in_err-reach-clause-known : goal.returns-in_err-reach-clause-known
 returns-in_err-reach-clause-known c = defs_later _ _ c.find_row.new.known c.find_reach.ensures.settles.learns
     c.find_row.ensures.known
 
-pub bounds-rows-place : goal.bounds-rows-place
-bounds-rows-place c = subst (λ (z : List Listed). c.in_ok-place.place < length z) (sym c.rows.ensures)
-    (slice_get_within _ _ _ c.in_ok-place.ensures.asked.named.newest.there)
+pub bounds-rows-position : goal.bounds-rows-position
+bounds-rows-position c = subst (λ (z : List Listed). c.in_ok-position.position < length z) (sym c.rows.ensures)
+    (slice_get_within _ _ _ c.in_ok-position.ensures.asked.named.newest.there)
 
-pub offset_bounds-rows-place : goal.offset_bounds-rows-place
-offset_bounds-rows-place c =
-    let below = bounds-rows-place c in
+pub offset_bounds-rows-position : goal.offset_bounds-rows-position
+offset_bounds-rows-position c =
+    let below = bounds-rows-position c in
     let few = c.rows.type_inv.1 in
     omega arith
 
@@ -37,17 +37,17 @@ pub find_plan-requires-clause-rows : goal.find_plan-requires-clause-rows
 find_plan-requires-clause-rows c = subst IsListing (sym c.rows-2.ensures)
     (known_listing (view c.find_reach.new.pass) _ _ c.find_reach.ensures.pass.stands
     (read_later _ (view c.find_reach.new.pass) c.find_row.new.known c.find_reach.ensures.settles.learns
-    c.in_ok-place.ensures.asked.named.read).rows)
+    c.in_ok-position.ensures.asked.named.read).rows)
 
 -- the text of a definition that was read is canonical
 pub with_query-requires : goal.with_query-requires
 with_query-requires c =
-    let asked = c.in_ok-place.ensures.asked in
+    let asked = c.in_ok-position.ensures.asked in
     let listing = known_listing (view c.find_row.new.pass) _ _ c.find_row.ensures.pass.stands asked.named.read.rows in
-    let row = row_found (rows_of c.find_row.new.known) c.rows.result.now c.in_ok-place.place asked.named.newest.listed
-    c.index-rows-place.result c.rows.ensures asked.named.newest.there in
+    let row = row_found (rows_of c.find_row.new.known) c.rows.result.now c.in_ok-position.position asked.named.newest.listed
+    c.index-rows-position.result c.rows.ensures asked.named.newest.there in
     subst IsCanonical (sym (c.as_bytes-text.ensures ∙ ap (λ (z : Listed). z.def) row))
-    (all_at (λ (l : Listed). IsCanonical l.def) (rows_of c.find_row.new.known) c.in_ok-place.place asked.named.newest.listed
+    (all_at (λ (l : Listed). IsCanonical l.def) (rows_of c.find_row.new.known) c.in_ok-position.position asked.named.newest.listed
     listing.texts asked.named.newest.there)
 
 pub returns-in-Ok-clause-only : goal.returns-in-Ok-clause-only
@@ -69,17 +69,17 @@ returns-in-Ok-clause-planned c =
     let n = view c.find_reach.new.pass in
     let t = view c.find_plan.new.pass in
     let known = c.find_row.new.known in
-    let asked = c.in_ok-place.ensures.asked in
+    let asked = c.in_ok-position.ensures.asked in
     let before = c.find_row.ensures.only.scans in
     let settles = scans_settles m n c.find_reach.ensures.settles in
     let rest = scans_extends n t c.find_plan.ensures.only.extends in
-    let row = row_found (rows_of known) c.rows.result.now c.in_ok-place.place asked.named.newest.listed
-    c.index-rows-place.result c.rows.ensures asked.named.newest.there in
+    let row = row_found (rows_of known) c.rows.result.now c.in_ok-position.position asked.named.newest.listed
+    c.index-rows-position.result c.rows.ensures asked.named.newest.there in
     let text = c.as_bytes-text.ensures ∙ ap (λ (z : Listed). z.def) row in
     let reach = c.in_ok-reach.reach in
     planned_scan_all v t known c.args.ask.now reach c.in-Ok.plan c.with_query.result
     c.with_query.ensures.query c.with_query.ensures.plan (λ p query plan.
-    planned_scan_at v m t known c.args.ask.now c.in_ok-place.place reach c.in-Ok.plan p asked (scans_both m n t settles rest)
+    planned_scan_at v m t known c.args.ask.now c.in_ok-position.position reach c.in-Ok.plan p asked (scans_both m n t settles rest)
     (reach_within v m n t c.args.ask.now _ reach before c.find_row.ensures.tail rest c.unwrap_or.ensures c.in_ok-reach.ensures.reach)
     (plan_by_rows v n t t (rows_of known) _ asked.named.newest.listed.def _ c.args.ask.now.how _ _ _ _ c.rows-2.ensures text
     (scans_both v m n before settles).learns (learns_self t) c.in-Ok.ensures.plan)
@@ -113,16 +113,16 @@ returns-in-Err-clause-refused c =
     let n = view c.find_reach.new.pass in
     let t = view c.find_plan.new.pass in
     let known = c.find_row.new.known in
-    let asked = c.in_ok-place.ensures.asked in
+    let asked = c.in_ok-position.ensures.asked in
     let before = c.find_row.ensures.only.scans in
     let settles = scans_settles m n c.find_reach.ensures.settles in
     let rest = scans_extends n t c.find_plan.ensures.only.extends in
-    let row = row_found (rows_of known) c.rows.result.now c.in_ok-place.place asked.named.newest.listed
-    c.index-rows-place.result c.rows.ensures asked.named.newest.there in
+    let row = row_found (rows_of known) c.rows.result.now c.in_ok-position.position asked.named.newest.listed
+    c.index-rows-position.result c.rows.ensures asked.named.newest.there in
     let text = c.as_bytes-text.ensures ∙ ap (λ (z : Listed). z.def) row in
     let reach = c.in_ok-reach.reach in
-    plan_refused v n t t known c.args.ask.now c.in_ok-place.place reach c.in-Err.refusal
-    (asked_later v m t known c.args.ask.now c.in_ok-place.place (scans_both m n t settles rest) asked)
+    plan_refused v n t t known c.args.ask.now c.in_ok-position.position reach c.in-Err.refusal
+    (asked_later v m t known c.args.ask.now c.in_ok-position.position (scans_both m n t settles rest) asked)
     (scans_both v m n before settles).learns (learns_self t)
     (reach_within v m n t c.args.ask.now _ reach before c.find_row.ensures.tail rest c.unwrap_or.ensures c.in_ok-reach.ensures.reach)
     (subst (λ (z : List Listed × List ℕ). IsPlanRefused n t z.0 z.1 c.args.ask.now.how reach.from reach.settled reach.to

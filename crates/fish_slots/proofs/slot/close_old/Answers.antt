@@ -4,7 +4,7 @@ use Rattle.std.proofs.lemmas.Result.{on_ok_weaker}
 use Rattle.fish_disk.specs.Content.{WrittenThrough}
 use Rattle.fish_disk.specs.Crash.{LeavesOnly, TornFrom}
 use Rattle.fish_disk.proofs.Regions.{through_part}
-use Rattle.fish_slots.specs.Places.{gate_at}
+use Rattle.fish_slots.specs.Offsets.{gate_at}
 use Rattle.fish_slots.proofs.Keeping.{not_open, torn_since, written_gates}
 use Rattle.fish_slots.proofs.slot.close_old.Goals as goal
 
@@ -17,7 +17,7 @@ returns-clause-closed g c =
     on_ok_weaker c.write_synced.result
     (λ through. λ d image.
     let placed : WrittenThrough old new images (gate_at c.args.slot) (0 ∷ []) =
-    subst (λ at. WrittenThrough old new images at (0 ∷ [])) c.gate_place.ensures through in
+    subst (λ at. WrittenThrough old new images at (0 ∷ [])) c.gate_offset.ensures through in
     not_open c.args.slot d
     (through_part old new images (gate_at c.args.slot) (0 ∷ []) c.requires.within placed d image))
     c.write_synced.ensures.done
@@ -28,7 +28,7 @@ returns-clause-gates g c =
     let old = c.args.disk.now in
     let new = c.write_synced.new.disk in
     let leaves = subst (λ at. LeavesOnly disk.images disk.since disk.moment old new (TornFrom (disk.images old) at 1))
-    c.gate_place.ensures c.write_synced.ensures.crash in
+    c.gate_offset.ensures c.write_synced.ensures.crash in
     written_gates (disk.images old) (disk.since new (disk.moment old)) c.args.slot c.requires.slot c.requires.gates
     (λ e d one other. c.requires.gates c.args.slot e d c.requires.slot one other (c.requires.opened e one))
     (torn_since disk.images disk.since disk.moment old new (gate_at c.args.slot) 1 (g.met.D.Disk.only_now old) leaves)

@@ -3,7 +3,7 @@ use Rattle.std.proofs.Common.{◌-◌, ◌⊎◌, inl, inr, ℕ, List, [], ◌�
 use Rattle.std.proofs.lemmas.Result.{on_ok_weaker}
 use Rattle.fish_disk.specs.Crash.{TornFrom}
 use Rattle.fish_disk.proofs.Moments.{leaves_more, leaves_then}
-use Rattle.fish_slots.specs.Places.{gate_at}
+use Rattle.fish_slots.specs.Offsets.{gate_at}
 use Rattle.fish_slots.specs.Slots.{IsOpen}
 use Rattle.fish_slots.proofs.Keeping.{one_gates, other_gate, still_long}
 use Rattle.fish_slots.proofs.slot.switch.Goals as goal

@@ -2,9 +2,9 @@
 use Rattle.std.proofs.Common.{◌≡◌, ℕ, List, ◌++◌, length, sym, ap, ◌∙◌, subst, arith}
 use Rattle.fish_catalog.specs.declared.entry.Entry.TheVariants as entry
 use Rattle.fish_layout.specs.Body.{IsBody}
-use Rattle.fish_rule.proofs.laws.Entries.{found_body, tells_entry}
+use Rattle.fish_rule.proofs.laws.Entries.{found_body, knows_entry}
 use Rattle.fish_rule.proofs.laws.Learning.{extends_both}
-use Rattle.fish_rule.specs.Logs.{Tells}
+use Rattle.fish_rule.specs.Logs.{KnowsAs}
 use Rattle.fish_rule.specs.Passes.{view}
 use Rattle.fish_rule.specs.declared.view.View.{View}
 use Rattle.fish_walk.proofs.Records.{look_extends, look_finds}
@@ -73,8 +73,8 @@ returns-clause-entry g c =
     let same : c.deref.result.now ≡ read.more =
     c.deref.ensures.value ∙ read.after_is ∙ ap (λ (z : List ℕ). z ++ read.more) c.new-words.ensures.items in
     let r = c.in_ok-lane.field-0 in
-    subst (λ (z : ℕ). Tells (view c.read_region.new.pass) z (entry.Stored r.lane r.form r.payload)) f.2
-    (tells_entry (view c.read_region.new.pass) f.0 read.more
+    subst (λ (z : ℕ). KnowsAs (view c.read_region.new.pass) z (entry.Stored r.lane r.form r.payload)) f.2
+    (knows_entry (view c.read_region.new.pass) f.0 read.more
     (c.read_region.ensures.extends.learns.found f.0 at.0) f.3 words r.lane r.form r.payload
     (λ q b. c.in_ok-lane.ensures.lane q (subst (IsBody q) (sym same) b))
     (λ q b. c.in_ok-lane.ensures.form q (subst (IsBody q) (sym same) b))

@@ -3,4 +3,4 @@ use Rattle.std.specs.Prelude.{◌≤◌}
 use Rattle.tests_lanes.proofs.blocks.stored_in_order.Given as goal
 
 abbrev pub invariant-loop-entry : goal.invariant-loop-entry
-invariant-loop-entry l = l.place ≤ l.entry-index
+invariant-loop-entry l = l.position ≤ l.entry-index

@@ -7,4 +7,4 @@ pub returns-in_ok-close_block-in-Inside-clause-taken : goal.returns-in_ok-close_
 returns-in_ok-close_block-in-Inside-clause-taken c ws h =
     let done = c.in_ok-close_block-in-Inside.ensures in
     takes_end ws c.args.self.now c.close_block.new.self c.in-Inside.lanes c.in-Inside.feeds h c.in-Inside.is
-    (omega (arith, c.if-lanes-gt0.true)) done.place done.blocks done.lanes done.lane
+    (omega (arith, c.if-lanes-gt0.true)) done.position done.blocks done.lanes done.lane

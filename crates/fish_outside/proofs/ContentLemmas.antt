@@ -1,7 +1,7 @@
 -- What is told, through several calls. Where it is told now, it was told all through.
 use Rattle.std.proofs.Common.{◌≡◌, ℕ, List, [], ◌++◌, append_assoc, append-nil, refl, ap, sym, ◌∙◌}
 use Rattle.std.specs.Prelude.{Option, Some, None, IsSome}
-use Rattle.fish_outside.specs.Told.{Took, Gained, Files, StillTold}
+use Rattle.fish_outside.specs.Content.{Took, Gained, Files, SameFiles}
 
 -- what was taken in two steps was taken in one
 pub Took_trans : (old mid new : Option (List ℕ)) (first second : List ℕ) →
@@ -44,14 +44,14 @@ Gained_told None (Some all) bytes a told = absurd cc
 Gained_told (Some start) (Some all) bytes a told = refl
 
 -- files that stayed the same through two steps stayed the same
-pub StillTold_trans : (old mid new : Option Files) →
-    StillTold old mid → StillTold mid new → StillTold old new
-StillTold_trans old mid None a b = tt
-StillTold_trans old None (Some files) a b = absurd cc
-StillTold_trans old (Some between) (Some files) a b = a ∙ b
+pub SameFiles_trans : (old mid new : Option Files) →
+    SameFiles old mid → SameFiles mid new → SameFiles old new
+SameFiles_trans old mid None a b = tt
+SameFiles_trans old None (Some files) a b = absurd cc
+SameFiles_trans old (Some between) (Some files) a b = a ∙ b
 
 -- what is still told was told before
-pub StillTold_told : (old new : Option Files) → StillTold old new → IsSome new → IsSome old
-StillTold_told old None a told = cc
-StillTold_told None (Some files) a told = absurd cc
-StillTold_told (Some before) (Some files) a told = refl
+pub SameFiles_told : (old new : Option Files) → SameFiles old new → IsSome new → IsSome old
+SameFiles_told old None a told = cc
+SameFiles_told None (Some files) a told = absurd cc
+SameFiles_told (Some before) (Some files) a told = refl

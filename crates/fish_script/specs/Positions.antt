@@ -2,8 +2,8 @@
 use Rattle.std.specs.Prelude.{◌≡◌, ℕ, ◌+◌, ◌<◌, ◌≤◌, List, [], ◌∷◌, true}
 use Rattle.fish_script.specs.Limits.{most_feeds, most_lanes}
 use Rattle.fish_script.specs.Script.{Reads, is_control, is_feed}
-use Rattle.fish_script.specs.declared.builder.Place.{Place}
-use Rattle.fish_script.specs.declared.builder.Place.TheVariants.{Outside, Inside}
+use Rattle.fish_script.specs.declared.builder.Position.{Position}
+use Rattle.fish_script.specs.declared.builder.Position.TheVariants.{Outside, Inside}
 use Rattle.fish_script.specs.declared.script.Statement.{Statement}
 use Rattle.fish_script.specs.declared.script_line.StatementLine.{StatementLine}
 use Rattle.fish_script.specs.declared.script_line.StatementLine.TheVariants as word
@@ -16,26 +16,26 @@ with_feed (word.Ingest form header file) feeds = feeds + 1
 with_feed w feeds = feeds
 
 -- where the line behind one stands: in a block, how many lanes have begun and how many files are stored
-abbrev pub place_after : Place → ScriptLine → Place
-place_after p said.Lanes = Inside 0 0
-place_after p said.End = Outside
-place_after Outside said.Lane = Outside
-place_after Outside (said.Statement w) = Outside
-place_after (Inside lanes feeds) said.Lane = Inside (lanes + 1) feeds
-place_after (Inside lanes feeds) (said.Statement w) = Inside lanes (with_feed w feeds)
+abbrev pub position_after : Position → ScriptLine → Position
+position_after p said.Lanes = Inside 0 0
+position_after p said.End = Outside
+position_after Outside said.Lane = Outside
+position_after Outside (said.Statement w) = Outside
+position_after (Inside lanes feeds) said.Lane = Inside (lanes + 1) feeds
+position_after (Inside lanes feeds) (said.Statement w) = Inside lanes (with_feed w feeds)
 
 -- where the line behind many stands
-abbrev pub place_from : Place → List ScriptLine → Place
-place_from p [] = p
-place_from p (w ∷ ws) = place_from (place_after p w) ws
+abbrev pub position_from : Position → List ScriptLine → Position
+position_from p [] = p
+position_from p (w ∷ ws) = position_from (position_after p w) ws
 
 -- where a line stands that has these in front of it
-abbrev pub place_of : List ScriptLine → Place
-place_of ws = place_from Outside ws
+abbrev pub position_of : List ScriptLine → Position
+position_of ws = position_from Outside ws
 
 -- the line can't stand there: `lane` and `end` outside of a block, `lanes` inside, and in front of a block's first
 -- `lane` all but that
-abbrev pub IsMisplaced : Place → ScriptLine → Type 0
+abbrev pub IsMisplaced : Position → ScriptLine → Type 0
 IsMisplaced Outside said.Lanes = ⊥
 IsMisplaced Outside said.Lane = Unit {0}
 IsMisplaced Outside said.End = Unit {0}
@@ -46,27 +46,27 @@ IsMisplaced (Inside lanes feeds) said.End = lanes ≡ 0
 IsMisplaced (Inside lanes feeds) (said.Statement w) = lanes ≡ 0
 
 -- the statement keeps the limits there
-abbrev pub Fits : Place → Statement → Type 0
+abbrev pub Fits : Position → Statement → Type 0
 Fits Outside s = Unit {0}
 Fits (Inside lanes feeds) s = (is_control s ≡ true → lanes ≤ 1) × (is_feed s ≡ true → feeds < most_feeds)
 
 -- a `lane` keeps the limits there
-abbrev pub FitsLane : Place → Type 0
+abbrev pub FitsLane : Position → Type 0
 FitsLane Outside = Unit {0}
 FitsLane (Inside lanes feeds) = lanes < most_lanes
 
 -- the line, which can stand there, keeps the limits and has a definition where it is to have one
-abbrev pub IsInOrder : Place → ScriptLine → Type 0
+abbrev pub IsInOrder : Position → ScriptLine → Type 0
 IsInOrder p said.Lanes = Unit {0}
 IsInOrder p said.End = Unit {0}
 IsInOrder p said.Lane = FitsLane p
 IsInOrder p (said.Statement w) = (s : Statement) × Reads w s × Fits p s
 
 -- the line is in order there
-abbrev pub Stands : Place → ScriptLine → Type 0
+abbrev pub Stands : Position → ScriptLine → Type 0
 Stands p l = (¬ IsMisplaced p l) × IsInOrder p l
 
 -- each of the lines is in order
-abbrev pub AllStand : Place → List ScriptLine → Type 0
+abbrev pub AllStand : Position → List ScriptLine → Type 0
 AllStand p [] = Unit {0}
-AllStand p (w ∷ ws) = Stands p w × AllStand (place_after p w) ws
+AllStand p (w ∷ ws) = Stands p w × AllStand (position_after p w) ws

@@ -1,7 +1,7 @@
--- What the outside tells of its content. `None` stands for content that is no longer told.
+-- What is known of the content outside. `None` stands for content of which nothing is known any more.
 --
--- Each word here says something only where the content is still told at the end, and then it was told
--- at the beginning too: what has fallen silent never speaks again.
+-- Each word here says something only where the content is known at the end, and then it was known at the beginning too:
+-- what is unknown never becomes known again.
 use Rattle.std.specs.Prelude.{◌≡◌, ℕ, ◌<◌, List, [], ◌++◌, length, take, Option, Some, IfSome, Result, MatchResult}
 use Rattle.std.specs.Option.{option_map}
 
@@ -42,8 +42,8 @@ abbrev pub Files : Type 0
 Files = List ℕ → Option (List ℕ)
 
 -- the files are the same as before
-abbrev pub StillTold : Option Files → Option Files → Type 0
-StillTold old new = IfSome new (λ files. old ≡ Some files)
+abbrev pub SameFiles : Option Files → Option Files → Type 0
+SameFiles old new = IfSome new (λ files. old ≡ Some files)
 
 -- there is a file of this name, and its bytes are what is left to read
 pub record HasFile (files : Files) (name : List ℕ) (left : Option (List ℕ)) : Type 0 where

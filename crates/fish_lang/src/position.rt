@@ -1,4 +1,4 @@
-//! Places in a condition: what stands in front of a place, as far as it is not closed.
+//! Positions in a condition: what stands in front of a position, as far as it is not closed.
 
 ghost use Rattle.std.specs.Prelude.{◌≡◌, nat_lt};
 ghost use Rattle.fish_lang.specs.Machine.{nesting, joint_nesting, whole_nesting};
@@ -8,7 +8,7 @@ use crate::definition::Cond;
 
 /// Where a whole condition stands.
 #[derive(Drop)]
-#[cycle(place)]
+#[cycle(position)]
 pub enum Whole {
     /// Behind `when`.
     Top,
@@ -18,7 +18,7 @@ pub enum Whole {
 
 /// Where a part of an `or` stands.
 #[derive(Drop)]
-#[cycle(place)]
+#[cycle(position)]
 pub enum Joint {
     /// At its front.
     InWhole(Whole),
@@ -28,7 +28,7 @@ pub enum Joint {
 
 /// Where a part of an `and` stands.
 #[derive(Drop)]
-#[cycle(place)]
+#[cycle(position)]
 pub enum Operand {
     /// At its front.
     InJoint(Joint),
@@ -40,10 +40,10 @@ pub enum Operand {
 
 /// Whether fewer than `most` `(` and `not` are open.
 #[cycle(nests)]
-pub fn nests_less(place: &Operand, most: u8) -> bool
-    ensures { result ≡ nat_lt (nesting (operand_view place.now)) most }
+pub fn nests_less(position: &Operand, most: u8) -> bool
+    ensures { result ≡ nat_lt (nesting (operand_view position.now)) most }
 {
-    match place {
+    match position {
         Operand::InJoint(joint) => joint_nests_less(joint, most),
         Operand::BehindAnd(_, joint) => joint_nests_less(joint, most),
         Operand::UnderNot(outer) => most > 0 && nests_less(outer, most - 1),
