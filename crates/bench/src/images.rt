@@ -2,6 +2,7 @@
 
 ghost use Rattle.std.specs.Prelude.{◌≡◌, ◌<◌};
 ghost use Rattle.fish_image.specs.Commits.{IsWithin};
+ghost use Rattle.fish_psf.specs.Blanks.{IsBlankOf};
 
 use crate::lanes::report;
 use fish_catalog::{CatRow, Catalog, Commit};
@@ -291,9 +292,7 @@ fn read_once(alloc: Global) -> u64 {
 
 /// The same with a counter of a blank. How often it was a record.
 fn read_all<P: Ledger>(alloc: Global, blank: Blank) -> u64
-    requires name { blank.name ≡ P.name }
-    requires parts { blank.parts ≡ P.parts }
-    requires some { 0 < blank.parts }
+    requires blank { IsBlankOf P.name P.parts blank }
 {
     let mut steps = Steps::<P>::new(blank);
     let mut reader = RecordReader::new(alloc);

@@ -2,6 +2,7 @@
 
 ghost use Rattle.std.specs.Prelude.{◌≡◌, ◌<◌};
 ghost use Rattle.fish_epoch.specs.Definitions.{IsDefsOf};
+ghost use Rattle.fish_psf.specs.Blanks.{IsBlankOf};
 ghost use Rattle.fish_rule.specs.Passes.{IsPassOf, view};
 ghost use Rattle.fish_scan.specs.Colder.{IsBelow};
 
@@ -123,12 +124,8 @@ fn scanned<D: Disk, P: Ledger, L: Ledger>(
     disk: &mut D,
     ask: &Ask,
 ) -> Result<Answer, ScanRefusal>
-    requires name { parses.name ≡ P.name }
-    requires parts { parses.parts ≡ P.parts }
-    requires some { 0 < parses.parts }
-    requires loads_name { loads.name ≡ L.name }
-    requires loads_parts { loads.parts ≡ L.parts }
-    requires loads_some { 0 < loads.parts }
+    requires parses { IsBlankOf P.name P.parts parses }
+    requires loads { IsBlankOf L.name L.parts loads }
     requires pass { IsPassOf log.now pass.old }
     requires defs { IsDefsOf (view pass.old) defs.old }
     requires below { IsBelow log.now.key cold.old }

@@ -2,6 +2,7 @@
 //! memory.
 
 ghost use Rattle.std.specs.Prelude.{◌≡◌, ◌<◌};
+ghost use Rattle.fish_psf.specs.Blanks.{IsBlankOf};
 
 use crate::lanes::{Lane, LaneCount, time_lanes};
 use fish_psf::{Steps, parse};
@@ -82,9 +83,7 @@ pub fn measure_parses<R: Threads + Sync + Clock + AllocGlobal + Eprint>(
 
 /// Parses payloads in order, each as a tree, with a counter of a blank. How many bytes were read.
 fn parse_all<P: Ledger>(alloc: Global, blank: Blank, payloads: &[Text]) -> u64
-    requires name { blank.name ≡ P.name }
-    requires parts { blank.parts ≡ P.parts }
-    requires some { 0 < blank.parts }
+    requires blank { IsBlankOf P.name P.parts blank }
 {
     let mut steps = Steps::<P>::new(blank);
     let mut bytes = 0u64;
@@ -105,9 +104,7 @@ pub fn read_once(alloc: Global, payloads: &[Text]) -> u64 {
 
 /// Reads payloads in order with one reader, and a counter of a blank.
 fn read_all<P: Ledger>(alloc: Global, blank: Blank, payloads: &[Text]) -> u64
-    requires name { blank.name ≡ P.name }
-    requires parts { blank.parts ≡ P.parts }
-    requires some { 0 < blank.parts }
+    requires blank { IsBlankOf P.name P.parts blank }
 {
     let mut steps = Steps::<P>::new(blank);
     let mut reader = RecordReader::new(alloc);

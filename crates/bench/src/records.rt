@@ -3,6 +3,7 @@
 ghost use Rattle.std.specs.Prelude.{◌≡◌, ◌<◌, ◌≤◌, All, IfOk};
 ghost use Rattle.bench.specs.Stores.{IsRecordOf};
 ghost use Rattle.fish_ingest.specs.Preparation.{AreDefs};
+ghost use Rattle.fish_psf.specs.Blanks.{IsBlankOf};
 
 use crate::workload::Workload;
 use fish_ingest::{Origin, Prepared, prepare};
@@ -20,9 +21,7 @@ pub fn records_of<L: Ledger>(
     lane: u8,
     count: u64,
 ) -> Result<Vec<Prepared>, AllocError>
-    requires name { blank.name ≡ L.name }
-    requires parts { blank.parts ≡ L.parts }
-    requires some { 0 < blank.parts }
+    requires blank { IsBlankOf L.name L.parts blank }
     requires defs { AreDefs defs.now }
     requires lane { (1 ≤ lane) × (lane ≤ 16) }
     ensures { IfOk result (λ records. All (IsRecordOf lane defs.now) records.items) }

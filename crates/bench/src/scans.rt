@@ -3,6 +3,7 @@
 ghost use Rattle.std.specs.Prelude.{◌≡◌, ◌<◌, IfOk};
 ghost use Rattle.bench.specs.Opening.{IsControl};
 ghost use Rattle.fish_epoch.specs.Definitions.{IsDefsOf};
+ghost use Rattle.fish_psf.specs.Blanks.{IsBlankOf};
 ghost use Rattle.fish_rule.specs.Passes.{IsPassOf, view};
 ghost use Rattle.fish_rule.specs.Start.{IsShape};
 
@@ -204,9 +205,7 @@ fn walk_counted<R: Clock, L: Ledger>(
     bucket: u32,
     blank: Blank,
 ) -> Option<Walked>
-    requires name { blank.name ≡ L.name }
-    requires parts { blank.parts ≡ L.parts }
-    requires some { 0 < blank.parts }
+    requires blank { IsBlankOf L.name L.parts blank }
     requires pass { IsPassOf log.now main.old }
     ensures { IsPassOf log.now main.new }
 {
@@ -311,12 +310,8 @@ fn scanned<P: Ledger, L: Ledger>(
     defs: &mut Defs,
     ask: &Ask,
 ) -> Result<Answer, ScanRefusal>
-    requires name { parses.name ≡ P.name }
-    requires parts { parses.parts ≡ P.parts }
-    requires some { 0 < parses.parts }
-    requires loads_name { loads.name ≡ L.name }
-    requires loads_parts { loads.parts ≡ L.parts }
-    requires loads_some { 0 < loads.parts }
+    requires parses { IsBlankOf P.name P.parts parses }
+    requires loads { IsBlankOf L.name L.parts loads }
     requires pass { IsPassOf log.now main.old }
     requires defs { IsDefsOf (view main.old) defs.old }
     ensures { IsPassOf log.now main.new }

@@ -1,6 +1,7 @@
 //! Scans number by number, beside the selection of the same records in memory.
 
 ghost use Rattle.std.specs.Prelude.{◌≡◌, ◌<◌};
+ghost use Rattle.fish_psf.specs.Blanks.{IsBlankOf};
 ghost use Rattle.fish_rule.specs.Passes.{IsPassOf};
 
 use crate::definitions::Sources;
@@ -167,9 +168,7 @@ fn select_all<P: Ledger>(
     value: &Value,
     payloads: &[Text],
 ) -> Result<Rows, AllocError>
-    requires name { blank.name ≡ P.name }
-    requires parts { blank.parts ≡ P.parts }
-    requires some { 0 < blank.parts }
+    requires blank { IsBlankOf P.name P.parts blank }
 {
     let mut steps = Steps::<P>::new(blank);
     let mut reader = RecordReader::new(alloc);

@@ -3,6 +3,7 @@
 ghost use Rattle.std.specs.Prelude.{◌≡◌, ◌<◌};
 ghost use Rattle.bench.specs.Opening.{IsControl};
 ghost use Rattle.fish_ingest.specs.Preparation.{AreDefs};
+ghost use Rattle.fish_psf.specs.Blanks.{IsBlankOf};
 ghost use Rattle.fish_rule.specs.Keys.{AreActive};
 ghost use Rattle.fish_chain.specs.Walks.{IsWalking};
 ghost use Rattle.fish_rule.specs.Passes.{IsPassOf, view, walk_of};
@@ -71,9 +72,7 @@ fn store_and_walk<R: Clock + AllocGlobal>(
 
 /// The longest of the log's first 16 chains.
 fn walk_longest<R: Clock, L: Ledger>(rt: &R, log: &Log, pass: &mut Pass, blank: Blank) -> Walked
-    requires name { blank.name ≡ L.name }
-    requires parts { blank.parts ≡ L.parts }
-    requires some { 0 < blank.parts }
+    requires blank { IsBlankOf L.name L.parts blank }
     requires pass { IsPassOf log.now pass.old }
     ensures { IsPassOf log.now pass.new }
 {

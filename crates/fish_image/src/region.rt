@@ -16,6 +16,7 @@ ghost use Rattle.fish_image.specs.Reached.{Reached, behind};
 ghost use Rattle.fish_layout.specs.Pages.{page_of};
 ghost use Rattle.fish_image.specs.Terms.{AreTermsOf};
 ghost use Rattle.fish_image.specs.Regions.{CanTake, HasKeysIn};
+ghost use Rattle.fish_psf.specs.Blanks.{IsBlankOf};
 
 use crate::keys::has_keys;
 use crate::progress::Progress;
@@ -202,9 +203,7 @@ fn is_kept_counted<L: Ledger>(
     number: u32,
     parts: &BodyParts,
 ) -> Result<bool, AllocError>
-    requires name { blank.name ≡ L.name }
-    requires parts { blank.parts ≡ L.parts }
-    requires some { 0 < blank.parts }
+    requires blank { IsBlankOf L.name L.parts blank }
     requires proper { IsProper parts.now }
     ensures { IfOk result (λ yes. IsTrue yes ↔ HasKeysIn rows.now number parts.now) }
 {

@@ -8,6 +8,7 @@ ghost use Rattle.fish_ingest.specs.Placement.{number_of};
 ghost use Rattle.fish_ingest.specs.Preparation.{IsRead};
 ghost use Rattle.fish_ingest.specs.Refusal.{HasNotClaimed, HasRefused, IsCause, IsEarly, IsLate};
 ghost use Rattle.fish_ingest.specs.declared.refusal.IngestRefusal.TheVariants as refusal;
+ghost use Rattle.fish_psf.specs.Blanks.{IsBlankOf};
 ghost use Rattle.fish_read.specs.Rows.{fields_in_row};
 ghost use Rattle.fish_rule.specs.RegistrySteps.{after_retire};
 ghost use Rattle.fish_rule.specs.Passes.{IsPassOf, view};
@@ -181,9 +182,7 @@ fn parse_counted<'a, L: Ledger>(
     form: Form,
     payload: &'a [u8],
 ) -> Result<RecordRow<'a>, IngestRefusal>
-    requires name { blank.name ≡ L.name }
-    requires parts { blank.parts ≡ L.parts }
-    requires some { 0 < blank.parts }
+    requires blank { IsBlankOf L.name L.parts blank }
     ensures read { IfOk result (λ found. IsRead form payload.now (fields_in_row found)) }
     ensures too_long { IsErrOf result refusal.TooLong ↔ (longest_payload < length payload.now) }
     ensures cause { IfErr result (λ e. IsCause form payload.now e × IsEarly e) }

@@ -11,6 +11,7 @@ ghost use Rattle.fish_lanes.specs.Loading.{LoadsInTable};
 ghost use Rattle.fish_lanes.specs.within.Pasts.{IsHere, anywhere};
 ghost use Rattle.fish_lanes.specs.declared.work.LaneFault.TheVariants as cause;
 ghost use Rattle.fish_lanes.specs.declared.work.Work.TheVariants as work;
+ghost use Rattle.fish_psf.specs.Blanks.{IsBlankOf};
 ghost use Rattle.fish_report.specs.declared.item.Item.TheVariants as item;
 ghost use Rattle.fish_rule.specs.Passes.{IsPassOf, view};
 ghost use Rattle.fish_scan.specs.Across.{IsRefusedWith, IsUndamagedScan};
@@ -250,12 +251,8 @@ fn scan_with<P: Ledger, L: Ledger>(
     defs: &mut Defs,
     ask: &Ask,
 ) -> Result<Answer, ScanRefusal>
-    requires parses_name { parses.name ≡ P.name }
-    requires parses_parts { parses.parts ≡ P.parts }
-    requires parses_some { 0 < parses.parts }
-    requires loads_name { loads.name ≡ L.name }
-    requires loads_parts { loads.parts ≡ L.parts }
-    requires loads_some { 0 < loads.parts }
+    requires parses { IsBlankOf P.name P.parts parses }
+    requires loads { IsBlankOf L.name L.parts loads }
     requires pass { IsPassOf log.now pass.old }
     requires defs { IsDefsOf (view pass.old) defs.old }
     ensures pass { IsPassOf log.now pass.new }
@@ -282,12 +279,8 @@ fn older_with<P: Ledger, L: Ledger, D: Disk>(
     defs: &mut Defs,
     ask: &Ask,
 ) -> Result<Answer, ScanRefusal>
-    requires parses_name { parses.name ≡ P.name }
-    requires parses_parts { parses.parts ≡ P.parts }
-    requires parses_some { 0 < parses.parts }
-    requires loads_name { loads.name ≡ L.name }
-    requires loads_parts { loads.parts ≡ L.parts }
-    requires loads_some { 0 < loads.parts }
+    requires parses { IsBlankOf P.name P.parts parses }
+    requires loads { IsBlankOf L.name L.parts loads }
     requires pass { IsPassOf log.now pass.old }
     requires defs { IsDefsOf (view pass.old) defs.old }
     requires base { IsBelow log.now.key file.old.cold }

@@ -1,3 +1,4 @@
+pub mod Blanks
 pub mod BucketLaw
 pub mod Eval
 pub mod Fields

@@ -1,6 +1,7 @@
 //! Step counters: how often something was done, for contracts to speak of.
 
 ghost use Rattle.std.specs.Prelude.{◌≡◌, ◌+◌, ◌<◌};
+ghost use Rattle.fish_psf.specs.Blanks.{IsBlankOf};
 
 use std::marker::Model;
 use std::sync::ledger::{Blank, Book, Ledger, Share};
@@ -26,9 +27,7 @@ impl<L: Ledger> Steps<L> {
     /// A counter that has not ticked, of a blank with at least one part. The caller picks the ledger's
     /// name and parts, by a call with `Brand`.
     pub fn new(blank: Blank) -> Steps<L>
-        requires name { blank.name ≡ L.name }
-        requires parts { blank.parts ≡ L.parts }
-        requires some { 0 < blank.parts }
+        requires blank { IsBlankOf L.name L.parts blank }
         ensures { result ≡ 0 }
     {
         let (book, share) = blank.open();

@@ -222,7 +222,8 @@ no_stop_within before behind line ws ahead n e say stand front fault =
     let rest : AllStand (position_of s.ahead) (s.own ++ s.rest) =
     stand_behind Outside s.ahead (s.own ++ s.rest) (subst (λ (z : List ScriptLine). AllStand Outside z) s.whole stand) in
     line_unrefused (position_of ahead) line n e s.own s.here
-    (stand_ahead (position_of ahead) s.own s.rest (subst (λ (z : List ScriptLine). AllStand (position_of z) (s.own ++ s.rest)) same rest)) fault
+    (stand_ahead (position_of ahead) s.own s.rest
+    (subst (λ (z : List ScriptLine). AllStand (position_of z) (s.own ++ s.rest)) same rest)) fault
 
 -- a text whose lines are all in order stops at none
 pub no_stop : (text : List ℕ) (e : ScriptRefusal) (ws : List ScriptLine) → AllSay (lines text) ws → AllStand Outside ws → StopsAt text e → ⊥

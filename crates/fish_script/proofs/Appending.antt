@@ -12,7 +12,8 @@ use Rattle.fish_script.specs.declared.script_line.ScriptLine.{ScriptLine}
 use Rattle.fish_script.specs.declared.script_line.ScriptLine.TheVariants as said
 
 -- the position behind one line more
-pub place_push : (p : Position) (ws : List ScriptLine) (w : ScriptLine) → position_from p (ws ++ w ∷ []) ≡ position_after (position_from p ws) w
+pub place_push : (p : Position) (ws : List ScriptLine) (w : ScriptLine)
+    → position_from p (ws ++ w ∷ []) ≡ position_after (position_from p ws) w
 place_push p [] w = refl
 place_push p (x ∷ ws) w = place_push (position_after p x) ws w
 

@@ -1,6 +1,7 @@
 //! Payloads of both forms, counted as they are read, with what is told of them worked out by hand.
 
 ghost use Rattle.std.specs.Prelude.{◌≡◌, ◌<◌};
+ghost use Rattle.fish_psf.specs.Blanks.{IsBlankOf};
 
 use crate::expecting::expect_all;
 use crate::sources::definition;
@@ -107,9 +108,7 @@ fn told<P: Ledger>(
     payload: &[u8],
     defs: &[ActiveDef],
 ) -> Result<String, AllocError>
-    requires name { blank.name ≡ P.name }
-    requires parts { blank.parts ≡ P.parts }
-    requires some { 0 < blank.parts }
+    requires blank { IsBlankOf P.name P.parts blank }
 {
     let mut parses = Steps::<P>::new(blank);
     match parse(alloc, form, payload, &mut parses) {

@@ -2,6 +2,7 @@
 //! worked out by hand.
 
 ghost use Rattle.std.specs.Prelude.{◌≡◌, ◌<◌};
+ghost use Rattle.fish_psf.specs.Blanks.{IsBlankOf};
 
 use crate::expecting::expect_all;
 use crate::sources::definition;
@@ -127,9 +128,7 @@ fn numbers_in<P: Ledger>(
     def: &Def,
     value: &Value,
 ) -> Result<String, AllocError>
-    requires name { blank.name ≡ P.name }
-    requires parts { blank.parts ≡ P.parts }
-    requires some { 0 < blank.parts }
+    requires blank { IsBlankOf P.name P.parts blank }
 {
     let mut parses = Steps::<P>::new(blank);
     match records(alloc, case.0, false, case.1.as_bytes()) {

@@ -1,6 +1,7 @@
 //! Entries as they are read back: by number while a log is open, and of the closed log.
 
 ghost use Rattle.std.specs.Prelude.{◌≡◌, ◌<◌, [], IfOk};
+ghost use Rattle.fish_psf.specs.Blanks.{IsBlankOf};
 ghost use Rattle.fish_rule.specs.Passes.{IsPassOf, view};
 ghost use Rattle.fish_rule.specs.LoadSteps.{IsAlone};
 ghost use Rattle.fish_rule.specs.Table.{first_view};
@@ -71,9 +72,7 @@ fn found_with<L: Ledger>(
     number: u32,
     want: &Entry,
 ) -> Result<Look, Cause>
-    requires name { blank.name ≡ L.name }
-    requires parts { blank.parts ≡ L.parts }
-    requires some { 0 < blank.parts }
+    requires blank { IsBlankOf L.name L.parts blank }
     requires pass { IsPassOf log.now pass.old }
     ensures { IsPassOf log.now pass.new }
 {

@@ -7,6 +7,7 @@ ghost use Rattle.fish_ingest.specs.Preparation.{AreDefs};
 ghost use Rattle.fish_ingest.specs.Preparation.{IsOrigin, IsPreparedFor};
 ghost use Rattle.fish_ingest.specs.Ingestion.{CanStart};
 ghost use Rattle.fish_ingest.specs.Placement.{CanWrite};
+ghost use Rattle.fish_psf.specs.Blanks.{IsBlankOf};
 ghost use Rattle.fish_rule.specs.Keys.{AreActive};
 ghost use Rattle.fish_rule.specs.Passes.{IsPassOf, view};
 ghost use Rattle.fish_rule.specs.declared.view.Flight.{Flight};
@@ -29,9 +30,7 @@ fn prepared_with<P: Ledger>(
     origin: Origin,
     payload: &[u8],
 ) -> Result<Prepared, IngestRefusal>
-    requires name { blank.name ≡ P.name }
-    requires parts { blank.parts ≡ P.parts }
-    requires some { 0 < blank.parts }
+    requires blank { IsBlankOf P.name P.parts blank }
     requires defs { AreDefs defs.now }
     requires origin { IsOrigin origin }
     ensures { IfOk result (IsPreparedFor defs.now origin payload.now) }

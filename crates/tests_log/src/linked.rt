@@ -2,6 +2,7 @@
 //! that walks gave.
 
 ghost use Rattle.std.specs.Prelude.{◌≡◌, ◌<◌};
+ghost use Rattle.fish_psf.specs.Blanks.{IsBlankOf};
 
 use crate::cause::Cause;
 use fish_catalog::{Entries, Entry};
@@ -81,9 +82,7 @@ fn links_with<P: Ledger>(
     defs: &[ActiveDef],
     entries: &Entries,
 ) -> Result<Vec<Linked>, Cause>
-    requires name { blank.name ≡ P.name }
-    requires parts { blank.parts ≡ P.parts }
-    requires some { 0 < blank.parts }
+    requires blank { IsBlankOf P.name P.parts blank }
 {
     let mut parses = Steps::<P>::new(blank);
     let mut links = Vec::new(alloc);

@@ -2,6 +2,7 @@
 
 ghost use Rattle.std.specs.Prelude.{◌≡◌, ◌<◌, ◌≤◌, OnOk};
 ghost use Rattle.fish_chain.specs.Walks.{IsWalking};
+ghost use Rattle.fish_psf.specs.Blanks.{IsBlankOf};
 ghost use Rattle.fish_rule.specs.ChainSteps.{CanLoadHead};
 ghost use Rattle.fish_rule.specs.Passes.{IsPassOf, view, walk_of};
 ghost use Rattle.fish_rule.specs.LoadSteps.{IsAlone};
@@ -73,9 +74,7 @@ fn walked<L: Ledger>(
     bucket: u32,
     range: (u32, u32),
 ) -> Result<Vec<Node>, AllocError>
-    requires name { blank.name ≡ L.name }
-    requires parts { blank.parts ≡ L.parts }
-    requires some { 0 < blank.parts }
+    requires blank { IsBlankOf L.name L.parts blank }
     requires pass { IsPassOf log.now pass.old }
     requires head { CanLoadHead (view pass.old) bucket }
     requires settled { range.1 ≤ (view pass.old).learned.settled }

@@ -3,6 +3,7 @@
 ghost use Rattle.std.specs.Prelude.{◌≡◌, ◌<◌, ◌≤◌, All, IfOk};
 ghost use Rattle.fish_catalog.specs.Clamps.{IsClamped};
 ghost use Rattle.fish_epoch.specs.Definitions.{IsDefsOf};
+ghost use Rattle.fish_psf.specs.Blanks.{IsBlankOf};
 ghost use Rattle.fish_rule.specs.Passes.{IsPassOf, view};
 ghost use Rattle.fish_scan.specs.Colder.{IsBelow};
 ghost use Rattle.tests_store.specs.Flushing.{IsOutOf};
@@ -195,12 +196,8 @@ fn scanned<P: Ledger, L: Ledger, D: Disk>(
     cold: &mut Cold,
     disk: &mut D,
 ) -> Result<Answer, ScanRefusal>
-    requires name { parses.name ≡ P.name }
-    requires parts { parses.parts ≡ P.parts }
-    requires some { 0 < parses.parts }
-    requires loads_name { loads.name ≡ L.name }
-    requires loads_parts { loads.parts ≡ L.parts }
-    requires loads_some { 0 < loads.parts }
+    requires parses { IsBlankOf P.name P.parts parses }
+    requires loads { IsBlankOf L.name L.parts loads }
     requires pass { IsPassOf log.now pass.old }
     requires defs { IsDefsOf (view pass.old) defs.old }
     requires base { IsBelow log.now.key cold.old }

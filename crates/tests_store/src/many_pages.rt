@@ -3,6 +3,7 @@
 ghost use Rattle.std.specs.Prelude.{◌≡◌, ◌<◌, ◌*◌, All, IfOk, Some};
 ghost use Rattle.fish_catalog.specs.Clamps.{IsClamped};
 ghost use Rattle.fish_disk.specs.Content.{no_content};
+ghost use Rattle.fish_psf.specs.Blanks.{IsBlankOf};
 ghost use Rattle.fish_rule.specs.Passes.{IsPassOf};
 ghost use Rattle.fish_scan.specs.Colder.{IsBelow};
 
@@ -139,9 +140,7 @@ fn reads_told<L: Ledger>(
     cold: &mut Cold,
     disk: &mut Voids,
 ) -> Result<String, AllocError>
-    requires name { blank.name ≡ L.name }
-    requires parts { blank.parts ≡ L.parts }
-    requires some { 0 < blank.parts }
+    requires blank { IsBlankOf L.name L.parts blank }
 {
     let mut loads = Steps::<L>::new(blank);
     let mut told = String::new(alloc);
@@ -197,9 +196,7 @@ fn grown_told<L: Ledger>(
     cold: &mut Cold,
     disk: &mut Voids,
 ) -> Result<String, AllocError>
-    requires name { blank.name ≡ L.name }
-    requires parts { blank.parts ≡ L.parts }
-    requires some { 0 < blank.parts }
+    requires blank { IsBlankOf L.name L.parts blank }
 {
     let mut loads = Steps::<L>::new(blank);
     let mut told = String::new(alloc);

@@ -1,6 +1,7 @@
 //! Older records, read from the lines of a small log that another program packed, and from a disk of many pages.
 
 ghost use Rattle.std.specs.Prelude.{◌≡◌, ◌<◌};
+ghost use Rattle.fish_psf.specs.Blanks.{IsBlankOf};
 
 use crate::images::WORDS;
 use crate::told::{expect, expect_all, numbers};
@@ -165,9 +166,7 @@ pub(crate) fn answers_told<L: Ledger>(
     cold: &mut Cold,
     disk: &mut MemoryDisk,
 ) -> Result<String, AllocError>
-    requires name { blank.name ≡ L.name }
-    requires parts { blank.parts ≡ L.parts }
-    requires some { 0 < blank.parts }
+    requires blank { IsBlankOf L.name L.parts blank }
 {
     let mut loads = Steps::<L>::new(blank);
     let mut told = String::new(alloc);

@@ -2,6 +2,7 @@
 //! The payloads are made from a seed, so that a failure comes again.
 
 ghost use Rattle.std.specs.Prelude.{◌≡◌, ◌<◌};
+ghost use Rattle.fish_psf.specs.Blanks.{IsBlankOf};
 
 use crate::expecting::expect;
 use crate::json_payloads::{Seeded, change_byte, nested, object};
@@ -250,9 +251,7 @@ fn report_all<P: Ledger>(
 
 /// The report of all payloads, by readers that are made for it.
 fn reported<P: Ledger>(alloc: Global, blank: Blank, paths: Vec<Path>) -> Result<String, AllocError>
-    requires name { blank.name ≡ P.name }
-    requires parts { blank.parts ≡ P.parts }
-    requires some { 0 < blank.parts }
+    requires blank { IsBlankOf P.name P.parts blank }
 {
     let mut report = String::new(alloc);
     let mut readers = Readers::<P> {

@@ -9,7 +9,8 @@ use Rattle.fish_layout.proofs.Sizes.{roomy, some_lines}
 use Rattle.fish_layout.proofs.Spelled.{body_says}
 use Rattle.fish_layout.proofs.KeyValues.{key_points}
 use Rattle.fish_layout.proofs.keys.find_key.Goals as goal
-use Rattle.fish_layout.proofs.keys.find_key.Goals.{then-keys-position-via-then-keys-position, then-keys-position-via-else-keys-position+then-words-keys}
+use Rattle.fish_layout.proofs.keys.find_key.Goals.{then-keys-position-via-then-keys-position}
+use Rattle.fish_layout.proofs.keys.find_key.Goals.{then-keys-position-via-else-keys-position+then-words-keys}
 
 pub returns-then-is_empty : goal.returns-then-is_empty
 returns-then-is_empty c p k h within is =

@@ -154,7 +154,8 @@ loop-refusal-preserved g c =
       given = given;
       goes = on.goes a.disk.now a.store a.from (works_of lanes) given ready;
       queues = λ texts h. c.in-Ok.ensures.given texts inv.given (inv.queues texts h);
-      told = still_both (g.H.Host.files a.host.now) (g.H.Host.files l.host) (g.H.Host.files c.give.new.host) inv.told c.in-Ok.ensures.content;
+      told = still_both (g.H.Host.files a.host.now) (g.H.Host.files l.host) (g.H.Host.files c.give.new.host) inv.told
+          c.in-Ok.ensures.content;
       later = (let was = inv.later in let now = c.in-Ok.ensures.cause.later in omega (was, now, arith));
       disk = (let was = inv.disk in let now = c.run_turns.ensures.rises in omega (was, now, arith));
     }
