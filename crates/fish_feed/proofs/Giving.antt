@@ -6,7 +6,7 @@ use Rattle.std.specs.Prelude.{Err, IfSome, IsErrOf, IsSome, Result}
 use Rattle.fish_feed.proofs.Queues.{dones_later, queue_end, queue_later, queue_none}
 use Rattle.fish_feed.specs.Queues.{AreIdle, GoesDown, HasQueue, IsGiven, IsQueue, LanesMayDo, MayDoAll, MayEnd, both}
 use Rattle.fish_feed.specs.Queues.{current_left, left_of, left_of_all, todos_left, works_of}
-use Rattle.fish_feed.specs.Reading.{HasReadCause}
+use Rattle.fish_outside.specs.Reading.{HasReadCause}
 use Rattle.fish_feed.specs.Works.{AreAnewAfterFirst, AreDone, AreFirstOf, Pairs, Triples}
 use Rattle.fish_feed.specs.declared.part.OpenFile.{OpenFile}
 use Rattle.fish_feed.specs.declared.queue.Queue.{Queue}

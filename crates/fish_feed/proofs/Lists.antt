@@ -1,21 +1,8 @@
--- Lists side by side, and what is told at the end of a source.
+-- Lists side by side.
 use Rattle.std.proofs.Common.{◌≡◌, ℕ, ◌<◌, ◌≤◌, zero, suc, List, [], ◌∷◌, ◌++◌, length, take, get_or, refl, sym, ap, ◌∙◌, subst, arith}
 use Rattle.std.proofs.Common.{append-nil, Option, Some, None, slice_get}
-use Rattle.std.proofs.lemmas.List.{take_all}
 use Rattle.std.proofs.lemmas.Option.{slice_get_read}
-use Rattle.fish_outside.specs.Content.{IsAtEnd, Took}
-use Rattle.fish_feed.specs.Reading.{ReadsUpTo}
 use Rattle.fish_feed.specs.Works.{Pairs}
-
--- all that there was is no more than was asked for
-pub reads_all : (old new : Option (List ℕ)) (bytes : List ℕ) (most : ℕ) → length bytes ≤ most → Took old new bytes → IsAtEnd new
-    → ReadsUpTo most old new bytes
-reads_all old None bytes most less took end = tt
-reads_all old (Some rest) bytes most less took end = (
-  bytes ++ rest,
-  took,
-  sym (ap (λ (z : List ℕ). take most (bytes ++ z)) end ∙ ap (take most) (append-nil bytes) ∙ take_all most bytes less),
-)
 
 module _ {A B : Type 0} (R : A → B → Type 0) where
   -- one more of each

@@ -2,7 +2,7 @@
 
 ghost use Rattle.std.specs.Prelude.{◌≡◌, [], Bool, IfOk, false, true};
 ghost use Rattle.fish_feed.specs.Queues.{AllFree, AllRunnable, AreFit, HasNoFile, IsDue, IsFit, IsFitTodo, IsQueue};
-ghost use Rattle.fish_feed.specs.Reading.{HasReadCause};
+ghost use Rattle.fish_outside.specs.Reading.{HasReadCause};
 ghost use Rattle.fish_feed.specs.Works.{IsWorkOf, Pairs, ask_of, how_of};
 ghost use Rattle.fish_lang.specs.Definition.{definition_of};
 ghost use Rattle.fish_outside.specs.Content.{SameFiles};

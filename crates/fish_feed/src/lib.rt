@@ -2,11 +2,9 @@
 #![tactic(auto)]
 
 mod building;
-mod file;
 mod part;
 mod queue;
 
 pub use building::open_lanes;
-pub use file::read_file;
 pub use part::{AT_ONCE, OpenFile, Part, close_file, open_file, read_part};
 pub use queue::{Queue, close, give, has_more};

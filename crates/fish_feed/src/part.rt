@@ -9,10 +9,9 @@ ghost use Rattle.fish_outside.specs.Causes.{Rose, counted_on};
 ghost use Rattle.fish_outside.specs.Content.{IsAtEnd, SameFiles};
 ghost use Rattle.fish_outside.specs.declared.fault.FeedRefusal.TheVariants as refusal;
 
-use crate::file::{CHUNK, read_more, zeros};
 use fish_lanes::Work;
 use fish_lines::Begin;
-use fish_outside::{FeedRefusal, Host, Source};
+use fish_outside::{CHUNK, FeedRefusal, Host, Source, read_more, zeros};
 use fish_value::{Bytes, Form, Text};
 use memchr::memrchr;
 use std::alloc::{AllocError, Global};

@@ -8,7 +8,7 @@ ghost use Rattle.fish_feed.specs.Parts.{longest_read};
 ghost use Rattle.fish_feed.specs.Queues.{AreFit, AreIdle, GoesDown, IsFit, IsGiven, IsQueue, LanesMayDo};
 ghost use Rattle.fish_feed.specs.Queues.{MayDo, MayDoAll, MayEnd};
 ghost use Rattle.fish_feed.specs.Queues.{both, left_of, left_of_all, works_of};
-ghost use Rattle.fish_feed.specs.Reading.{HasReadCause};
+ghost use Rattle.fish_outside.specs.Reading.{HasReadCause};
 ghost use Rattle.fish_feed.specs.Works.{AreAnew, AreDone, AreFirstOf, IsAnew, Pairs, Triples};
 ghost use Rattle.fish_lanes.specs.declared.work.Work.{Work as Does};
 ghost use Rattle.fish_outside.specs.Content.{Files, SameFiles};

@@ -57,7 +57,8 @@ committed_length f c body lines log h =
     ap (λ (l : List Entry). length l) (sym h.is.stands.entries) ∙ agrees_entries c _ c.count h.is.stands.end h.is.stands.agrees
 
 -- entries that are told, one behind the other
-pub told_both : (u : View) (base : ℕ) (xs ys : List Entry) → AreKnown u base xs → AreKnown u (base + length xs) ys → AreKnown u base (xs ++ ys)
+pub told_both : (u : View) (base : ℕ) (xs ys : List Entry) → AreKnown u base xs → AreKnown u (base + length xs) ys
+    → AreKnown u base (xs ++ ys)
 told_both u base [] ys first second i e at =
     let same : base + length (let none : List Entry = [] in none) + i ≡ base + i = omega arith in
     subst (λ (n : ℕ). KnowsAs u n e) same (second i e at)

@@ -175,7 +175,8 @@ module _ {Past : Whole → Type 0} (v u t : View) (works : List Work) (items : L
         told_more v u t (take (length items) works) (answers items) w x g.rows h.told g.gains g.first item.fit item.shuts
         (omega arith) in
         record {
-          told = subst (λ (z : List Work × List Item). HasAnswered Past v t z.0 z.1) (λ j. (sym next j, sym (answers_more items x answered) j))
+          told = subst (λ (z : List Work × List Item). HasAnswered Past v t z.0 z.1)
+              (λ j. (sym next j, sym (answers_more items x answered) j))
               told;
           said = subst (λ (z : List Work). HasSaid v t z (items ++ x ∷ [])) (sym next)
               (said_more Past v u t (take (length items) works) items w x stands h.said learns free item.fit told.gains.on.learns

@@ -1,7 +1,9 @@
 -- What is told, through several calls. Where it is told now, it was told all through.
-use Rattle.std.proofs.Common.{◌≡◌, ℕ, List, [], ◌++◌, append_assoc, append-nil, refl, ap, sym, ◌∙◌}
+use Rattle.std.proofs.Common.{◌≡◌, ◌≤◌, ℕ, List, [], ◌++◌, append_assoc, append-nil, length, take, refl, ap, sym, ◌∙◌}
+use Rattle.std.proofs.lemmas.List.{take_all}
 use Rattle.std.specs.Prelude.{Option, Some, None, IsSome}
-use Rattle.fish_outside.specs.Content.{Took, Gained, Files, SameFiles}
+use Rattle.fish_outside.specs.Content.{Took, Gained, Files, IsAtEnd, SameFiles}
+use Rattle.fish_outside.specs.within.Reading.{ReadsUpTo}
 
 -- what was taken in two steps was taken in one
 pub Took_trans : (old mid new : Option (List ℕ)) (first second : List ℕ) →
@@ -55,3 +57,13 @@ pub SameFiles_told : (old new : Option Files) → SameFiles old new → IsSome n
 SameFiles_told old None a told = cc
 SameFiles_told None (Some files) a told = absurd cc
 SameFiles_told (Some before) (Some files) a told = refl
+
+-- all that there was is no more than was asked for
+pub reads_all : (old new : Option (List ℕ)) (bytes : List ℕ) (most : ℕ) → length bytes ≤ most → Took old new bytes → IsAtEnd new
+    → ReadsUpTo most old new bytes
+reads_all old None bytes most less took end = tt
+reads_all old (Some rest) bytes most less took end = (
+  bytes ++ rest,
+  took,
+  sym (ap (λ (z : List ℕ). take most (bytes ++ z)) end ∙ ap (take most) (append-nil bytes) ∙ take_all most bytes less),
+)

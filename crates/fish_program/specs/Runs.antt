@@ -6,7 +6,7 @@ use Rattle.fish_recover.specs.declared.opened.Opened.{Opened}
 use Rattle.fish_recover.specs.declared.refusal.Asked.{Asked}
 use Rattle.fish_rule.specs.declared.close.Remains.{Remains}
 use Rattle.fish_run.specs.Ran.{IsLost, IsStopped, IsWhole}
-use Rattle.fish_feed.specs.Reading.{ReadsFile}
+use Rattle.fish_outside.specs.Reading.{ReadsFile}
 use Rattle.fish_run.specs.declared.fault.RunFault.{RunFault}
 use Rattle.fish_run.specs.declared.fault.RunFault.TheVariants as ran
 use Rattle.fish_script.specs.Refusals.{IsRefusal, IsScript}

@@ -3,8 +3,7 @@
 use crate::expecting::{expect, expect_text};
 use crate::outside::{content_in, disk_of, host_of, sink_of, words_of};
 use fish_disk::MemoryDisk;
-use fish_feed::read_file;
-use fish_outside::{MemoryHost, MemorySink};
+use fish_outside::{MemoryHost, MemorySink, read_file};
 use fish_program::run;
 use fish_value::Text;
 use std::alloc::{AllocError, Global};

@@ -23,5 +23,6 @@ returns-clause-first g t c = λ texts given h.
     let q = c.in-Some.queue.now in
     let qs = c.in-Some.others.now in
     let all : c.args.queues.now ≡ q ∷ qs = search rules in
-    closed_all left old mid new c.close_one.ensures.content c.close.ensures.content q qs c.close_one.ensures.first c.close.ensures.first texts
+    closed_all left old mid new c.close_one.ensures.content c.close.ensures.content q qs c.close_one.ensures.first
+    c.close.ensures.first texts
     given (subst (λ (z : List (Queue g.row.H-Feed.Denot)). Triples (MayEnd old left) texts given z) all h)

@@ -1,17 +1,20 @@
-//! A file that is read up to so many bytes.
+//! A source, or a file, that is read up to so many bytes.
 
 ghost use Rattle.std.specs.Prelude.{◌≡◌, ◌+◌, ◌<◌, ◌≤◌, ◌^◌, ◌++◌, [], length, vec_len};
 ghost use Rattle.std.specs.Prelude.{IfOk, IfSome, IsErrOf};
 ghost use Rattle.fish_outside.specs.declared.fault.FeedRefusal.TheVariants as refusal;
 ghost use Rattle.fish_outside.specs.Content.{IsAtEnd, SameFiles, Took};
-ghost use Rattle.fish_feed.specs.Reading.{HasReadCause, ReadsFile, ReadsUpTo, TookAtMost};
+ghost use Rattle.fish_outside.specs.Reading.{HasReadCause, ReadsFile, TookAtMost};
+ghost use Rattle.fish_outside.specs.within.Reading.{ReadsUpTo};
 
-use fish_outside::{FeedRefusal, Host, Source};
+use crate::fault::FeedRefusal;
+use crate::host::Host;
+use crate::source::Source;
 use fish_value::{Bytes, Text};
 use std::alloc::{AllocError, Global};
 
 /// How many bytes one read asks for.
-pub(crate) const CHUNK: usize = 65_536;
+pub const CHUNK: usize = 65_536;
 
 /// The first bytes of the file with a name: all of them, if there are no more than so many, and else so many.
 pub fn read_file<H: Host>(
@@ -24,7 +27,6 @@ pub fn read_file<H: Host>(
     ensures file { IfOk result (λ bytes. IfSome (H.files host.new) (λ files. ReadsFile most name.now files bytes)) }
     ensures within { IfOk result (λ bytes. length bytes ≤ most) }
     ensures content { SameFiles (H.files host.old) (H.files host.new) }
-
     ensures cause { HasReadCause (H.faults host.old) (H.faults host.new) result }
 {
     let mut feed = host.feed(alloc, name)?;
@@ -39,7 +41,6 @@ fn read_up_to<S: Source>(alloc: Global, source: &mut S, most: usize) -> Result<B
     ensures first { IfOk result (λ bytes. ReadsUpTo most (S.left source.old) (S.left source.new) bytes) }
     ensures within { IfOk result (λ bytes. length bytes ≤ most) }
     ensures most { TookAtMost most (S.left source.old) (S.left source.new) }
-
     ensures cause { HasReadCause (S.faults source.old) (S.faults source.new) result }
 {
     let mut bytes = Bytes::new(alloc);
@@ -55,7 +56,7 @@ fn read_up_to<S: Source>(alloc: Global, source: &mut S, most: usize) -> Result<B
 }
 
 /// Reads into a buffer, and puts what came behind the bytes.
-pub(crate) fn read_more<S: Source>(
+pub fn read_more<S: Source>(
     source: &mut S,
     part: &mut [u8],
     bytes: &mut Bytes,
@@ -77,7 +78,7 @@ pub(crate) fn read_more<S: Source>(
 }
 
 /// So many zero bytes.
-pub(crate) fn zeros(alloc: Global, count: usize) -> Result<Vec<u8>, AllocError>
+pub fn zeros(alloc: Global, count: usize) -> Result<Vec<u8>, AllocError>
     ensures { IfOk result (λ bytes. vec_len bytes ≡ count) }
 {
     vec![in alloc; 0u8; count]

@@ -1,8 +1,8 @@
 -- What was taken from the source so far is what the bytes hold; each turn takes at least one more.
 use Rattle.std.proofs.Common.{◌≡◌, ◌-◌, ◌≤◌, length, vec_len}
 use Rattle.fish_outside.specs.Content.{Took}
-use Rattle.fish_feed.specs.declared.file.TheConstants.{CHUNK}
-use Rattle.fish_feed.proofs.file.read_up_to.Given as goal
+use Rattle.fish_outside.specs.declared.reading.TheConstants.{CHUNK}
+use Rattle.fish_outside.proofs.reading.read_up_to.Given as goal
 
 abbrev pub invariant-loop-bytes : goal.invariant-loop-bytes
 invariant-loop-bytes g l = record {

@@ -1,5 +1,5 @@
 -- What a read of a file up to so many bytes gives.
-use Rattle.std.specs.Prelude.{◌≡◌, ℕ, ◌≤◌, List, length, take, Option, Some, IfSome, Result, IsErrOf}
+use Rattle.std.specs.Prelude.{◌≡◌, ℕ, ◌≤◌, List, length, take, Option, Some, Result, IsErrOf}
 use Rattle.fish_outside.specs.Causes.{Rose}
 use Rattle.fish_outside.specs.Content.{Files, Took}
 use Rattle.fish_outside.specs.declared.fault.FeedRefusal.{FeedRefusal}
@@ -9,11 +9,7 @@ use Rattle.fish_outside.specs.declared.fault.FeedRefusal.TheVariants.{Failed}
 abbrev pub TookAtMost : ℕ → Option (List ℕ) → Option (List ℕ) → Type 0
 TookAtMost most old new = (bytes : List ℕ) × (length bytes ≤ most) × Took old new bytes
 
--- the bytes are the first so many of what was left
-abbrev pub ReadsUpTo : ℕ → Option (List ℕ) → Option (List ℕ) → List ℕ → Type 0
-ReadsUpTo most old new bytes = IfSome new (λ rest. (b : List ℕ) × (old ≡ Some b) × (bytes ≡ take most b))
-
--- they are those of the file with this name
+-- the bytes are the first so many of the file with this name
 abbrev pub ReadsFile : ℕ → List ℕ → Files → List ℕ → Type 0
 ReadsFile most name files bytes = (b : List ℕ) × (files name ≡ Some b) × (bytes ≡ take most b)
 

@@ -3,8 +3,8 @@ use Rattle.std.proofs.Common.{arith, ◌++◌, length-append, sym, subst}
 use Rattle.std.proofs.lemmas.Grind.{common_steps}
 use Rattle.fish_outside.proofs.ContentLemmas.{Took_trans}
 use Rattle.fish_outside.specs.Content.{Took}
-use Rattle.fish_feed.proofs.Lists.{reads_all}
-use Rattle.fish_feed.proofs.file.read_up_to.Goals as goal
+use Rattle.fish_outside.proofs.ContentLemmas.{reads_all}
+use Rattle.fish_outside.proofs.reading.read_up_to.Goals as goal
 
 pub returns-in_err-read_more-clause-most : goal.returns-in_err-read_more-clause-most
 returns-in_err-read_more-clause-most g c =
