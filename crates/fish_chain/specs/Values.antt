@@ -14,7 +14,7 @@ use Rattle.fish_rule.specs.ChainFacts.{Always, IsNodeIn}
 use Rattle.fish_rule.specs.World.{World, body, low}
 use Rattle.fish_rule.specs.declared.view.Found.{Found}
 use Rattle.fish_rule.specs.declared.view.Key.{Key}
-use Rattle.fish_rule.specs.declared.view.Kind.TheVariants.{Mark}
+use Rattle.fish_rule.specs.declared.view.Kind.TheVariants.{Mark, Stored}
 use Rattle.fish_rule.specs.declared.view.View.{View}
 use Rattle.fish_value.specs.declared.value.Value.{Value}
 
@@ -33,6 +33,10 @@ pub record HasValue (n c : ℕ) (value : Value) (k : Key) (w : World) : Type 0 w
 -- a walk gave the node: in every moment of a pass that knows as much it is an entry of its record
 abbrev pub IsGiven : View → Node → Type 0
 IsGiven v node = (bucket : ℕ) × Always v (IsNodeIn bucket node.number node.key node.place node.id)
+
+-- the pass found the region of the record with number n
+abbrev pub HasRecord : View → ℕ → Type 0
+HasRecord v n = (f : Found) × Among f v.learned.found × (f.number ≡ n) × (f.kind ≡ Stored)
 
 -- ---- on the way
 

@@ -1,7 +1,8 @@
 //! The value of a key entry, compared with one that is asked for by the stored words alone.
 
 ghost use Rattle.std.specs.Prelude.{◌≡◌, ◌↔◌, ◌+◌, ◌*◌, ◌<◌, ◌≤◌, ◌^◌, ℕ, IsTrue, length};
-ghost use Rattle.fish_chain.specs.Values.{AreBytesIn, AreBytesOf, HasBytes, HasValue, IsGiven, IsWordIn, SaysBytes};
+ghost use Rattle.fish_chain.specs.Values.{AreBytesIn, AreBytesOf, HasBytes, HasRecord, HasValue, IsGiven};
+ghost use Rattle.fish_chain.specs.Values.{IsWordIn, SaysBytes};
 ghost use Rattle.fish_rule.specs.Logs.{Extends};
 ghost use Rattle.fish_rule.specs.Passes.{IsPassOf, view};
 ghost use Rattle.fish_rule.specs.LoadSteps.{CanReadWord};
@@ -30,7 +31,8 @@ pub fn node_has<L: Ledger>(
     requires node { IsGiven (view pass.old) node.now }
     ensures pass { IsPassOf log.now pass.new }
     ensures extends { Extends (view pass.old) (view pass.new) }
-    ensures has { IsTrue result → Always (view pass.new) (HasValue node.now.number node.now.key value.now) }
+    ensures has { IsTrue result → HasRecord (view pass.new) node.now.number
+        × Always (view pass.new) (HasValue node.now.number node.now.key value.now) }
     ensures lacks { ¬ IsTrue result
         → Always (view pass.new) (λ k w. ¬ HasValue node.now.number node.now.key value.now k w) }
     ensures counted { loads.new + (view pass.old).clock.loads ≡ loads.old + (view pass.new).clock.loads }
@@ -61,8 +63,8 @@ fn has_bytes<L: Ledger>(
     requires node { IsGiven (view pass.old) node.now }
     ensures pass { IsPassOf log.now pass.new }
     ensures extends { Extends (view pass.old) (view pass.new) }
-    ensures has { IsTrue result
-        → Always (view pass.new) (SaysBytes node.now.number node.now.key kind bytes.now) }
+    ensures has { IsTrue result → HasRecord (view pass.new) node.now.number
+        × Always (view pass.new) (SaysBytes node.now.number node.now.key kind bytes.now) }
     ensures lacks { ¬ IsTrue result
         → Always (view pass.new) (λ k w. ¬ SaysBytes node.now.number node.now.key kind bytes.now k w) }
     ensures counted { loads.new + (view pass.old).clock.loads ≡ loads.old + (view pass.new).clock.loads }

@@ -127,7 +127,7 @@ impl Disk for SureDisk {
         ensures past { KeepsPast false (λ disk _ c. content_in disk ≡ Some c) (λ _. 0) self.old self.new }
         ensures cause { HasCause 0 0 result }
 
-        ensures content { content_in self.new
+        ensures fits { content_in self.new
             ≡ content_within (room_of self.old) (option_map (put_at at piece.now) (content_in self.old)) }
         ensures kept { kept_of self.new ≡ kept_with (room_of self.old) at piece.now (kept_of self.old) }
         ensures room { room_of self.new ≡ room_of self.old }

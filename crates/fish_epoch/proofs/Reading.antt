@@ -111,7 +111,8 @@ first_known v id less = record {
 -- ---- the words of a row
 
 -- one word more of the row is read
-pub words_more : (v u : View) (id position x : ℕ) (ws : List ℕ) → length ws ≡ 39 → position < 39 → u ≡ after_load_registry v (row_at id position) x
+pub words_more : (v u : View) (id position x : ℕ) (ws : List ℕ) → length ws ≡ 39 → position < 39
+    → u ≡ after_load_registry v (row_at id position) x
     → ((row : CatRow) → slice_get v.about.rows.value id ≡ Some row
     → Rattle.fish_catalog.specs.Words.IsWritable row × (x ≡ row_word row position))
     → HasRowWords v id position (slice_index ws) → HasRowWords u id (suc position) (slice_index (slice_set ws position x))

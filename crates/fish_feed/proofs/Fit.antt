@@ -1,9 +1,9 @@
 -- Works that a lane may do, and queues of them.
 use Rattle.std.proofs.Common.{◌≡◌, ◌≢◌, ◌⊎◌, ℕ, List, [], ◌∷◌, ◌++◌, append_assoc, inl, inr, refl, sym, ap, ◌∙◌, subst}
-use Rattle.std.proofs.Common.{Bool, true, false, Option, None, Some, ◌<◌, arith}
+use Rattle.std.proofs.Common.{Bool, true, false, Option, None, Some, ◌+◌, ◌<◌, arith}
 use Rattle.std.specs.Prelude.{Err, IfErr, IfOk, IsErr, Ok, Result, option_to_list}
 use Rattle.fish_feed.specs.Queues.{AreFit, AreFitTodos, IsFit, IsFitTodo, IsQueue, MayDo, MayDoAll, MayEnd}
-use Rattle.fish_feed.specs.Works.{AreAnew, AreAnewAfterFirst, AreDone, IsAnew, IsWorkOf}
+use Rattle.fish_feed.specs.Works.{AreAnew, AreAnewAfterFirst, AreDone, IsAnew, IsWorkOf, StoresNone, bytes_in, bytes_of}
 use Rattle.fish_feed.specs.declared.queue.Queue.{Queue}
 use Rattle.fish_feed.specs.declared.queue.Todo.{Todo}
 use Rattle.fish_lanes.specs.declared.work.Work.{Work}
@@ -24,19 +24,31 @@ pub may_push : (first : Bool) (ws : List Work) (w : Work) → MayDoAll first ws 
 may_push first [] w h one = (one, tt)
 may_push first (x ∷ ws) w h one = (h.0, may_push first ws w h.1 one)
 
--- what a statement without a file has a lane do is no part of a file
-pub work_anew : (s : Statement) (w : Work) → IsWorkOf s w → IsAnew w
-work_anew (does.Register name def) w h = λ form name file is.
-    absurd (let bad : work.Register _ h.0 ≡ work.Ingest form After name file = sym h.1 ∙ is in cc)
-work_anew (does.Deregister name) w h = λ form name file is.
-    absurd (let bad : work.Deregister _ ≡ work.Ingest form After name file = sym h ∙ is in cc)
-work_anew (does.Ingest form header file) w h = elim h [ ]
-work_anew (does.Scan name value from to way) w h = λ form name file is.
-    absurd (let bad : work.Scan _ ≡ work.Ingest form After name file = sym h ∙ is in cc)
-work_anew (does.Explain name value from to way) w h = λ form name file is.
-    absurd (let bad : work.Explain _ ≡ work.Ingest form After name file = sym h ∙ is in cc)
-work_anew does.Checkpoint w h = λ form name file is.
-    absurd (let bad : work.Checkpoint ≡ work.Ingest form After name file = sym h ∙ is in cc)
+-- what a statement without a file has a lane do stores no file
+pub work_stores : (s : Statement) (w : Work) → IsWorkOf s w → StoresNone w
+work_stores (does.Register name def) w h = λ form begin name file is.
+    absurd (let bad : work.Register _ h.0 ≡ work.Ingest form begin name file = sym h.1 ∙ is in cc)
+work_stores (does.Deregister name) w h = λ form begin name file is.
+    absurd (let bad : work.Deregister _ ≡ work.Ingest form begin name file = sym h ∙ is in cc)
+work_stores (does.Ingest form header file) w h = elim h [ ]
+work_stores (does.Scan name value from to way) w h = λ form begin name file is.
+    absurd (let bad : work.Scan _ ≡ work.Ingest form begin name file = sym h ∙ is in cc)
+work_stores (does.Explain name value from to way) w h = λ form begin name file is.
+    absurd (let bad : work.Explain _ ≡ work.Ingest form begin name file = sym h ∙ is in cc)
+work_stores does.Checkpoint w h = λ form begin name file is.
+    absurd (let bad : work.Checkpoint ≡ work.Ingest form begin name file = sym h ∙ is in cc)
+
+-- and is no part of a file
+pub stores_anew : (w : Work) → StoresNone w → IsAnew w
+stores_anew w h = λ form name file. h form After name file
+
+pub stores_bytes : (w : Work) → StoresNone w → bytes_in w ≡ 0
+stores_bytes (work.Register name def) h = refl
+stores_bytes (work.Deregister name) h = refl
+stores_bytes (work.Ingest form begin name file) h = absurd (h form begin name file refl)
+stores_bytes (work.Scan ask) h = refl
+stores_bytes (work.Explain ask) h = refl
+stores_bytes work.Checkpoint h = refl
 
 -- nor is what a file gives of which nothing was given
 pub first_anew : (form : Form) (begin : Begin) (name file : List ℕ) → begin ≢ After → IsAnew (work.Ingest form begin name file)
@@ -49,6 +61,11 @@ first_anew form begin name file before = λ form' name' file' is. before (ap beg
 pub anew_push : (ws : List Work) (w : Work) → AreAnew ws → IsAnew w → AreAnew (ws ++ w ∷ [])
 anew_push [] w h one = (one, tt)
 anew_push (x ∷ ws) w h one = (h.0, anew_push ws w h.1 one)
+
+-- the bytes of one more
+pub bytes_push : (ws : List Work) (w : Work) → bytes_of (ws ++ w ∷ []) ≡ bytes_of ws + bytes_in w
+bytes_push [] w = omega arith
+bytes_push (x ∷ ws) w = (let more = bytes_push ws w in omega (more, arith))
 
 -- one more, where there was none or it begins anew
 pub anew_more : (ws : List Work) (w : Work) → AreAnewAfterFirst ws → (ws ≡ []) ⊎ IsAnew w → AreAnewAfterFirst (ws ++ w ∷ [])

@@ -7,7 +7,8 @@ use Rattle.fish_feed.proofs.Queues.{dones_later, queue_end, queue_later, queue_n
 use Rattle.fish_feed.specs.Queues.{AreIdle, GoesDown, HasQueue, IsGiven, IsQueue, LanesMayDo, MayDoAll, MayEnd, both}
 use Rattle.fish_feed.specs.Queues.{current_left, left_of, left_of_all, todos_left, works_of}
 use Rattle.fish_outside.specs.Reading.{HasReadCause}
-use Rattle.fish_feed.specs.Works.{AreAnewAfterFirst, AreDone, AreFirstOf, Pairs, Triples}
+use Rattle.fish_feed.specs.Parts.{longest_given}
+use Rattle.fish_feed.specs.Works.{AreAnewAfterFirst, AreDone, AreFirstOf, Pairs, Triples, bytes_of}
 use Rattle.fish_feed.specs.declared.part.OpenFile.{OpenFile}
 use Rattle.fish_feed.specs.declared.queue.Queue.{Queue}
 use Rattle.fish_feed.specs.declared.queue.Todo.{Todo}
@@ -213,7 +214,15 @@ lane_with x y ws is = ap (λ (z : Lane). record z { works = ws }) is
 
 pub idle_given : (lanes : List Lane) → AreIdle lanes → Pairs IsGiven lanes lanes
 idle_given [] h = tt
-idle_given (x ∷ lanes) h = (record { none = h.0; is = refl; one = subst AreAnewAfterFirst (sym h.0) tt }, idle_given lanes h.1)
+idle_given (x ∷ lanes) h = (
+  record {
+    none = h.0;
+    is = refl;
+    one = subst AreAnewAfterFirst (sym h.0) tt;
+    few = subst (λ (ws : List Work). bytes_of ws ≤ longest_given) (sym h.0) (omega arith);
+  },
+  idle_given lanes h.1,
+)
 
 pub idle_may : (first : Bool) (lanes : List Lane) → AreIdle lanes → LanesMayDo first lanes
 idle_may first [] h = tt

@@ -23,6 +23,10 @@ take_front (suc n) [] ys is = absurd cc
 take_front zero (x ∷ xs) ys is = absurd cc
 take_front {A = A} (suc n) (x ∷ xs) ys is = ap (λ (zs : List A). x ∷ zs) (take_front n xs ys (omega (is, arith)))
 
+-- what was cut off is no longer than the whole
+pub cut_short : (n : ℕ) (part rest : List ℕ) → n ≡ length (part ++ rest) → n ≤ longest_read → length part ≤ longest_read
+cut_short n part rest is short = (let all = length-append part rest in omega (all, is, short, arith))
+
 -- and one of which lines were cut off
 pub can_cut : {F : Type 0} (faults : F → ℕ) (o u : OpenFile F) (w : Work) → CanRead faults o → IsCutOff o u w → CanRead faults u
 can_cut faults o u w can c = record {
@@ -110,6 +114,7 @@ module _ {F : Type 0} (left : F → Option (List ℕ)) where
 
   pub gives_later : (o m u : OpenFile F) (p : Part) → HasRead left o m → GivesPart left m p u → GivesPart left o p u
   gives_later o m u p h g = record {
+    few = g.few;
     one = λ is. part_later o m u p.work h (g.one is);
     rest = λ is. rest_later o m u p.work h (g.rest is);
   }

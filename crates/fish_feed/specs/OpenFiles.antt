@@ -3,6 +3,7 @@
 use Rattle.std.specs.Prelude.{ℕ, ◌≡◌, ◌≢◌, ◌+◌, ◌<◌, ◌≤◌, ◌⊎◌, List, [], ◌++◌, true, false}
 use Rattle.std.specs.Prelude.{Option, Some, IfSome, length, take}
 use Rattle.fish_feed.specs.Parts.{EndsLine, HasNoEnd, longest_in_parts, longest_read}
+use Rattle.fish_feed.specs.Works.{bytes_in}
 use Rattle.fish_feed.specs.declared.part.OpenFile.{OpenFile}
 use Rattle.fish_feed.specs.declared.part.Part.{Part}
 use Rattle.fish_lanes.specs.declared.work.Work.{Work}
@@ -91,7 +92,9 @@ pub record IsRestOf {F : Type 0} (left : F → Option (List ℕ)) (o : OpenFile 
   pub all : IfSome (left u.feed) (λ _. (l : List ℕ) × (left o.feed ≡ Some l)
       × (bytes ≡ take longest_read (o.rest ++ l)))
 
+-- few bytes of it were given: a part, or the rest
 pub record GivesPart {F : Type 0} (left : F → Option (List ℕ)) (o : OpenFile F) (p : Part) (u : OpenFile F)
     : Type 0 where
+  pub few : bytes_in p.work ≤ longest_read
   pub one : p.last ≡ false → IsPartOf left o p.work u
   pub rest : p.last ≡ true → IsRestOf left o p.work u

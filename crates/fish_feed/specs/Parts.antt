@@ -12,6 +12,10 @@ use Rattle.fish_value.specs.declared.field.Form.TheVariants.{Csv, Json}
 abbrev pub longest_read : ℕ
 longest_read = 67108865
 
+-- how many bytes of files a lane is given at once at most: fewer than 1,048,576, and then what is given at once of one
+abbrev pub longest_given : ℕ
+longest_given = 68157440
+
 -- how many bytes of a file in JSON are given in parts at most
 abbrev pub longest_in_parts : ℕ
 longest_in_parts = 68719476736

@@ -1,11 +1,10 @@
 -- What a lane is still to be given, and what a step of that leaves. Feeds are of a type F; left says which bytes one
 -- still gives, and faults how often it failed.
 use Rattle.std.specs.Prelude.{ℕ, ◌≡◌, ◌+◌, ◌<◌, ◌≤◌, ◌⊎◌, List, [], ◌∷◌, ◌++◌, Bool, true, false}
-use Rattle.std.specs.Prelude.{Option, None, Some, IfSome, IsSome}
-use Rattle.std.specs.Prelude.{length, map, slice_get, ⊤, ◌≢◌}
+use Rattle.std.specs.Prelude.{Option, None, Some, IfSome, IsSome, length, map, slice_get, ⊤, ◌≢◌}
 use Rattle.fish_feed.specs.OpenFiles.{CanRead, IsBegun}
-use Rattle.fish_feed.specs.Parts.{AreParts, begin_after, longest_in_parts}
-use Rattle.fish_feed.specs.Works.{AreAnewAfterFirst, AreDone, IsAnew, IsWorkOf, Pairs}
+use Rattle.fish_feed.specs.Parts.{AreParts, begin_after, longest_given, longest_in_parts}
+use Rattle.fish_feed.specs.Works.{AreAnewAfterFirst, AreDone, IsWorkOf, Pairs, StoresNone, bytes_of}
 use Rattle.fish_feed.specs.declared.part.OpenFile.{OpenFile}
 use Rattle.fish_feed.specs.declared.queue.Queue.{Queue}
 use Rattle.fish_feed.specs.declared.queue.Todo.{Todo}
@@ -98,7 +97,7 @@ MayDo true w = IsAcceptable w
 MayDo false w = IsShared w
 
 abbrev pub IsFitTodo : {F : Type 0} → (F → ℕ) → Bool → Todo F → Type 0
-IsFitTodo faults first (todo.Work w) = MayDo first w × IsAnew w
+IsFitTodo faults first (todo.Work w) = MayDo first w × StoresNone w
 IsFitTodo faults first (todo.File o) = CanRead faults o × (IsBegun o → ⊥)
 
 abbrev pub AreFitTodos : {F : Type 0} → (F → ℕ) → Bool → List (Todo F) → Type 0
@@ -135,11 +134,12 @@ both [] ys = []
 both (x ∷ xs) [] = []
 both (x ∷ xs) (y ∷ ys) = (x ++ y) ∷ both xs ys
 
--- a lane had no statement, and got some, of which the first alone may be a later part of a file
+-- a lane had no statement, and got some with few bytes of files, of which the first alone may be a later part of one
 pub record IsGiven (x y : Lane) : Type 0 where
   pub none : x.works ≡ []
   pub is : y ≡ record x { works = y.works }
   pub one : AreAnewAfterFirst y.works
+  pub few : bytes_of y.works ≤ longest_given
 
 -- no lane has a statement
 abbrev pub AreIdle : List Lane → Type 0

@@ -1,10 +1,11 @@
 -- What the statements of a script have a lane do, over files that are told.
-use Rattle.std.specs.Prelude.{ℕ, ◌≡◌, ◌≢◌, List, [], ◌∷◌, ◌++◌, Option, Some, IfSome, ⊤}
+use Rattle.std.specs.Prelude.{ℕ, ◌≡◌, ◌≢◌, ◌+◌, List, [], ◌∷◌, ◌++◌, length, Option, Some, IfSome, ⊤}
 use Rattle.fish_feed.specs.Parts.{IsRead}
 use Rattle.fish_lang.specs.Definition.{definition_of}
 use Rattle.fish_lang.specs.declared.definition.Def.{Def}
 use Rattle.fish_lanes.specs.declared.work.Work.{Work}
 use Rattle.fish_lanes.specs.declared.work.Work.TheVariants as work
+use Rattle.fish_lines.specs.declared.resuming.Begin.{Begin}
 use Rattle.fish_lines.specs.declared.resuming.Begin.TheVariants.{After, Start}
 use Rattle.fish_outside.specs.Content.{Files}
 use Rattle.fish_scan.specs.declared.ask.Ask.{Ask}
@@ -70,6 +71,19 @@ abbrev pub AreFirstOf : Option Files → List Statement → List Work → Type 0
 AreFirstOf told ss ws = (more : List Work) × AreDone told ss (ws ++ more)
 
 -- ---- works that are given at once
+
+-- the work stores no file
+abbrev pub StoresNone : Work → Type 0
+StoresNone w = (form : Form) (begin : Begin) (name file : List ℕ) → w ≢ work.Ingest form begin name file
+
+-- how many bytes of a file it stores, and works do
+abbrev pub bytes_in : Work → ℕ
+bytes_in (work.Ingest form begin name file) = length file
+bytes_in w = 0
+
+abbrev pub bytes_of : List Work → ℕ
+bytes_of [] = 0
+bytes_of (w ∷ ws) = bytes_in w + bytes_of ws
 
 -- the work is no later part of a file
 abbrev pub IsAnew : Work → Type 0

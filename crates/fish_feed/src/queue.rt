@@ -9,7 +9,7 @@ ghost use Rattle.fish_feed.specs.Queues.{AreFit, AreIdle, GoesDown, IsFit, IsGiv
 ghost use Rattle.fish_feed.specs.Queues.{MayDo, MayDoAll, MayEnd};
 ghost use Rattle.fish_feed.specs.Queues.{both, left_of, left_of_all, works_of};
 ghost use Rattle.fish_outside.specs.Reading.{HasReadCause};
-ghost use Rattle.fish_feed.specs.Works.{AreAnew, AreDone, AreFirstOf, IsAnew, Pairs, Triples};
+ghost use Rattle.fish_feed.specs.Works.{AreAnew, AreDone, AreFirstOf, IsAnew, Pairs, StoresNone, Triples, bytes_in};
 ghost use Rattle.fish_lanes.specs.declared.work.Work.{Work as Does};
 ghost use Rattle.fish_outside.specs.Content.{Files, SameFiles};
 ghost use Rattle.fish_script.specs.declared.script.Statement.{Statement};
@@ -120,6 +120,7 @@ where
 fn room_after(most: usize, work: &Work, is_part: bool) -> usize
     ensures less { result ≤ most }
     ensures part { is_part ≡ true → result ≡ 0 }
+    ensures used { 0 < result → result + bytes_in work.now ≤ most }
 {
     if is_part {
         return 0;
@@ -150,7 +151,8 @@ where
     ensures fit { (first : Bool) → IsFit H.Feed.faults first queue.old → IsFit H.Feed.faults first queue.new
         × IfOk result (λ w. MayDoAll first (option_to_list w)
         × (queue.old.current ≡ None → AreAnew (option_to_list w))) }
-    ensures some { IfOk result (λ w. IfSome w (λ _. left_of queue.new < left_of queue.old)) }
+    ensures some { IfOk result (λ w. IfSome w (λ x. (bytes_in x ≤ longest_read)
+        × (left_of queue.new < left_of queue.old))) }
     ensures none { IfOk result (λ w. w ≡ None → (left_of queue.old ≡ 0) × (left_of queue.new ≡ 0)) }
     ensures content { SameFiles (H.files host.old) (H.files host.new) }
     ensures cause { HasReadCause (H.faults host.old) (H.faults host.new) result }
@@ -169,7 +171,7 @@ fn open_next<F: Source + Drop>(queue: &mut Queue<F>) -> Option<Work>
     ensures queue { (told : Option Files) (ss : List Statement) (given : List Does)
         → IsQueue told F.left ss given queue.old → IsQueue told F.left ss (given ++ option_to_list result) queue.new }
     ensures fit { (first : Bool) → IsFit F.faults first queue.old
-        → IsFit F.faults first queue.new × MayDoAll first (option_to_list result) × AreAnew (option_to_list result)
+        → IsFit F.faults first queue.new × MayDoAll first (option_to_list result) × IfSome result StoresNone
         × (queue.old.current ≡ None → IfSome queue.new.current (λ o. IsBegun o → ⊥)) }
     ensures some { IfSome result (λ _. left_of queue.new < left_of queue.old) }
     ensures down { left_of queue.new ≤ left_of queue.old }
@@ -210,7 +212,7 @@ where
     ensures fit { (first : Bool) → IsFit H.Feed.faults first queue.old → IsFit H.Feed.faults first queue.new }
     ensures work { IfOk result (λ w. ((first : Bool) → MayDo first w)
         × (IfSome queue.old.current (λ o. IsBegun o → ⊥) → IsAnew w)) }
-    ensures less { IfOk result (λ _. left_of queue.new < left_of queue.old) }
+    ensures less { IfOk result (λ w. (bytes_in w ≤ longest_read) × (left_of queue.new < left_of queue.old)) }
     ensures content { SameFiles (H.files host.old) (H.files host.new) }
     ensures cause { HasReadCause (H.faults host.old) (H.faults host.new) result }
 {

@@ -161,12 +161,11 @@ pub compared : (v u : View) (old new : ℕ) → new + v.clock.loads ≡ old + u.
 compared v u old new same few = record { counted = omega arith; own = omega arith }
 
 -- and behind that its record was read
-pub compared_read : (v m u t : View) (n old mid new : ℕ) → mid + v.clock.loads ≡ old + m.clock.loads → mid ≤ old + 35
-    → u.clock.loads ≡ m.clock.loads → HasFound u n Stored → Learns u t → CountsLoads u t n mid new
-    → (f : Found) × IsRecordAt t n f × RisesBy v t old new (36 + f.lines * 4)
-compared_read v m u t n old mid new same few still (f, among, number_is, kind) learns counts =
-    let at : IsRecordAt u n f = record { among = among; number_is = number_is; kind = kind } in
-    let read = record_loads u t n f mid new at counts in
+pub compared_read : (v m t : View) (n old mid new : ℕ) → mid + v.clock.loads ≡ old + m.clock.loads → mid ≤ old + 35
+    → HasFound m n Stored → Learns m t → CountsLoads m t n mid new → (f : Found) × IsRecordAt t n f × RisesBy v t old new (36 + f.lines * 4)
+compared_read v m t n old mid new same few (f, among, number_is, kind) learns counts =
+    let at : IsRecordAt m n f = record { among = among; number_is = number_is; kind = kind } in
+    let read = record_loads m t n f mid new at counts in
     let a = read.counted in
     let b = read.own in
-    (f, record_later u t n f learns at, record { counted = omega arith; own = omega arith })
+    (f, record_later m t n f learns at, record { counted = omega arith; own = omega arith })

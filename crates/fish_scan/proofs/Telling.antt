@@ -162,13 +162,3 @@ stored_told u n s tells stored =
 -- so it is of the record of an entry that a walk gave
 pub given_stored : (v : View) (node : Node) → IsGiven v node → Always v (λ k w. high (w.dir node.number) ≡ code Stored)
 given_stored v node given x learns w r seat at = (given.1 x learns w r seat at).entry.stored
-
--- so a look finds the record of an entry that a walk gave
-pub entry_found : (v m u : View) (node : Node) (r : Look) (lines word : ℕ) → u ≡ after_look_at m node.number lines word
-    → Learns v m → node.number < v.learned.settled → IsGiven v node → Stands u → IsLookAt u node.number r
-    → (node.number < m.learned.settled → IsEntryLook r) → HasFound u node.number Stored
-entry_found v m u node r lines word seen learns settled given stands found entry_look =
-    let on = looked m u node.number lines word seen in
-    let up = learns.settled in
-    settled_stored u node.number r stands found (entry_look (omega arith))
-    (given_stored u node (given_later v u node (learns_both v m u learns on.learns) given))

@@ -18,7 +18,7 @@ use fish_plan::Stretch;
 use fish_psf::Steps;
 use fish_rule::{Log, Pass, buckets, keep_walk, kept_walk};
 use fish_value::{Row, Rows, Text};
-use fish_walk::{look, read_entry};
+use fish_walk::read_entry;
 use std::alloc::{AllocError, Global};
 use std::sync::ledger::Ledger;
 
@@ -116,7 +116,6 @@ fn payload_with<L: Ledger>(
     if !node_has(log, pass, node, &query.value, loads) {
         return Ok(None);
     }
-    look(log, pass, node.number);
     match read_entry(alloc, log, pass, node.number, loads)? {
         Entry::Stored { payload, .. } => Ok(Some(payload)),
         Entry::Void => unreachable!(),

@@ -93,11 +93,17 @@ returns-clause-has g c are =
     let last = c.are_bytes.ensures.extends.learns in
     let third = subst (λ (z : ℕ). Always s (IsWordIn node.number (3 * z + 3) c.load-third.result))
     c.from-2.ensures c.load-third.ensures.word in
-    says_same t node.number node.key c.load-header.result c.load-third.result c.args.kind c.args.bytes.now
-    (always_later s t _ last (always_later _ s _ on c.load-header.ensures.word)) (always_later s t _ last third)
-    (sym c.kind_in.ensures ∙ c.if-kind_in-kind.false) (sym c.size_in.ensures.value ∙ c.if-size_in-bytes.false)
-    (subst (λ (z : ℕ × ℕ). Always t (AreBytesIn node.number (24 * z.0 + 8 + z.1) c.args.bytes.now (length c.args.bytes.now)))
-    (λ i. ((c.from-3.ensures ∙ c.keys_in.ensures.value) i, c.offset_in.ensures.value i)) (c.are_bytes.ensures.are are))
+    let look = c.look_at.ensures.view in
+    let h = headed_on (view c.args.pass.now) (view c.look_at.new.pass) (view c.load-header.new.pass) s node c.from.result
+    look.0 c.look_at.result c.line_of_word-line.result c.load-header.result c.requires.node c.from.ensures look.1
+    c.look_at.ensures.sees c.line_of_word-line.ensures c.load-header.ensures.extends.learns c.load-header.ensures.known on in (
+      (h.found, last.found h.found h.among, h.number, h.is),
+      says_same t node.number node.key c.load-header.result c.load-third.result c.args.kind c.args.bytes.now
+          (always_later s t _ last (always_later _ s _ on c.load-header.ensures.word)) (always_later s t _ last third)
+          (sym c.kind_in.ensures ∙ c.if-kind_in-kind.false) (sym c.size_in.ensures.value ∙ c.if-size_in-bytes.false)
+          (subst (λ (z : ℕ × ℕ). Always t (AreBytesIn node.number (24 * z.0 + 8 + z.1) c.args.bytes.now (length c.args.bytes.now)))
+          (λ i. ((c.from-3.ensures ∙ c.keys_in.ensures.value) i, c.offset_in.ensures.value i)) (c.are_bytes.ensures.are are)),
+    )
 
 pub returns-clause-lacks : goal.returns-clause-lacks
 returns-clause-lacks g c other =

@@ -3,7 +3,8 @@ use Rattle.std.proofs.Common.{◌==◌, length, inl, inr, sym, ap, ◌∙◌, ar
 use Rattle.csv.specs.Records.{fields_of}
 use Rattle.fish_csv.proofs.Written.{field-below, fields-more, written-blank, written-whole}
 use Rattle.fish_csv.proofs.write.write_row.Goals as goal
-use Rattle.fish_csv.proofs.write.write_row.Goals.{else-position-lt2-via-then-position-lt2+else-is_empty, else-position-lt2-via-else-position-lt2}
+use Rattle.fish_csv.proofs.write.write_row.Goals.{else-position-lt2-via-then-position-lt2+else-is_empty}
+use Rattle.fish_csv.proofs.write.write_row.Goals.{else-position-lt2-via-else-position-lt2}
 
 pub loop-field-smaller : goal.loop-field-smaller
 loop-field-smaller c = let below =

@@ -1,12 +1,13 @@
 -- One statement more.
-use Rattle.std.proofs.Common.{◌≡◌, ◌<◌, ◌++◌, ◌∷◌, ◌∙◌, [], List, None, Option}
+use Rattle.std.proofs.Common.{◌≡◌, ◌<◌, ◌≤◌, ◌++◌, ◌∷◌, ◌∙◌, [], List, None, Option}
 use Rattle.std.proofs.Common.{Some, append-nil, ap, arith, inl, inr, refl, subst, sym, ⊎_elim}
 use Rattle.std.specs.Prelude.{IfSome, is_some, option_to_list}
-use Rattle.fish_feed.proofs.Fit.{anew_more, first_or_anew, given_more, may_front, may_push, may_queue, none_or_full}
+use Rattle.fish_feed.proofs.Fit.{anew_more, bytes_push, first_or_anew, given_more, may_front, may_push, may_queue, none_or_full}
 use Rattle.fish_feed.proofs.Giving.{lane_with}
 use Rattle.fish_feed.proofs.Told.{still_self}
 use Rattle.fish_feed.specs.Queues.{IsQueue, MayDo, MayDoAll, left_of}
-use Rattle.fish_feed.specs.Works.{AreAnew, AreAnewAfterFirst, IsAnew}
+use Rattle.fish_feed.specs.Parts.{longest_read}
+use Rattle.fish_feed.specs.Works.{AreAnew, AreAnewAfterFirst, IsAnew, bytes_in, bytes_of}
 use Rattle.fish_lanes.specs.declared.work.Work.{Work}
 use Rattle.fish_outside.proofs.ContentLemmas.{SameFiles_trans}
 use Rattle.fish_feed.proofs.queue.give_one.Goals as goal
@@ -19,6 +20,8 @@ loop-most-init g c = record {
   lane = refl;
   fit = λ first h. (h, subst (MayDoAll first) (sym c.requires.empty) tt);
   one = subst AreAnewAfterFirst (sym c.requires.empty) tt;
+  room = λ some. (let none = ap bytes_of c.requires.empty in omega (none, arith));
+  few = (let none = ap bytes_of c.requires.empty in omega (none, arith));
   last = inl c.requires.empty;
   down = omega arith;
   falls = inl refl;
@@ -52,8 +55,12 @@ loop-most-preserved g c =
     let q = c.next.new.queue in
     let is : c.in-Ok-Some.field-0 ≡ Some w = c.in-Ok-Some.field-0-is in
     let pushed : c.push.new.self ≡ works ++ w ∷ [] = c.in-Ok.ensures.ok in
-    let less : left_of q < left_of c.loop-most.queue =
-    subst (λ (z : Option Work). IfSome z (λ _. left_of q < left_of c.loop-most.queue)) is c.in-Ok-Some.ensures.some in
+    let took : (bytes_in w ≤ longest_read) × (left_of q < left_of c.loop-most.queue) =
+    subst (λ (z : Option Work). IfSome z (λ x. (bytes_in x ≤ longest_read) × (left_of q < left_of c.loop-most.queue))) is
+    c.in-Ok-Some.ensures.some in
+    let less = took.1 in
+    let size = took.0 in
+    let sum = ap bytes_of pushed ∙ bytes_push works w in
     let down = inv.down in
     let sub = c.room_after-most.ensures.less in
     let test = c.loop-most-test.true in
@@ -76,6 +83,11 @@ loop-most-preserved g c =
           (one.0, subst (MayDoAll first) (sym pushed) (may_push first works w before.1 may));
       one = subst AreAnewAfterFirst (sym pushed)
           (anew_more works w inv.one (first_or_anew c.loop-most.most works c.loop-most.queue.current (IsAnew w) test anew inv.last));
+      room = λ some.
+          let used = c.room_after-most.ensures.used some in
+          let room = inv.room test in
+          omega (sum, used, room, arith);
+      few = (let room = inv.room test in omega (sum, size, room, test, arith));
       last = inr (none_or_full q.current c.room_after-most.result (λ o open_is. c.room_after-most.ensures.part
           (c.is_some.ensures ∙ ap (λ (z : Option _). is_some z) open_is)));
       down = omega (less, down, arith);

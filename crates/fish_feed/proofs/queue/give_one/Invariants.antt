@@ -1,7 +1,8 @@
 -- The lane has what was given so far, and the queue the rest.
-use Rattle.std.proofs.Common.{◌≡◌, ◌<◌, ◌≤◌, ◌⊎◌, ◌++◌, [], List, Bool, None}
+use Rattle.std.proofs.Common.{◌≡◌, ◌+◌, ◌<◌, ◌≤◌, ◌⊎◌, ◌++◌, [], List, Bool, None}
 use Rattle.fish_feed.specs.Queues.{IsFit, IsQueue, MayDoAll, left_of}
-use Rattle.fish_feed.specs.Works.{AreAnewAfterFirst}
+use Rattle.fish_feed.specs.Parts.{longest_given}
+use Rattle.fish_feed.specs.Works.{AreAnewAfterFirst, bytes_of}
 use Rattle.fish_lanes.specs.declared.work.Work.{Work}
 use Rattle.fish_outside.specs.Content.{SameFiles}
 use Rattle.fish_script.specs.declared.script.Statement.{Statement}
@@ -16,6 +17,8 @@ invariant-loop-most g l = record {
   fit : (first : Bool) → IsFit g.H.Feed.Source.faults first l.fn.queue
       → IsFit g.H.Feed.Source.faults first l.queue × MayDoAll first l.lane.works;
   one : AreAnewAfterFirst l.lane.works;
+  room : 0 < l.most → bytes_of l.lane.works + l.most ≤ 1048576;
+  few : bytes_of l.lane.works ≤ longest_given;
   last : (l.lane.works ≡ []) ⊎ ((l.most ≡ 0) ⊎ (l.queue.current ≡ None));
   down : left_of l.queue ≤ left_of l.fn.queue;
   falls : (l.most ≡ 1048576) ⊎ (left_of l.queue < left_of l.fn.queue);

@@ -1,9 +1,9 @@
 -- The next statement, or what the file gives that is being read.
-use Rattle.std.proofs.Common.{rules, ◌≡◌, ◌++◌, ◌∙◌, List, None, append-nil, ap, subst}
-use Rattle.std.specs.Prelude.{Option, Some, option_to_list}
-use Rattle.fish_feed.proofs.Fit.{if_err, if_ok}
-use Rattle.fish_feed.specs.Queues.{IsQueue, MayDoAll, MayEnd}
-use Rattle.fish_feed.specs.Works.{AreAnew}
+use Rattle.std.proofs.Common.{rules, ◌≡◌, ◌<◌, ◌++◌, ◌∙◌, List, None, append-nil, ap, arith, subst}
+use Rattle.std.specs.Prelude.{IfSome, Option, Some, option_to_list}
+use Rattle.fish_feed.proofs.Fit.{if_err, if_ok, stores_anew, stores_bytes}
+use Rattle.fish_feed.specs.Queues.{IsQueue, MayDoAll, MayEnd, left_of}
+use Rattle.fish_feed.specs.Works.{AreAnew, StoresNone}
 use Rattle.fish_lanes.specs.declared.work.Work.{Work}
 use Rattle.fish_script.specs.declared.script.Statement.{Statement}
 use Rattle.fish_feed.proofs.queue.next.Goals as goal
@@ -37,9 +37,25 @@ returns-in-Some-clause-fit g c = λ first h.
       opened.0,
       (
         subst (λ (z : Option Work). MayDoAll first (option_to_list z)) is opened.1,
-        λ none. subst (λ (z : Option Work). AreAnew (option_to_list z)) is opened.2,
+        λ none. (stores_anew c.in-Some.work (subst (λ (z : Option Work). IfSome z StoresNone) is opened.2), tt),
       ),
     )
+
+pub returns-in-Some-clause-some : goal.returns-in-Some-clause-some
+returns-in-Some-clause-some g c =
+    let w = c.in-Some.work in
+    let is : c.open_next.result ≡ Some w = search rules in
+    let none = stores_bytes w (subst (λ (z : Option Work). IfSome z StoresNone) is
+    (c.open_next.ensures.fit c.requires.fit.0 c.requires.fit.1).2) in (
+      omega (none, arith),
+      subst (λ (z : Option Work). IfSome z (λ _. left_of c.open_next.new.queue < left_of c.args.queue.now)) is c.open_next.ensures.some,
+    )
+
+pub returns-clause-some : goal.returns-clause-some
+returns-clause-some g c =
+    let less = c.in_ok-read_open.ensures.less in
+    let down = c.open_next.ensures.down in
+    (less.0, (let one = less.1 in omega (one, down, arith)))
 
 pub returns-then-is_none-clause-fit : goal.returns-then-is_none-clause-fit
 returns-then-is_none-clause-fit g c = λ first h. ((c.open_next.ensures.fit first h).0, (tt, λ none. tt))
