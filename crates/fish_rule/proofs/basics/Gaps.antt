@@ -102,4 +102,4 @@ module _ {k : Key} {w : World} (r : Rule k w) where
       let says = spelled_key h.entry key.0 spells counts key.1 in
       let word = second_word b p h s in
       labelled b p end known h s (ap entry_number (sym word) ∙ says.number ∙ s.record_of.1.number_is)
-      (ap entry_place (sym word) ∙ says.place) word
+      (ap entry_place (sym word) ∙ says.position) word
