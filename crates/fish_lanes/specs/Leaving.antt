@@ -60,7 +60,7 @@ pub record LeavesLanes (Past : Whole → Type 0) (low high : ℕ) (v u : View) (
 -- the first lane tells; a lane alone tells of all; plans have the rows that lanes know
 pub record ItemsHold
     (Past : Whole → Type 0) (v u : View) (r t : Registrar) (old new : List Lane) (end : BlockEnd) : Type 0 where
-  pub told : (past : Whole) → Past past → (s : Span) → IsBlockSpan v u end.to s → s.lanes ≡ length old
+  pub sound : (past : Whole) → Past past → (s : Span) → IsBlockSpan v u end.to s → s.lanes ≡ length old
       → (s.from ≤ s.to) × Will past u (λ w. SaysBlock w s new)
   pub registered : (x : Lane) → slice_get new 0 ≡ Some x → HasRegistered v u r t x end
   pub alone : SaysAlone Past v u r new

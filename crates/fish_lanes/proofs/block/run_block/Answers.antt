@@ -94,9 +94,9 @@ returns-clause-items g c =
     let others = c.run_lanes.new.others in
     let again = lanes_again c.split_at_mut-first.result.0.now c.args.lanes.now first others c.requires.lanes front in
     record {
-      told = λ past behind k span many.
+      sound = λ past behind k span many.
           subst (λ (z : List Lane). (k.from ≤ k.to) × Will past u (λ w. SaysBlock w k z)) again
-          (e.told past behind k span
+          (e.sound past behind k span
           (many ∙ subst (λ (z : List Lane). length c.args.lanes.now ≡ length z + 1) (sym c.split_at_mut-first.ensures.back)
           (others_many c.args.lanes.now c.requires.lanes)));
       registered = λ x at.

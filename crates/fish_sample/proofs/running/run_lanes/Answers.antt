@@ -29,7 +29,7 @@ returns g c =
       kept = kept_works lanes whole c.args.lanes.now e.lanes.kept;
       many = many;
       ended = all_ended lanes whole e.lanes.ended;
-      told = λ past sound. e.items.told past (record { sound = sound; told = c.requires.content b.new.disk })
+      told = λ past sound. e.items.sound past (record { sound = sound; told = c.requires.content b.new.disk })
           (span_of (view s.pass) (view t.pass) c.args.from b.result.to (length lanes)) span many;
       so = λ x at. (e.items.registered x at).so (span_of (view s.pass) (view t.pass) c.args.from b.result.to (length lanes)) span;
       registry = registry_is lanes whole disk.content disk.images c.args.disk.now s b.new.disk t c.args.lanes.now c.args.from b.result
