@@ -12,8 +12,9 @@ ghost use Rattle.fish_script.specs.Script.{AreFree, is_control};
 
 use crate::part::open_file;
 use crate::queue::{Queue, Todo};
+use fish_catalog::parse_canonical;
 use fish_lanes::Work;
-use fish_lang::{Def, parse_def, print_def};
+use fish_lang::{Def, print_def};
 use fish_lines::Begin;
 use fish_outside::{FeedRefusal, Host};
 use fish_scan::{Ask, How};
@@ -200,9 +201,5 @@ fn copy_def(alloc: Global, def: &Def) -> Result<Def, AllocError>
     ensures { IfOk result (λ copy. definition_of copy ≡ definition_of def.now) }
 {
     let text = print_def(alloc, def)?;
-    match parse_def(alloc, text.as_bytes()) {
-        Ok(copy) => Ok(copy),
-        // A canonical text is read as its definition, so only memory can have run out.
-        Err(_) => Err(AllocError),
-    }
+    parse_canonical(alloc, text.as_bytes())
 }
