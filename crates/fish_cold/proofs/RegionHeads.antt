@@ -117,7 +117,7 @@ node_says words i line p j k h =
     let same = ap value_size third in
     record {
       number = ap entry_number (sym second) ∙ says.number;
-      place = ap entry_place (sym second) ∙ says.place;
+      place = ap entry_place (sym second) ∙ says.position;
       size = omega arith;
     }
 
