@@ -8,6 +8,7 @@ ghost use Rattle.fish_rule.specs.Passes.{IsPassOf, view};
 ghost use Rattle.fish_rule.specs.Registry.{KnowsDefinitions, KnowsRow};
 
 use fish_catalog::{Listed, ROW_WORDS, active_in, read_row};
+use fish_layout::{ended_id, registers};
 use fish_rule::{Log, Pass, first_version, load_opened, load_operation, load_row};
 use std::alloc::{AllocError, Global};
 
@@ -79,11 +80,11 @@ fn make(
         (suc version) rows.new.items) }
 {
     let operation = load_operation(log, pass, version + 1);
-    if operation < 512 {
+    if registers(operation) {
         let row = registered_row(alloc, log, pass, rows.as_slice().len() as u64)?;
         rows.push(row)?;
     } else {
-        end_row(rows.as_mut_slice(), (operation % 256) as u16);
+        end_row(rows.as_mut_slice(), ended_id(operation));
     }
     Ok(())
 }

@@ -6,6 +6,7 @@ pub mod Entry
 pub mod Hash
 pub mod Header
 pub mod Headers
+pub mod Operation
 pub mod Outline
 pub mod Pages
 pub mod Payloads

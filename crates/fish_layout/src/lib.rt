@@ -9,6 +9,7 @@ mod body;
 mod hash;
 mod header;
 mod keys;
+mod operation;
 mod outline;
 mod page;
 mod parts;
@@ -22,6 +23,7 @@ pub use fish_value::{MAX_LANE, MAX_PAYLOAD};
 pub use hash::{bucket_of, key_hash};
 pub use header::{Header, header_of, void_header};
 pub use keys::find_key;
+pub use operation::{end_word, ended_id, register_word, registers};
 pub use page::{
     LINE_BYTES, LINE_WORDS, LINES_AT, PAGE_BYTES, PAGE_LINES, PAGE_WORDS, crosses_page, entry_at,
     page_of, place_of,

@@ -9,12 +9,8 @@ ghost use Rattle.fish_rule.specs.LoadSteps.{IsAlone};
 ghost use Rattle.fish_rule.specs.Passes.{IsPassOf, view};
 
 use fish_catalog::{CatRow, ROW_WORDS, row_words};
+use fish_layout::{end_word, register_word};
 use fish_rule::{Log, Pass, define_operation, define_row_word, load_tail, raise_version, store_to};
-
-/// What makes an operation one that registers the next row, or one that ends the row with an id.
-const REGISTERS: u64 = 256;
-
-const ENDS: u64 = 512;
 
 /// Registers the next row: makes the next version, in which it is active.
 pub(crate) fn register_row(log: &Log, pass: &mut Pass, row: &CatRow, version: u64)
@@ -26,7 +22,7 @@ pub(crate) fn register_row(log: &Log, pass: &mut Pass, row: &CatRow, version: u6
 {
     let id = u64::from(row.id);
     define_row(log, pass, id, &row_words(row));
-    define_operation(log, pass, version, REGISTERS + id);
+    define_operation(log, pass, version, register_word(id));
     raise_version(log, pass, version);
 }
 
@@ -63,6 +59,6 @@ pub(crate) fn end_row(log: &Log, pass: &mut Pass, id: u16, to: u32, version: u64
     ensures ended { HasEnded (view pass.old) id to (view pass.new) }
 {
     store_to(log, pass, u64::from(id), u64::from(to));
-    define_operation(log, pass, version, ENDS + u64::from(id));
+    define_operation(log, pass, version, end_word(u64::from(id)));
     raise_version(log, pass, version);
 }

@@ -7,6 +7,7 @@ use Rattle.fish_catalog.specs.Words.{name_in, row_word, text_in}
 use Rattle.fish_catalog.specs.declared.row.CatRow.{CatRow}
 use Rattle.fish_catalog.specs.declared.listed.Listed.{Listed}
 use Rattle.fish_layout.specs.Cleared.{choose}
+use Rattle.fish_layout.specs.Operation.{end_word, ended_id, register_word}
 use Rattle.fish_rule.specs.Views.{AllOf}
 use Rattle.fish_rule.specs.declared.view.Key.{Key}
 use Rattle.fish_rule.specs.declared.view.Learned.{Learned}
@@ -43,9 +44,9 @@ row_in g id i = g (row_at id i)
 
 -- ---- the definitions of a version
 
--- an operation of kind 1 registers the next row, every other one ends the row with its id
+-- an operation registers the next row, or ends the row with its id
 abbrev pub made : (ℕ → ℕ) → ℕ → List Listed → List Listed
-made g x ls = choose (dec_lt x 512) (ls ++ listed_in (row_in g (length ls)) (length ls) true ∷ []) (ended_at (x % 256) ls)
+made g x ls = choose (dec_lt x 512) (ls ++ listed_in (row_in g (length ls)) (length ls) true ∷ []) (ended_at (ended_id x) ls)
 
 -- the definitions at a version: those of the start, changed by the operations that made the versions behind the
 -- start's
@@ -64,8 +65,8 @@ AreRowWords f = (i : ℕ) → 2 ≤ i → i < 39 → f i ≡ row_word (row_spell
 
 -- the operation x registers the definition that the words of the next row spell, or it ends an active one
 abbrev pub IsOperation : (ℕ → ℕ) → List Listed → ℕ → Type 0
-IsOperation f ls x = ((x ≡ 256 + length ls) × IsNew ls (name_in f) (text_in f) × AreRowWords f)
-    ⊎ ((id : ℕ) × (x ≡ 512 + id) × (id < 256) × IsOnAt ls id)
+IsOperation f ls x = ((x ≡ register_word (length ls)) × IsNew ls (name_in f) (text_in f) × AreRowWords f)
+    ⊎ ((id : ℕ) × (x ≡ end_word id) × (id < 256) × IsOnAt ls id)
 
 -- these are the active definitions at a version that the registry has reached
 abbrev pub AreActiveAt : Key → (ℕ → ℕ) → ℕ → List (ℕ × List ℕ) → Type 0

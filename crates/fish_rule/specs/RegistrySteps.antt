@@ -3,6 +3,7 @@
 use Rattle.std.specs.Prelude.{ℕ, ◌≡◌, ◌≢◌, ◌+◌, ◌<◌, ◌≤◌, ◌⊎◌, suc, [], ◌∷◌, length, Option, Some, None}
 use Rattle.std.proofs.Math.Decide.{dec_lt}
 use Rattle.fish_layout.specs.Cleared.{choose}
+use Rattle.fish_layout.specs.Operation.{end_word}
 use Rattle.fish_rule.specs.Epochs.{confirmed}
 use Rattle.fish_rule.specs.Registry.{IsOperation, KnowsRow, made, main_word, op_at, opened_at, row_at, row_in}
 use Rattle.fish_rule.specs.SpaceSteps.{noted, ticked}
@@ -85,7 +86,7 @@ pub record CanRaiseVersion (v : View) : Type 0 where
   pub few : v.learned.version < 512
   pub settled : v.round ≡ None
   pub operation : IsOperation (row_in (main_word v.main_words) (length v.rows)) v.rows (next_operation v)
-  pub ends : (id : ℕ) → next_operation v ≡ 512 + id → main_word v.main_words (row_at id 1) ≢ 0
+  pub ends : (id : ℕ) → next_operation v ≡ end_word id → main_word v.main_words (row_at id 1) ≢ 0
 
 -- a registration waits once it is made: lane 1 is out
 abbrev pub round_after : ℕ → ℕ → ℕ → Option Round

@@ -37,7 +37,7 @@ registered_row-requires-clause-row c =
     subst (KnowsRow u.about u.learned) size
     (registered_known v u c.args.version c.load_operation-operation.result c.args.rows.now.items
     (reads_word v u _ _ load).extends.learns from c.requires.reached
-    (operation v u _ c.args.version _ (omega arith) load) c.requires.rows c.if-operation-lt512.true)
+    (operation v u _ c.args.version _ (omega arith) load) c.requires.rows (c.registers.ensures.0 c.if-registers.true))
 
 pub returns-in_err-row-clause-reads : goal.returns-in_err-row-clause-reads
 returns-in_err-row-clause-reads c =
@@ -71,5 +71,5 @@ returns-in_ok-push-clause-rows c =
     (made_registered v u c.args.version c.load_operation-operation.result c.args.rows.now.items
     (reads_word v u _ _ load).extends.learns from c.requires.reached
     (operation v u _ c.args.version _ (omega arith) load) c.requires.rows t c.in_ok-row.row
-    c.if-operation-lt512.true c.registered_row.ensures.reads.extends.learns
+    (c.registers.ensures.0 c.if-registers.true) c.registered_row.ensures.reads.extends.learns
     (subst (λ (z : ℕ). HasRow t z c.in_ok-row.row) (sym size) c.in_ok-row.ensures.row))
