@@ -9,8 +9,6 @@ mod changes;
 #[cfg(test)]
 mod contention;
 #[cfg(test)]
-mod expecting;
-#[cfg(test)]
 mod full;
 #[cfg(test)]
 mod reopened;

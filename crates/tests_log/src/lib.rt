@@ -21,8 +21,6 @@ mod entries;
 #[cfg(test)]
 mod epochs;
 #[cfg(test)]
-mod expecting;
-#[cfg(test)]
 mod flights;
 #[cfg(test)]
 mod lanes;

@@ -5,8 +5,6 @@
 #[cfg(test)]
 mod commands;
 #[cfg(test)]
-mod expecting;
-#[cfg(test)]
 mod gates;
 #[cfg(test)]
 mod holds;
