@@ -3,6 +3,7 @@
 ghost use Rattle.std.specs.Prelude.{◌≤◌, OnOk, length};
 ghost use Rattle.tests_lanes.specs.Blocks.{IsHeld};
 
+use crate::expecting::{expect, expect_text};
 use crate::running::{Block, Left, Open, close_behind, defined, ran, run_table, told};
 use crate::scripts::{Plain, Script, record_of};
 use fish_catalog::{Entries, Entry};
@@ -14,7 +15,6 @@ use std::process::Abort;
 use std::test::Fail;
 use std::thread::Threads;
 use tests_log::Cause;
-use tests_values::{expect_same, expect_text};
 
 /// One lane: of its lines one is no record, one is cut off and one is blank. The index of the definition begins at 0.
 const ALONE: &[Script] = &[&[
@@ -173,13 +173,13 @@ fn items_of(lane: &Lane) -> usize {
 
 /// Asserts that each lane's records are in order, and that each of its scans is a plain filter of the log.
 fn expect_scans<R: Abort>(rt: &R, alloc: Global, left: &Left) -> Result<(), Cause> {
-    expect_same(rt, "entries", &left.entries.len(), &1_200);
-    expect_same(rt, "the end", &left.block.end.to, &1_200);
+    expect(rt, "entries", &left.entries.len(), &1_200);
+    expect(rt, "the end", &left.block.end.to, &1_200);
     for lane in left.block.lanes.as_slice() {
         let stored = stored_in_order(alloc, &left.entries, lane.number, 2)?;
-        expect_same(rt, "records of a lane", &stored, &300);
-        expect_same(rt, "items of a lane", &lane.items.len(), &items_of(lane));
-        expect_same(rt, "scans", &right_scans(&left.entries, lane), &2);
+        expect(rt, "records of a lane", &stored, &300);
+        expect(rt, "items of a lane", &lane.items.len(), &items_of(lane));
+        expect(rt, "scans", &right_scans(&left.entries, lane), &2);
     }
     Ok(())
 }
@@ -221,11 +221,11 @@ fn stored_by(lane: &Lane) -> Result<usize, Cause> {
 
 /// Asserts that the items of each lane count its records in a log that got full.
 fn expect_full<R: Abort>(rt: &R, alloc: Global, left: &Left) -> Result<(), Cause> {
-    expect_same(rt, "entries", &left.entries.len(), &448);
-    expect_same(rt, "the end", &left.block.end.to, &448);
+    expect(rt, "entries", &left.entries.len(), &448);
+    expect(rt, "the end", &left.block.end.to, &448);
     for lane in left.block.lanes.as_slice() {
         let stored = stored_in_order(alloc, &left.entries, lane.number, 450)?;
-        expect_same(rt, "records of a lane", &stored, &stored_by(lane)?);
+        expect(rt, "records of a lane", &stored, &stored_by(lane)?);
     }
     Ok(())
 }
@@ -307,7 +307,7 @@ fn a_block_goes_on_where_the_one_before_ended(rt: HostRuntime) -> Result<(), Fai
     let (end, left) = ran_both(&rt, rt.alloc())?;
     let found = ends_of(rt.alloc(), end, &left);
     drop(left);
-    expect_same(
+    expect(
         &rt,
         "ends, and records",
         &found?,

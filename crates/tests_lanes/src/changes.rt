@@ -3,6 +3,7 @@
 ghost use Rattle.std.specs.Prelude.{OnOk};
 ghost use Rattle.tests_lanes.specs.Blocks.{IsHeld};
 
+use crate::expecting::{expect, expect_text};
 use crate::running::{Block, Open, opened, ran_over, run_table, told, told_lanes};
 use crate::scripts::{Plain, Script};
 use fish_lanes::Lane;
@@ -12,7 +13,6 @@ use std::process::Abort;
 use std::test::Fail;
 use std::thread::Threads;
 use tests_log::Cause;
-use tests_values::{expect_same, expect_text};
 
 /// One lane, so that each index begins and ends at once.
 const ALONE: &[Script] = &[&[
@@ -121,8 +121,8 @@ fn expect_beside<R: Threads + Sync + Abort>(
     let block = run_table(rt, alloc, held, BESIDE)?;
     let (found, to) = (begun_by(&block), block.end.to);
     drop(block);
-    expect_same(rt, "definitions, and boundaries", &found, &(1, 1));
-    expect_same(rt, "the end", &to, &300);
+    expect(rt, "definitions, and boundaries", &found, &(1, 1));
+    expect(rt, "the end", &to, &300);
     Ok(())
 }
 

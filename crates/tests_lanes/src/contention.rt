@@ -2,6 +2,7 @@
 //! run after run: each scan is a plain filter of the log that is closed behind it, whatever the lanes' order was.
 
 use crate::blocks::{right_scans, stored_in_order};
+use crate::expecting::expect;
 use crate::running::{Left, ran};
 use crate::scripts::{Plain, Script};
 use fish_lanes::Lane;
@@ -10,7 +11,6 @@ use std::process::Abort;
 use std::test::Fail;
 use std::thread::Threads;
 use tests_log::Cause;
-use tests_values::expect_same;
 
 /// How often the block is run, each time over a new store.
 const ROUNDS: usize = 3;
@@ -57,11 +57,11 @@ fn work_of(lane: &Lane) -> (usize, usize) {
 
 /// Asserts that each lane's records are in order, and that each of its scans is a plain filter of the log.
 fn expect_lanes<R: Abort>(rt: &R, alloc: Global, left: &Left) -> Result<(), Cause> {
-    expect_same(rt, "entries", &left.entries.len(), &4_500);
+    expect(rt, "entries", &left.entries.len(), &4_500);
     for lane in left.block.lanes.as_slice() {
         let stored = stored_in_order(alloc, &left.entries, lane.number, 2)?;
         let found = (stored, right_scans(&left.entries, lane));
-        expect_same(rt, "records and scans", &found, &work_of(lane));
+        expect(rt, "records and scans", &found, &work_of(lane));
     }
     Ok(())
 }

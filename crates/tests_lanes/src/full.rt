@@ -3,6 +3,7 @@
 ghost use Rattle.std.specs.Prelude.{OnOk};
 ghost use Rattle.tests_lanes.specs.Blocks.{IsHeld};
 
+use crate::expecting::expect;
 use crate::running::{Block, Open, defined, run_table};
 use crate::scripts::{Plain, Script};
 use std::alloc::Global;
@@ -10,7 +11,6 @@ use std::process::Abort;
 use std::test::Fail;
 use std::thread::Threads;
 use tests_log::Cause;
-use tests_values::expect_same;
 
 /// Each lane has more to store than a page holds, and a statement more.
 const FULL: &[Script] = &[
@@ -22,7 +22,7 @@ const FULL: &[Script] = &[
 fn expect_counts<R: Abort>(rt: &R, block: &Block, want: (usize, usize, usize)) {
     for lane in block.lanes.as_slice() {
         let found = (lane.items.len(), lane.works.len(), lane.left.len());
-        expect_same(rt, "items, statements and those left", &found, &want);
+        expect(rt, "items, statements and those left", &found, &want);
     }
 }
 

@@ -9,6 +9,8 @@ mod changes;
 #[cfg(test)]
 mod contention;
 #[cfg(test)]
+mod expecting;
+#[cfg(test)]
 mod full;
 #[cfg(test)]
 mod reopened;

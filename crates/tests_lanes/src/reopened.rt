@@ -3,6 +3,7 @@
 ghost use Rattle.std.specs.Prelude.{◌≤◌, IfOk, OnOk, length};
 ghost use Rattle.tests_lanes.specs.Blocks.{IsHeld};
 
+use crate::expecting::expect_text;
 use crate::running::{Open, defined, opened_again, run_table, told_lanes};
 use crate::scripts::{Plain, Script};
 use std::alloc::Global;
@@ -10,7 +11,6 @@ use std::process::Abort;
 use std::test::Fail;
 use std::thread::Threads;
 use tests_log::Cause;
-use tests_values::expect_text;
 
 /// What is stored and committed before: three records, of which the first and the last are of the kind.
 const BEFORE: &[Script] = &[&[

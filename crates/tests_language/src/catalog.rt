@@ -4,6 +4,7 @@ ghost use Rattle.std.specs.Prelude.{IfOk, IsTrue};
 ghost use Rattle.fish_catalog.specs.Canonical.{IsCanonical};
 ghost use Rattle.fish_catalog.specs.Rows.{AwaitsFrom, IsName, IsRow};
 
+use crate::expecting::expect;
 use fish_catalog::{
     CatRow, Catalog, Entry, Listed, ROW_WORDS, active_in, is_name, read_row, row_words,
 };
@@ -12,7 +13,6 @@ use fish_value::{Form, Text};
 use std::alloc::{AllocError, Global};
 use std::process::Abort;
 use std::test::Fail;
-use tests_values::expect;
 
 /// Names, and the ids of the active row of the name and of its newest.
 const NONE_FOUND: &[(&str, &str)] = &[("kind", "none none")];

@@ -1,9 +1,10 @@
 //! The language's table, and the cases round it.
 
+use crate::expecting::expect_all;
 use fish_lang::{Def, LangRefusal, parse_def, print_def};
 use std::alloc::{AllocError, Global};
 use std::test::Fail;
-use tests_values::{agreed, expect_all};
+use tests_values::agreed;
 
 /// The canonical text of a definition, or why it is refused.
 fn told(alloc: Global, source: &str) -> Result<String, AllocError> {

@@ -3,6 +3,7 @@
 ghost use Rattle.std.specs.Prelude.{◌≤◌, length};
 ghost use Rattle.fish_value.specs.Limits.{longest_file};
 
+use crate::expecting::expect_all;
 use crate::sources::definition;
 use fish_lang::Def;
 use fish_lines::Begin;
@@ -11,7 +12,6 @@ use fish_select::{Query, begin_select, end_select, select_part};
 use fish_value::{Form, Value, read_value};
 use std::alloc::{AllocError, Global};
 use std::test::Fail;
-use tests_values::expect_all;
 
 /// The most bytes of a file.
 const MOST: usize = 67_108_864;

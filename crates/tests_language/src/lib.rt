@@ -7,6 +7,8 @@ mod catalog;
 #[cfg(test)]
 mod definitions;
 #[cfg(test)]
+mod expecting;
+#[cfg(test)]
 mod file_selections;
 #[cfg(test)]
 mod items;

@@ -3,6 +3,7 @@
 ghost use Rattle.std.specs.Prelude.{◌≡◌, ◌<◌};
 ghost use Rattle.fish_psf.specs.Blanks.{IsBlankOf};
 
+use crate::expecting::expect_all;
 use crate::sources::definition;
 use fish_psf::{ActiveDef, Keys, PsfRefusal, Record, Steps, keys, parse};
 use fish_value::{Form, print_value};
@@ -10,7 +11,6 @@ use std::alloc::{AllocError, Global};
 use std::marker::Brand;
 use std::sync::ledger::{Blank, Ledger};
 use std::test::Fail;
-use tests_values::expect_all;
 
 const NO_RECORD: &str = "no record of its form";
 

@@ -2,11 +2,11 @@
 
 ghost use Rattle.std.specs.Prelude.{◌≤◌};
 
+use crate::expecting::expect_all;
 use fish_catalog::{Interval, Intervals};
 use fish_plan::{Piece, Plan, full, plan};
 use std::alloc::{AllocError, Global};
 use std::test::Fail;
-use tests_values::expect_all;
 
 /// Ids, and where an interval begins and ends.
 type Row = (u16, u32, Option<u32>);

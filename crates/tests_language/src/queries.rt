@@ -4,6 +4,7 @@
 ghost use Rattle.std.specs.Prelude.{◌≡◌, ◌<◌};
 ghost use Rattle.fish_psf.specs.Blanks.{IsBlankOf};
 
+use crate::expecting::expect_all;
 use crate::sources::definition;
 use fish_lang::Def;
 use fish_lines::records;
@@ -14,7 +15,6 @@ use std::fmt::Write;
 use std::marker::Brand;
 use std::sync::ledger::{Blank, Ledger};
 use std::test::Fail;
-use tests_values::expect_all;
 
 /// Rows whose third column has no whole number but two: of the others the text is none.
 const TEXTS: &str =

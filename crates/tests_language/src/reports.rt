@@ -1,12 +1,12 @@
 //! Reports with the texts that a user is to see, written out by hand.
 
+use crate::expecting::expect_all;
 use crate::items::{Plain, item_of, put_items};
 use fish_report::{
     DeregisterCause, Items, RegisterCause, Report, ScanCause, push_item, report_text,
 };
 use std::alloc::{AllocError, Global};
 use std::test::Fail;
-use tests_values::expect_all;
 
 /// Names of files in an item, which is a refusal, and its text.
 const NAMES: &[(Plain, &str)] = &[

@@ -1,11 +1,11 @@
 //! Texts of scripts, with the script or the refusal that was worked out by hand.
 
+use crate::expecting::expect_all;
 use fish_lang::{Def, print_def};
 use fish_script::{Block, By, Script, Statement, Statements, parse_script};
 use fish_value::{Bytes, Form, Text, Value, print_value};
 use std::alloc::{AllocError, Global};
 use std::test::Fail;
-use tests_values::expect_all;
 
 /// Texts without lanes. A statement is told in its own words, with the definition's canonical text and all
 /// that it leaves to be understood.

@@ -1,12 +1,13 @@
 //! Definitions on lines, with values worked out by hand from what each word of the language means.
 
+use crate::expecting::expect_all;
 use crate::sources::definition;
 use fish_json::{JsonReader, JsonRecord};
 use fish_lang::Def;
 use fish_psf::{Parsed, Record, holds};
 use std::alloc::{AllocError, Global};
 use std::test::Fail;
-use tests_values::{agreed, expect_all, values_text};
+use tests_values::{agreed, values_text};
 
 /// Definitions, lines, and the values that are wanted.
 const VALUES: &[((&str, &str), &str)] = &[

@@ -1,5 +1,6 @@
 //! Reports that are written by pieces: which bytes come at which write, worked out by hand.
 
+use crate::expecting::expect_all;
 use crate::items::{Plain, put_items};
 use crate::reports::REPORTS;
 use fish_outside::MemorySink;
@@ -7,7 +8,6 @@ use fish_report::{Item, Items, Report, WriteRefusal, report_text, write_items};
 use fish_value::{Numbers64, Row, Rows, Text};
 use std::alloc::{AllocError, Global};
 use std::test::Fail;
-use tests_values::expect_all;
 
 /// How many rows a selection has and how many bytes each payload, the number of the write that fails; and what the sink
 /// got. The head of a selection of 1 to 9 rows has 30 bytes and that of 40 has 32.

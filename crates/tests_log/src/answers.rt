@@ -1,5 +1,6 @@
 //! What scans beside lanes answered is what a plain search finds in the closed log.
 
+use crate::expecting::expect;
 use crate::questions::{Kept, asks_kind, text_at};
 use crate::races::{Left, RECORDS, raced_log};
 use fish_catalog::Entry;
@@ -7,7 +8,6 @@ use fish_scan::How;
 use fish_value::{Row, Text};
 use std::process::Abort;
 use std::test::Fail;
-use tests_values::expect_same;
 
 /// Whether a scan found a number open.
 fn is_open(kept: &Kept, number: u32) -> bool {
@@ -91,13 +91,13 @@ fn answered(kept: &[Kept], how: How) -> usize {
 /// Asserts that the answers of a pass are those of the closed log, and how many there are by the index, in full, and
 /// in either way, of the definition that stays.
 fn expect_answers<R: Abort>(rt: &R, entries: &[Entry], kept: &[Kept], want: &[usize; 3]) {
-    expect_same(rt, "differing answers", &differing(entries, kept), &0);
+    expect(rt, "differing answers", &differing(entries, kept), &0);
     let found = [
         answered(kept, How::Index),
         answered(kept, How::Full),
         answered(kept, How::Auto),
     ];
-    expect_same(rt, "answers", &found, want);
+    expect(rt, "answers", &found, want);
 }
 
 /// Asserts what a race left. A lane asks thirty times and the control pass eighteen times, each beginning where it
@@ -105,13 +105,13 @@ fn expect_answers<R: Abort>(rt: &R, entries: &[Entry], kept: &[Kept], want: &[us
 fn expect_left<R: Abort>(rt: &R, left: &Left) {
     let entries = left.entries.as_slice();
     let answers = &left.raced.answers;
-    expect_same(
+    expect(
         rt,
         "records",
         &left.raced.stored,
         &[RECORDS, RECORDS, RECORDS],
     );
-    expect_same(rt, "entries", &entries.len(), &720);
+    expect(rt, "entries", &entries.len(), &720);
     expect_answers(rt, entries, answers.main.as_slice(), &[2, 2, 4]);
     expect_answers(rt, entries, answers.second.as_slice(), &[3, 3, 7]);
     expect_answers(rt, entries, answers.third.as_slice(), &[3, 3, 7]);

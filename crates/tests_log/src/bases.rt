@@ -14,6 +14,7 @@ ghost use Rattle.tests_log.specs.Lanes.{IsOutOf};
 
 use crate::cause::Cause;
 use crate::entries::has_entry;
+use crate::expecting::expect;
 use crate::lanes::store;
 use crate::logs::{ONE_PAGE, left, listed};
 use crate::nodes::{BUCKET, expect_nodes};
@@ -28,7 +29,6 @@ use fish_walk::settle;
 use std::alloc::{AllocError, Global};
 use std::process::Abort;
 use std::test::Fail;
-use tests_values::expect_same;
 
 /// The definition, and the version with which each log begins.
 const SOURCES: &[&str] = &["flag when not z exists"];
@@ -127,36 +127,36 @@ fn expect_entries<R: Abort>(rt: &R, alloc: Global, entries: &Entries) {
     let [first, second] = PAYLOADS;
     let first = has_entry(alloc, entries, 0, 1, (Form::Json, first));
     let second = has_entry(alloc, entries, 1, 1, (Form::Json, second));
-    expect_same(rt, "entries", &entries.len(), &2);
-    expect_same(rt, "the same entries", &[first, second], &[true; 2]);
+    expect(rt, "entries", &entries.len(), &2);
+    expect(rt, "the same entries", &[first, second], &[true; 2]);
 }
 
 /// Asserts what else is left: the base, the line behind two records of two lines, the heads, one page with
 /// regions, and the version.
 fn expect_left<R: Abort>(rt: &R, case: &Case, remains: &Remains) {
     let Base { number, line } = case.base;
-    expect_same(rt, "the base", &remains.base, &number);
-    expect_same(rt, "the line", &remains.lines, &line.saturating_add(4));
-    expect_same(rt, "the version left", &remains.version, &VERSION);
+    expect(rt, "the base", &remains.base, &number);
+    expect(rt, "the line", &remains.lines, &line.saturating_add(4));
+    expect(rt, "the version left", &remains.version, &VERSION);
     expect_heads(rt, case, remains.heads.as_slice());
     let starts = remains.starts.as_slice();
-    expect_same(rt, "page starts", &starts.len(), &1);
+    expect(rt, "page starts", &starts.len(), &1);
     let start = PageStart { number, line };
-    expect_same(rt, "the page start", &starts.first(), &Some(&start));
+    expect(rt, "the page start", &starts.first(), &Some(&start));
 }
 
 /// Asserts that the bucket's head is the newest entry's place, and that no other bucket has one.
 fn expect_heads<R: Abort>(rt: &R, case: &Case, heads: &[u64]) {
-    expect_same(rt, "heads", &heads.len(), &16);
+    expect(rt, "heads", &heads.len(), &16);
     let newest = case.nodes.first().map(|node| node.place);
-    expect_same(
+    expect(
         rt,
         "the head",
         &heads.get(BUCKET as usize).copied(),
         &newest,
     );
     let others = heads.iter().filter(|head| **head != 0).count();
-    expect_same(rt, "buckets with a head", &others, &1);
+    expect(rt, "buckets with a head", &others, &1);
 }
 
 /// The catalogue with the definition, for a log that begins at a number.
@@ -222,7 +222,7 @@ fn expect_walk<R: Abort>(
 {
     let to = settle(log, pass).settled;
     expect_nodes(rt, alloc, log, pass, (base(log).number, to), case.nodes)?;
-    expect_same(rt, "the rest", &walk_rest(log, pass), &case.head);
+    expect(rt, "the rest", &walk_rest(log, pass), &case.head);
     Ok(())
 }
 
@@ -241,10 +241,10 @@ fn expect_open<R: Abort>(
 {
     let version = enter(log, pass);
     leave(log, pass);
-    expect_same(rt, "the version", &version, &VERSION);
+    expect(rt, "the version", &version, &VERSION);
     let first = case.base.number;
     let numbers = stored(alloc, log, pass);
-    expect_same(
+    expect(
         rt,
         "numbers",
         &numbers,

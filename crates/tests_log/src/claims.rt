@@ -6,6 +6,7 @@ ghost use Rattle.fish_rule.specs.Start.{IsShape};
 
 use crate::bodies::store_lines;
 use crate::cause::Cause;
+use crate::expecting::expect;
 use crate::logs::{ONE_PAGE, empty_log};
 use crate::openings::TWO_PAGES;
 use fish_claim::Claimed;
@@ -13,7 +14,6 @@ use fish_rule::{Base, Log, Pass, Shape, Shut, base, is_shut};
 use std::alloc::Global;
 use std::process::Abort;
 use std::test::Fail;
-use tests_values::expect_same;
 
 /// Where the log of an empty store begins, and one that has nine lines left up to the greatest
 /// number.
@@ -91,7 +91,7 @@ fn expect_claims<R: Abort>(
 {
     for &(lines, want) in claims {
         let answer = store_lines(alloc, log, pass, lines)?;
-        expect_same(rt, "a claim", &answer, &want);
+        expect(rt, "a claim", &answer, &want);
     }
     Ok(())
 }
@@ -109,7 +109,7 @@ fn expect_log<R: Abort>(
 {
     let (log, mut pass) = empty_log(alloc, shape, start)?;
     let done = expect_claims(rt, alloc, &log, &mut pass, claims);
-    expect_same(rt, "the base", &base(&log), &start);
+    expect(rt, "the base", &base(&log), &start);
     let shut = is_shut(&pass);
     drop((log, pass));
     done?;
@@ -119,20 +119,20 @@ fn expect_log<R: Abort>(
 #[test]
 fn one_page(rt: HostRuntime) -> Result<(), Fail> {
     let shut = expect_log(&rt, rt.alloc(), ONE_PAGE, FIRST, ON_ONE_PAGE)?;
-    expect_same(&rt, "shut", &shut, &Some(PAST_THE_PAGE));
+    expect(&rt, "shut", &shut, &Some(PAST_THE_PAGE));
     Ok(())
 }
 
 #[test]
 fn two_pages(rt: HostRuntime) -> Result<(), Fail> {
     let shut = expect_log(&rt, rt.alloc(), TWO_PAGES, FIRST, ON_TWO_PAGES)?;
-    expect_same(&rt, "shut", &shut, &None);
+    expect(&rt, "shut", &shut, &None);
     Ok(())
 }
 
 #[test]
 fn a_log_far_on(rt: HostRuntime) -> Result<(), Fail> {
     let shut = expect_log(&rt, rt.alloc(), ONE_PAGE, FAR_ON, NEAR_THE_END)?;
-    expect_same(&rt, "shut", &shut, &Some(PAST_THE_NUMBERS));
+    expect(&rt, "shut", &shut, &Some(PAST_THE_NUMBERS));
     Ok(())
 }

@@ -6,6 +6,7 @@ ghost use Rattle.fish_rule.specs.Passes.{IsPassOf, view};
 ghost use Rattle.fish_rule.specs.Table.{first_view};
 
 use crate::cause::Cause;
+use crate::expecting::{expect, expect_text};
 use crate::logs::{ONE_PAGE, name_of};
 use crate::openings::{canonical, defined_log};
 use fish_catalog::Catalog;
@@ -16,7 +17,6 @@ use fish_rule::{Log, Pass, Start, load_opened, load_row, open_log};
 use std::alloc::Global;
 use std::process::Abort;
 use std::test::Fail;
-use tests_values::{expect_same, expect_text};
 
 /// A place in the row of `kind`, which is `take type`, and its word.
 const ROW: &[(u64, u64)] = &[
@@ -52,7 +52,7 @@ fn expect_row<R: Abort>(rt: &R, log: &Log, pass: &mut Pass)
 {
     for &(place, want) in ROW {
         let found = first_row_word(log, pass, place);
-        expect_same(rt, "a word", &found, &Some(want));
+        expect(rt, "a word", &found, &Some(want));
     }
 }
 
@@ -85,7 +85,7 @@ fn one_row_log(alloc: Global, name: &str, source: &str) -> Result<(Log, Pass), C
 fn a_log_has_the_words_of_its_catalog(rt: HostRuntime) -> Result<(), Fail> {
     let (log, mut main) = one_row_log(rt.alloc(), "kind", "take type")?;
     let rows = load_opened(&log, &mut main);
-    expect_same(&rt, "rows", &rows, &1);
+    expect(&rt, "rows", &rows, &1);
     expect_row(&rt, &log, &mut main);
     drop((log, main));
     Ok(())
@@ -96,7 +96,7 @@ const TEXTS: &[&str] = &["take type", "bucket n by 10", "flag when a = 1"];
 
 /// Asserts the id and the text of a definition.
 fn expect_def<R: Abort>(rt: &R, alloc: Global, active: &ActiveDef, id: usize, want: &str) {
-    expect_same(rt, "the id", &usize::from(active.id), &id);
+    expect(rt, "the id", &usize::from(active.id), &id);
     match print_def(alloc, &active.def) {
         Ok(text) => expect_text(rt, "the text", text.as_str(), want),
         Err(_) => expect_text(rt, "the text", "no memory", want),
@@ -105,7 +105,7 @@ fn expect_def<R: Abort>(rt: &R, alloc: Global, active: &ActiveDef, id: usize, wa
 
 /// Asserts that definitions are those with these texts.
 fn expect_defs<R: Abort>(rt: &R, alloc: Global, active: &[ActiveDef], texts: &[&str]) {
-    expect_same(rt, "definitions", &active.len(), &texts.len());
+    expect(rt, "definitions", &active.len(), &texts.len());
     for (id, active) in active.iter().enumerate() {
         if id < texts.len() {
             expect_def(rt, alloc, active, id, texts[id]);
@@ -115,7 +115,7 @@ fn expect_defs<R: Abort>(rt: &R, alloc: Global, active: &[ActiveDef], texts: &[&
 
 /// Asserts that the active definitions are those with these texts, at a version.
 fn expect_active<R: Abort>(rt: &R, alloc: Global, defs: &Defs, version: u16, texts: &[&str]) {
-    expect_same(rt, "the version", &defs.version(), &version);
+    expect(rt, "the version", &defs.version(), &version);
     expect_defs(rt, alloc, defs.active(), texts);
 }
 

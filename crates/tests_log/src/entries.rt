@@ -9,6 +9,7 @@ ghost use Rattle.tests_log.specs.Lanes.{IsOutOf};
 
 use crate::bodies::{object_of, store_lines};
 use crate::cause::Cause;
+use crate::expecting::expect;
 use crate::lanes::{split_lane, store_as, take_back};
 use crate::logs::{closed, empty_log};
 use crate::openings::{TWO_PAGES, defined_log};
@@ -23,7 +24,6 @@ use std::marker::Brand;
 use std::process::Abort;
 use std::sync::ledger::{Blank, Ledger};
 use std::test::Fail;
-use tests_values::expect_same;
 
 /// The lines claimed one after the other, and what is found at each number. The fourth claim crosses
 /// the end of a page.
@@ -121,7 +121,7 @@ fn expect_found<R: Abort>(rt: &R, alloc: Global, log: &Log, pass: &mut Pass) -> 
     store_all(alloc, log, pass)?;
     for (number, &(lines, want)) in LINES.iter().enumerate() {
         let found = found_once(alloc, log, pass, number as u32, lines)?;
-        expect_same(rt, "a number", &found, &want);
+        expect(rt, "a number", &found, &want);
     }
     Ok(())
 }
@@ -233,6 +233,6 @@ fn what_was_ingested_stands_in_the_closed_log(rt: HostRuntime) -> Result<(), Fai
     let (entries, numbers) = closed_behind_both(rt.alloc())?;
     let found = compared(rt.alloc(), &entries, numbers);
     drop(entries);
-    expect_same(&rt, "ascend, and the entries", &found, &[true; 3]);
+    expect(&rt, "ascend, and the entries", &found, &[true; 3]);
     Ok(())
 }

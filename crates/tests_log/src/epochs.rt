@@ -4,11 +4,11 @@ ghost use Rattle.std.specs.Prelude.{◌≡◌};
 ghost use Rattle.fish_rule.specs.Passes.{IsPassOf, view};
 ghost use Rattle.fish_rule.specs.Table.{first_view};
 
+use crate::expecting::expect;
 use crate::openings::defined_log;
 use fish_epoch::{enter, leave};
 use fish_rule::{Log, Pass, is_shut, join_pass, split_pass};
 use std::test::Fail;
-use tests_values::expect_same;
 
 /// The versions at which two passes enter, and one of them once more.
 fn versions(log: &Log, main: &mut Pass) -> [u16; 3]
@@ -35,7 +35,7 @@ fn two_passes_enter_and_leave(rt: HostRuntime) -> Result<(), Fail> {
     let found = versions(&log, &mut main);
     let shut = is_shut(&main);
     drop((log, main));
-    expect_same(&rt, "versions", &found, &[0, 0, 0]);
-    expect_same(&rt, "shut", &shut, &None);
+    expect(&rt, "versions", &found, &[0, 0, 0]);
+    expect(&rt, "shut", &shut, &None);
     Ok(())
 }

@@ -21,6 +21,8 @@ mod entries;
 #[cfg(test)]
 mod epochs;
 #[cfg(test)]
+mod expecting;
+#[cfg(test)]
 mod flights;
 #[cfg(test)]
 mod lanes;

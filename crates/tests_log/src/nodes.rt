@@ -9,6 +9,7 @@ ghost use Rattle.fish_rule.specs.LoadSteps.{IsAlone};
 ghost use Rattle.tests_log.specs.Walks.{HasWalked};
 
 use crate::cause::Cause;
+use crate::expecting::expect;
 use fish_chain::{Node, walk_next, walk_start};
 use fish_psf::Steps;
 use fish_rule::{Log, Pass, buckets, lane};
@@ -17,7 +18,6 @@ use std::alloc::{AllocError, Global};
 use std::marker::Brand;
 use std::process::Abort;
 use std::sync::ledger::{Blank, Ledger};
-use tests_values::expect_same;
 
 /// The bucket of true under id 0 among sixteen: FNV-1a of the bytes 0 0 1 leaves 4.
 pub(crate) const BUCKET: u32 = 4;
@@ -125,6 +125,6 @@ pub(crate) fn expect_nodes<R: Abort>(
     ensures walked { OnOk result (HasWalked (view pass.new) (walk_of pass.new) range.0) }
 {
     let nodes = nodes_of(alloc, log, pass, BUCKET, range)?;
-    expect_same(rt, "nodes", &nodes.as_slice(), &want);
+    expect(rt, "nodes", &nodes.as_slice(), &want);
     Ok(())
 }

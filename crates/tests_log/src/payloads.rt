@@ -7,6 +7,7 @@ ghost use Rattle.fish_ingest.specs.Preparation.{IsOrigin};
 ghost use Rattle.fish_rule.specs.Keys.{IsWritten};
 
 use crate::cause::Cause;
+use crate::expecting::{expect, expect_text};
 use crate::flights::prepared;
 use crate::logs::parsed;
 use fish_catalog::MAX_ACTIVE;
@@ -19,7 +20,6 @@ use std::alloc::{AllocError, Global};
 use std::fmt::Write;
 use std::process::Abort;
 use std::test::Fail;
-use tests_values::{expect_same, expect_text};
 
 /// The first lane, with JSON, and the greatest lane and version, with CSV.
 const JSON: Origin = Origin {
@@ -244,7 +244,7 @@ fn words(rt: HostRuntime) -> Result<(), Fail> {
         Ok(prepared) => {
             let same = prepared.words() == WORDS;
             drop(prepared);
-            expect_same(&rt, "the words", &same, &true);
+            expect(&rt, "the words", &same, &true);
             Ok(())
         }
         Err(_) => Err(Fail::new("refused")),
@@ -260,7 +260,7 @@ fn longest(rt: HostRuntime) -> Result<(), Fail> {
             // a header, 65,536 words of payload, and the padding
             let words = prepared.words().len();
             drop(prepared);
-            expect_same(&rt, "words", &words, &65_540);
+            expect(&rt, "words", &words, &65_540);
             Ok(())
         }
         Err(_) => Err(Fail::new("refused")),

@@ -9,6 +9,7 @@ ghost use Rattle.tests_log.specs.Registering.{IsKept};
 
 use crate::asks::{Question, ask_of};
 use crate::cause::Cause;
+use crate::expecting::expect_text;
 use crate::logs::{ONE_PAGE, empty_log};
 use crate::openings::FIRST;
 use crate::registrations::{begin, poll};
@@ -21,7 +22,6 @@ use fish_rule::{Log, Pass};
 use fish_scan::How;
 use std::alloc::Global;
 use std::test::Fail;
-use tests_values::expect_text;
 
 /// What lane 2 asks behind its three records, and the plan.
 const PLANS: &[(Question, &str)] = &[

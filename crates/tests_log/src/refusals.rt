@@ -11,6 +11,7 @@ ghost use Rattle.fish_rule.specs.Table.{first_view};
 ghost use Rattle.tests_log.specs.Lanes.{IsOutOf};
 
 use crate::cause::Cause;
+use crate::expecting::expect;
 use crate::lanes::{split_lane, store, take_back};
 use crate::logs::ONE_PAGE;
 use crate::openings::{TWO_PAGES, defined, defined_log};
@@ -21,7 +22,6 @@ use fish_walk::count_now;
 use std::alloc::{AllocError, Global};
 use std::process::Abort;
 use std::test::Fail;
-use tests_values::expect_same;
 
 /// A pass that is full.
 const FULL: IngestRefusal = IngestRefusal::Full {
@@ -119,7 +119,7 @@ fn expect_answers<R: Abort>(
     for (payload, want) in answers {
         let bytes = bytes_of(alloc, payload)?;
         let answer = store(alloc, log, pass, defs, bytes.as_slice());
-        expect_same(rt, "a payload", &answer, want);
+        expect(rt, "a payload", &answer, want);
     }
     Ok(())
 }
@@ -151,7 +151,7 @@ fn expect_log<R: Abort>(
     let done = expect_answers(rt, alloc, &log, &mut pass, &mut defs, answers);
     let found = count_now(&log, &mut pass);
     drop((log, pass, defs));
-    expect_same(rt, "numbers", &found, &count);
+    expect(rt, "numbers", &found, &count);
     done
 }
 
@@ -237,7 +237,7 @@ fn expect_joined<R: Abort>(rt: &R, alloc: Global, log: &Log, main: &mut Pass) ->
             return Err(fail);
         }
     }
-    expect_same(rt, "the claim that shut it", &is_shut(main), &Some(SHUT));
+    expect(rt, "the claim that shut it", &is_shut(main), &Some(SHUT));
     Ok(())
 }
 

@@ -9,6 +9,7 @@ ghost use Rattle.fish_rule.specs.Table.{first_view};
 ghost use Rattle.tests_log.specs.Registering.{IsKept};
 
 use crate::cause::Cause;
+use crate::expecting::{expect, expect_text};
 use crate::lanes::store;
 use crate::logs::{ONE_PAGE, empty_log};
 use crate::openings::FIRST;
@@ -23,7 +24,6 @@ use fish_rule::{Log, Pass};
 use fish_value::Form;
 use std::alloc::Global;
 use std::test::Fail;
-use tests_values::{expect_same, expect_text};
 
 /// The payload of each record.
 const PUSH: &[u8] = b"{\"type\":\"Push\",\"n\":1}";
@@ -133,7 +133,7 @@ fn a_lane_in_flight_is_waited_for(rt: HostRuntime) -> Result<(), Fail> {
         landed: Poll::Bound { id: 0, from: 1 },
         later: Poll::Idle,
     };
-    expect_same(&rt, "what was seen", &seen, &want);
+    expect(&rt, "what was seen", &seen, &want);
     expect_text(
         &rt,
         "a scan behind it",
@@ -267,6 +267,6 @@ fn a_lane_that_entered_behind_is_not_waited_for(rt: HostRuntime) -> Result<(), F
         ended: Ok((0, 100)),
         number: 90,
     };
-    expect_same(&rt, "what was seen", &seen?, &want);
+    expect(&rt, "what was seen", &seen?, &want);
     Ok(())
 }

@@ -7,6 +7,7 @@ ghost use Rattle.tests_log.specs.Bodies.{IsPlainBody};
 
 use crate::bodies::{claim_words, publish_words, store_lines};
 use crate::cause::Cause;
+use crate::expecting::expect;
 use crate::logs::{ONE_PAGE, empty_log};
 use crate::openings::{FIRST, TWO_PAGES};
 use fish_layout::Body;
@@ -14,7 +15,6 @@ use fish_rule::{Log, Pass, lane, split_pass};
 use fish_walk::{Settled, settle};
 use std::alloc::Global;
 use std::test::Fail;
-use tests_values::expect_same;
 
 /// What a pass settles.
 fn settled_by(log: &Log, pass: &mut Pass) -> Result<Settled, Cause>
@@ -115,7 +115,7 @@ fn stops_at_a_record_in_flight(rt: HostRuntime) -> Result<(), Fail> {
     let mut second = split_pass(&log, &mut main, 2);
     let found = settled_by_two(rt.alloc(), &log, &mut main, &mut second);
     drop((log, main, second));
-    expect_same(&rt, "settled", &found?, &AROUND);
+    expect(&rt, "settled", &found?, &AROUND);
     Ok(())
 }
 
@@ -159,6 +159,6 @@ fn stops_at_the_first_mark(rt: HostRuntime) -> Result<(), Fail> {
     let mut second = split_pass(&log, &mut main, 2);
     let found = settled_at_the_end(rt.alloc(), &log, &mut main, &mut second);
     drop((log, main, second));
-    expect_same(&rt, "settled", &found?, &AT_THE_END);
+    expect(&rt, "settled", &found?, &AT_THE_END);
     Ok(())
 }

@@ -5,6 +5,7 @@ ghost use Rattle.tests_log.specs.Registering.{IsWorking};
 
 use crate::asks::{Question, Wanted, ask_of};
 use crate::cause::Cause;
+use crate::expecting::expect_text;
 use crate::logs::{ONE_PAGE, empty_log};
 use crate::openings::FIRST;
 use crate::registrations::{begin_between, end_between, poll_between, store_kept};
@@ -20,7 +21,6 @@ use std::alloc::Global;
 use std::fmt::Write;
 use std::process::Abort;
 use std::test::Fail;
-use tests_values::expect_text;
 
 /// Stores a payload. Its number, or why it was not stored.
 fn told_store_word(

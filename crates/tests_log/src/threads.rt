@@ -17,6 +17,7 @@ ghost use Rattle.tests_log.specs.Lanes.{IsOutOf};
 ghost use Rattle.tests_log.specs.Registering.{AreOut};
 
 use crate::cause::Cause;
+use crate::expecting::expect;
 use crate::flights::{claimed, publish_record};
 use crate::lanes::{as_text, store};
 use crate::linked::{Linked, links_in, links_of, push_nodes};
@@ -36,7 +37,6 @@ use std::fmt::Write;
 use std::process::Abort;
 use std::test::Fail;
 use std::thread::{Threads, for_each_mut};
-use tests_values::expect_same;
 
 /// The definitions, by id. Values of both fall into five of the 16 buckets.
 const SOURCES: &[&str] = &["take type", "take n"];
@@ -284,7 +284,7 @@ fn expect_chains<R: Abort>(
     let chains = chains?;
     let same = left.seen.nodes.as_slice() == chains.as_slice();
     drop(chains);
-    expect_same(rt, "the chains of the log", &same, &true);
+    expect(rt, "the chains of the log", &same, &true);
     Ok(())
 }
 
@@ -292,10 +292,10 @@ fn expect_chains<R: Abort>(
 fn expect_left<R: Abort>(rt: &R, alloc: Global, left: &Left) -> Result<(), Cause> {
     let [second, third, fourth] = left.seen.stored;
     let stored = stored_by_each(alloc, &left.entries)?;
-    expect_same(rt, "records", &stored, &[1, second, third, fourth]);
-    expect_same(rt, "settled", &left.seen.settled, &1_310);
-    expect_same(rt, "entries", &left.entries.len(), &1_310);
-    expect_same(rt, "nodes", &left.seen.nodes.len(), &2_616);
+    expect(rt, "records", &stored, &[1, second, third, fourth]);
+    expect(rt, "settled", &left.seen.settled, &1_310);
+    expect(rt, "entries", &left.entries.len(), &1_310);
+    expect(rt, "nodes", &left.seen.nodes.len(), &2_616);
     Ok(())
 }
 

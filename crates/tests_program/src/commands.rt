@@ -1,5 +1,6 @@
 //! Commands over files and an output in memory: how they end, and what is written, worked out by hand.
 
+use crate::expecting::{expect, expect_text};
 use crate::outside::{content_in, disk_of, host_of, sink_of, words_of};
 use fish_disk::MemoryDisk;
 use fish_outside::{MemoryHost, MemorySink, read_file};
@@ -9,7 +10,6 @@ use std::alloc::{AllocError, Global};
 use std::process::Abort;
 use std::test::Fail;
 use std::thread::Threads;
-use tests_values::{expect_same, expect_text};
 
 /// The words of a run on one page.
 const RUN: &str = "run|store|script|--pages|1|";
@@ -212,7 +212,7 @@ fn a_file_is_read_up_to_so_many_bytes(rt: HostRuntime) -> Result<(), Fail> {
     let name = Text::copy_of(rt.alloc(), "rows")?;
     for (most, want) in [(0, 0), (14, 14), (15, 15), (16, 15), (1_000, 15)] {
         match read_file(rt.alloc(), &mut host, &name, most) {
-            Ok(bytes) => expect_same(&rt, "bytes", &bytes.len(), &want),
+            Ok(bytes) => expect(&rt, "bytes", &bytes.len(), &want),
             Err(_) => return Err(Fail::new("no file")),
         }
     }

@@ -2,6 +2,7 @@
 //! run at once, and what the scan tells doesn't depend on who comes first. The first lane is the control pass's; the
 //! others have threads of their own, and run beside each other too.
 
+use crate::expecting::{expect, expect_text};
 use crate::holds::{Hold, HoldGate};
 use crate::outside::{content_in, disk_of, host_of, sink_of, words_of};
 use fish_disk::MemoryDisk;
@@ -12,7 +13,6 @@ use std::alloc::{AllocError, Global};
 use std::process::Abort;
 use std::test::Fail;
 use std::thread::Threads;
-use tests_values::{expect_same, expect_text};
 
 /// A record for each of the lanes.
 const FILES: &[(&str, &str)] = &[
@@ -161,7 +161,7 @@ fn expect_ran<R: Threads + Sync + Abort>(
     let mut out = sink_of(alloc, None)?;
     let found = ended_by(rt, alloc, &mut host, &mut disk, &mut out, &gate)?;
     expect_text(rt, script, found.as_str(), written);
-    expect_same(rt, "let go", &gate.let_go(), &0);
+    expect(rt, "let go", &gate.let_go(), &0);
     Ok(())
 }
 

@@ -5,6 +5,8 @@
 #[cfg(test)]
 mod commands;
 #[cfg(test)]
+mod expecting;
+#[cfg(test)]
 mod gates;
 #[cfg(test)]
 mod holds;

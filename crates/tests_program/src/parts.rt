@@ -1,5 +1,6 @@
 //! Files that are read in parts: a read that fails in the middle of one, and one of several parts.
 
+use crate::expecting::expect_text;
 use crate::outside::{content_in, disk_of, file_of, sink_of, words_of};
 use fish_outside::{HostFile, HostFiles, MemoryHost};
 use fish_program::run;
@@ -7,7 +8,6 @@ use fish_value::{Bytes, Numbers64, Text};
 use std::alloc::{AllocError, Global};
 use std::test::Fail;
 use std::thread::Threads;
-use tests_values::expect_text;
 
 /// A line of 22 bytes.
 const LINE: &str = "{\"type\":\"Push\",\"n\":1}\n";

@@ -1,5 +1,6 @@
 //! Runs whose logs outgrow a table of one page: what they write, worked out by hand, and what a later run finds of it.
 
+use crate::expecting::{expect, expect_text};
 use crate::outside::{content_in, disk_of, host_of, sink_of, words_of};
 use fish_disk::MemoryDisk;
 use fish_program::run;
@@ -8,7 +9,6 @@ use std::fmt::Write;
 use std::process::Abort;
 use std::test::Fail;
 use std::thread::Threads;
-use tests_values::{expect_same, expect_text};
 
 /// A run with a table of one page.
 const RUN: &str = "run|store|script|--pages|1|--bits|4|";
@@ -161,12 +161,12 @@ fn expect_sixteen<R: Threads + Sync + Abort>(rt: &R, alloc: Global) -> Result<()
     let mut disk = disk_of(alloc, b"", None)?;
     let found = ended_by(rt, alloc, script.as_str(), file.as_str(), &mut disk)?;
     let told = found.as_str();
-    expect_same(rt, "ended", &told.starts_with("0 fault none false "), &true);
+    expect(rt, "ended", &told.starts_with("0 fault none false "), &true);
     let (lanes, behind) = told.split_once("\nend\n").unwrap_or((told, ""));
     let stored = lanes.matches("ingested f stored 20 refused 3").count();
-    expect_same(rt, "files", &stored, &16);
+    expect(rt, "files", &stored, &16);
     for (part, want) in ALL {
-        expect_same(rt, part, &behind.matches(*part).count(), want);
+        expect(rt, part, &behind.matches(*part).count(), want);
     }
     Ok(())
 }

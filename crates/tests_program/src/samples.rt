@@ -1,5 +1,6 @@
 //! The command `sample` over an output in memory: how it ends, and what is written, as another program counted it.
 
+use crate::expecting::expect_text;
 use crate::outside::{content_in, disk_of, host_of, sink_of, words_of};
 use fish_disk::MemoryDisk;
 use fish_outside::{MemoryHost, MemorySink};
@@ -8,7 +9,6 @@ use std::alloc::{AllocError, Global};
 use std::process::Abort;
 use std::test::Fail;
 use std::thread::Threads;
-use tests_values::expect_text;
 
 /// Of ten records.
 const TEN: &str = "sample 10\n\

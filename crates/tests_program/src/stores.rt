@@ -1,6 +1,7 @@
 //! Stores that several runs open, one after the other, and disks that fail or hold none: how each run ends and what
 //! it writes.
 
+use crate::expecting::{expect, expect_text};
 use crate::outside::{content_in, disk_of, host_of, sink_of, words_of};
 use fish_disk::MemoryDisk;
 use fish_program::run;
@@ -8,7 +9,6 @@ use std::alloc::{AllocError, Global};
 use std::process::Abort;
 use std::test::Fail;
 use std::thread::Threads;
-use tests_values::{expect_same, expect_text};
 
 /// Three records, of which two are pushes.
 const FILES: &[(&str, &str)] = &[(
@@ -166,7 +166,7 @@ fn expect_refused<R: Threads + Sync + Abort>(
     let found = ended_by(rt, alloc, RUN, "", &mut disk)?;
     expect_text(rt, "refused", found.as_str(), want);
     let same = disk.as_bytes() == bytes;
-    expect_same(rt, "the same bytes", &same, &true);
+    expect(rt, "the same bytes", &same, &true);
     Ok(())
 }
 
@@ -175,7 +175,7 @@ fn a_disk_without_a_store_is_refused(rt: HostRuntime) -> Result<(), Fail> {
     let alloc = rt.alloc();
     let disk = store_of(&rt, alloc, INDEXED)?;
     let bytes = disk.as_bytes();
-    expect_same(&rt, "bytes", &bytes.len(), &180_416);
+    expect(&rt, "bytes", &bytes.len(), &180_416);
     let (cut, _) = bytes.split_at(bytes.len().min(180_400));
     expect_refused(&rt, alloc, cut, "4 fault store damaged 2 false 0\n")?;
     let none = b"{\"type\":\"Push\"}\n".as_slice();
@@ -203,7 +203,7 @@ fn no_call_of_the_disk_comes_before_the_script_was_read(rt: HostRuntime) -> Resu
         let found = ended_by(&rt, alloc, line, script, &mut disk)?;
         expect_text(&rt, line, found.as_str(), want);
     }
-    expect_same(&rt, "calls", &disk.calls.len(), &0);
+    expect(&rt, "calls", &disk.calls.len(), &0);
     Ok(())
 }
 
@@ -215,7 +215,7 @@ fn expect_disk_fault<R: Threads + Sync + Abort>(
 ) -> Result<(), AllocError> {
     let mut disk = disk_of(alloc, b"", Some(call))?;
     let found = ended_by(rt, alloc, RUN, "ingest json a\n", &mut disk)?;
-    expect_same(rt, "disk", &found.starts_with("5 fault disk false "), &true);
+    expect(rt, "disk", &found.starts_with("5 fault disk false "), &true);
     Ok(())
 }
 

@@ -12,7 +12,7 @@ ghost use Rattle.tests_store.specs.Heads.{AreOlder};
 use crate::flushing::store;
 use crate::images::catalog;
 use crate::older::file;
-use crate::told::numbers;
+use crate::told::{expect_all, numbers};
 use fish_catalog::{Catalog, PageStart, PageStarts};
 use fish_cold::Cold;
 use fish_disk::{Disk, MemoryDisk};
@@ -28,7 +28,6 @@ use std::fmt::Write;
 use std::marker::Brand;
 use std::sync::ledger::{Blank, Ledger};
 use std::test::Fail;
-use tests_values::expect_all;
 
 /// How the log is read, from which number on, and up to which.
 pub(crate) type Question = (How, Option<u32>, Option<u32>);

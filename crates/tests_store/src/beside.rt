@@ -13,7 +13,7 @@ ghost use Rattle.tests_store.specs.Flushing.{AreOut, IsEmptyLog, IsFlushing, IsO
 use crate::flushing::{SHAPE, commit, made, opened, store};
 use crate::passes::{Control, Seat};
 use crate::stored::{checked, counting, words_of};
-use crate::told::numbers;
+use crate::told::{expect, numbers};
 use fish_catalog::Commit;
 use fish_disk::{Disk, MemoryDisk};
 use fish_epoch::Defs;
@@ -23,7 +23,6 @@ use fish_value::Bytes;
 use std::alloc::{AllocError, Global};
 use std::test::Fail;
 use std::thread::{Threads, for_each_mut, join_mut};
-use tests_values::expect;
 
 /// How many records each lane stores.
 const RECORDS: usize = 200;

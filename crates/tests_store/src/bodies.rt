@@ -1,12 +1,12 @@
 //! The body of a slot by the places of its bytes, and bodies with one byte changed, worked out by hand.
 
+use crate::told::{expect, expect_all};
 use fish_catalog::{CatRow, Catalog, Commit};
 use fish_image::{has_format, is_within, read_slot, slot_body};
 use fish_value::{Bytes, Text};
 use std::alloc::{AllocError, Global};
 use std::fmt::Write;
 use std::test::Fail;
-use tests_values::{expect, expect_all};
 
 /// Places and lengths, and the bytes there in hexadecimal.
 const BYTES: &[((usize, usize), &str)] = &[

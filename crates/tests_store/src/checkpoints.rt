@@ -10,7 +10,7 @@ ghost use Rattle.std.specs.Prelude.{◌≡◌, IfOk, IfSome, OnOk, length};
 use crate::flushing::{SHAPE, commit, made, opened, store};
 use crate::passes::Control;
 use crate::stored::state;
-use crate::told::numbers;
+use crate::told::{expect_all, numbers};
 use fish_disk::{Disk, MemoryDisk};
 use fish_flush::FlushRefusal;
 use fish_rule::{Log, Pass, Start};
@@ -18,7 +18,6 @@ use fish_value::Bytes;
 use std::alloc::{AllocError, Global};
 use std::fmt::Write;
 use std::test::Fail;
-use tests_values::expect_all;
 
 /// The payloads that are stored before each commit.
 const STEPS: &[&[&str]] = &[

@@ -3,14 +3,13 @@
 
 ghost use Rattle.std.specs.Prelude.{◌≡◌, length};
 
-use crate::told::{bytes_of, numbers};
+use crate::told::{bytes_of, expect_all, numbers};
 use fish_disk::{Disk, MemoryDisk};
 use fish_outside::Failed;
 use fish_slots::{best, close_old, open_gate, seal};
 use fish_value::Bytes;
 use std::alloc::{AllocError, Global};
 use std::test::Fail;
-use tests_values::expect_all;
 
 /// Where the second gate, the bodies and the first two lines are, and how long a body is.
 const SECOND_GATE: usize = 4_096;

@@ -1,11 +1,10 @@
 //! What a crash leaves of a disk in memory, by the choice that `pick` makes for each write behind the last sync.
 
-use crate::told::{numbers, put_bytes};
+use crate::told::{expect_all, numbers, put_bytes};
 use fish_disk::{Disk, MemoryDisk};
 use fish_value::Bytes;
 use std::alloc::{AllocError, Global};
 use std::test::Fail;
-use tests_values::expect_all;
 
 /// `pick`, and what is left of the bytes `abcd`: over which `WX` was put at 1 and synced, then `pq` at 0 and `stuv`
 /// at 3. A point stands for a foreign byte.

@@ -1,7 +1,7 @@
 //! A store that is made on an empty disk in memory, stopped at each call of the disk, and what a crash then leaves:
 //! no commit that counts, or the first one.
 
-use crate::told::numbers;
+use crate::told::{expect_all, numbers};
 use fish_disk::MemoryDisk;
 use fish_flush::{FlushRefusal, create};
 use fish_image::read_slot;
@@ -9,7 +9,6 @@ use fish_rule::Shape;
 use fish_value::Bytes;
 use std::alloc::{AllocError, Global};
 use std::test::Fail;
-use tests_values::expect_all;
 
 /// The table for which the store is made.
 const SHAPE: Shape = Shape {

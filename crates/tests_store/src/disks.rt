@@ -1,11 +1,10 @@
 //! Disks in memory: what calls answer one after the other, worked out by hand.
 
-use crate::told::{numbers, put_bytes};
+use crate::told::{expect, expect_all, numbers, put_bytes};
 use fish_disk::{Disk, MemoryDisk, SureDisk};
 use fish_value::Bytes;
 use std::alloc::{AllocError, Global};
 use std::test::Fail;
-use tests_values::{expect, expect_all};
 
 /// Puts what a read of three bytes at a place gives behind a text.
 fn put_read<D: Disk>(told: &mut String, disk: &mut D, at: u64) -> Result<(), AllocError> {

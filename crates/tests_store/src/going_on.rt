@@ -9,7 +9,7 @@ use crate::older::answers_told;
 use crate::openings::ALL;
 use crate::passes::Control;
 use crate::reopened::{ASKED, Case, count_of, file_of};
-use crate::told::numbers;
+use crate::told::{expect, expect_all, numbers};
 use fish_catalog::Catalog;
 use fish_cold::Cold;
 use fish_disk::{Disk, MemoryDisk};
@@ -23,7 +23,6 @@ use std::marker::Brand;
 use std::sync::ledger::Blank;
 use std::test::Fail;
 use std::thread::{Threads, join_mut};
-use tests_values::{expect, expect_all};
 
 /// How many records are committed then, and how many the file opens with.
 const CASES: &[(Case, &str)] = &[

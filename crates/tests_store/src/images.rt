@@ -4,13 +4,13 @@
 ghost use Rattle.std.specs.Prelude.{◌<◌};
 ghost use Rattle.fish_image.specs.Commits.{IsWithin};
 
+use crate::told::{expect, expect_all};
 use fish_catalog::{CatRow, Catalog, Checked, Commit};
 use fish_image::{Checker, ImageRefusal, check_image, is_within};
 use fish_value::Text;
 use std::alloc::{AllocError, Global};
 use std::fmt::Write;
 use std::test::Fail;
-use tests_values::{expect, expect_all};
 
 /// Three records of two lines each, by lanes 1, 2 and 1, whose `type` is `Push`, `Pull` and `Push`. Their
 /// buckets are 5, 6 and 5 of 16.

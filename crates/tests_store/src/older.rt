@@ -4,7 +4,7 @@ ghost use Rattle.std.specs.Prelude.{◌≡◌, ◌<◌};
 ghost use Rattle.fish_psf.specs.Blanks.{IsBlankOf};
 
 use crate::images::WORDS;
-use crate::told::numbers;
+use crate::told::{expect, expect_all, numbers};
 use fish_catalog::{Entry, PageStart, PageStarts};
 use fish_cold::{Cold, ColdNode, ColdRefusal};
 use fish_disk::{Disk, MemoryDisk};
@@ -17,7 +17,6 @@ use std::fmt::Write;
 use std::marker::Brand;
 use std::sync::ledger::{Blank, Ledger};
 use std::test::Fail;
-use tests_values::{expect, expect_all};
 
 /// A word of the log that is changed, with the bits; how many words the file has; and which call of the disk fails.
 type Case = (usize, u64, usize, u64);

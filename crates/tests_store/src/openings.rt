@@ -1,7 +1,7 @@
 //! Stores of two slots, whose lines another program packed, as an opening finds them.
 
 use crate::images::{WORDS, checked_text, commit};
-use crate::told::{bytes_of, numbers};
+use crate::told::{bytes_of, expect_all, numbers};
 use fish_catalog::Commit;
 use fish_disk::MemoryDisk;
 use fish_image::{has_format, is_within, slot_body};
@@ -9,7 +9,6 @@ use fish_recover::{Asked, Found, OpenRefusal, find_store};
 use fish_value::Bytes;
 use std::alloc::{AllocError, Global};
 use std::test::Fail;
-use tests_values::expect_all;
 
 /// From one gate to the other, and behind that to the first body.
 const GATE_STEP: usize = 4_096;

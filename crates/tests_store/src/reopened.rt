@@ -2,7 +2,7 @@
 //! store opens as the same log, and a log that was opened goes on.
 
 use crate::openings::{ALL, Slot, store};
-use crate::told::numbers;
+use crate::told::{expect_all, numbers};
 use fish_disk::MemoryDisk;
 use fish_recover::{Asked, OpenRefusal, Opened, open_store};
 use fish_rule::{base, shape};
@@ -10,7 +10,6 @@ use fish_value::Bytes;
 use std::alloc::{AllocError, Global};
 use std::fmt::Write;
 use std::test::Fail;
-use tests_values::expect_all;
 
 /// Where the second gate is.
 const SECOND_GATE: usize = 4_096;

@@ -1,13 +1,12 @@
 //! A real file, of which nothing is proved: made at the first call, written, read and found again.
 
-use crate::told::put_bytes;
+use crate::told::{expect, put_bytes};
 use fish_disk::{Disk, FileDisk};
 use fish_value::Text;
 use std::alloc::AllocError;
 use std::fmt::Write;
 use std::test::Fail;
 use std::{env, fs, process};
-use tests_values::expect;
 
 /// A path in the folder for files that don't stay, by a name that no other process and no other test has.
 fn new_path(rt: &HostRuntime, test: &str) -> Result<Text, Fail> {

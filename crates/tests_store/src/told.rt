@@ -1,7 +1,30 @@
-//! Answers as texts, so that tables hold what is wanted in plain words.
+//! Answers as texts, so that tables hold what is wanted in plain words, and the two assertions.
 
 use fish_value::{Bytes, Numbers64};
 use std::alloc::{AllocError, Global};
+use std::process::Abort;
+
+/// Asserts of each row that what is told of its case is what is wanted.
+pub fn expect_all<R: Abort, C, E, F: Fn(Global, &C) -> Result<String, E>>(
+    rt: &R,
+    alloc: Global,
+    rows: &[(C, &str)],
+    told: F,
+) -> Result<(), E>
+    requires { F.IsAlwaysCallable told }
+{
+    for (number, row) in rows.iter().enumerate() {
+        let (case, want) = row;
+        let found = told(alloc, case)?;
+        assert_eq!(rt; found.as_str(), *want, "row {number}");
+    }
+    Ok(())
+}
+
+/// The same of one text.
+pub fn expect<R: Abort>(rt: &R, found: &str, want: &str) {
+    assert_eq!(rt; found, want);
+}
 
 /// A list of numbers.
 pub fn numbers(alloc: Global, all: &[u64]) -> Result<Numbers64, AllocError> {

@@ -6,6 +6,7 @@
 mod csv_files;
 #[cfg(test)]
 mod csv_rows;
+#[cfg(test)]
 mod expecting;
 #[cfg(test)]
 mod files;
@@ -39,7 +40,6 @@ mod told;
 #[cfg(test)]
 mod values;
 
-pub use expecting::{expect, expect_all, expect_same, expect_text};
 pub use told::{
     agreed, field_at, field_or_refusal, fields_text, items_at, path_of, text_of, value_text,
     values_text,
