@@ -1,7 +1,7 @@
 -- The lines of a file, stored one after the other.
 use Rattle.std.proofs.Common.{◌≡◌, ℕ, ◌+◌, ◌<◌, ◌≤◌, List, [], ◌∷◌, ◌++◌, length, map, take, refl, sym, ap, ◌∙◌, subst, inl, inr}
 use Rattle.std.proofs.Common.{⊎_elim, arith, append_assoc, append-nil, length-append, Option, Some, None, true, false, Bool}
-use Rattle.std.specs.Prelude.{is_some, option_map, if◌then◌else◌}
+use Rattle.std.specs.Prelude.{Err, IfOk, MatchOption, Ok, Result, is_some, option_map, if◌then◌else◌}
 use Rattle.std.proofs.lemmas.List.Sums.{sum_by-append}
 use Rattle.std.proofs.lemmas.Option.{same_Some}
 use Rattle.fish_csv.specs.Left.{left as rows_left}
@@ -22,15 +22,20 @@ use Rattle.fish_lanes.specs.within.Gains.{Gains}
 use Rattle.fish_lanes.specs.Records.{Content, contents}
 use Rattle.fish_lanes.specs.within.Registering.{KeepsRegistry}
 use Rattle.fish_lanes.specs.within.Sizes.{IsSizeBetween}
-use Rattle.fish_lanes.specs.within.Storing.{EndsWith, FindsFull, IsFullAt, IsPartStored, IsStoredUpTo, TakesLine}
-use Rattle.fish_lanes.specs.within.Storing.{item_of, nothing, one_refused, one_stored}
+use Rattle.fish_lanes.specs.within.Storing.{EndsWith, FindsFull, FindsTextFull, IsFullAt, IsGiven, IsPartStored, IsStoredUpTo}
+use Rattle.fish_lanes.specs.within.Storing.{TakesLine, TakesText, item_of, nothing, one_refused, one_stored}
 use Rattle.fish_lanes.specs.Telling.{AreCounted, all_of}
 use Rattle.fish_lanes.specs.declared.ingesting.Tally.{Tally}
 use Rattle.fish_lanes.specs.declared.work.Work.{Work}
 use Rattle.fish_lanes.specs.declared.work.Work.TheVariants as work
 use Rattle.fish_lines.specs.File.{accepted, refused}
 use Rattle.fish_lines.specs.Resuming.{outcomes_from}
+use Rattle.fish_lines.specs.Texts.{form_of, payload_in, text_form, texts_left}
 use Rattle.fish_lines.specs.declared.resuming.Begin.{Begin}
+use Rattle.fish_lines.specs.declared.texts.RecordText.{RecordText}
+use Rattle.fish_lines.specs.declared.texts.RecordText.TheVariants as text
+use Rattle.fish_lines.specs.declared.texts.RecordTexts.{RecordTexts}
+use Rattle.fish_lines.specs.declared.texts.RecordTexts.TheVariants as texts
 use Rattle.fish_psf.proofs.RecordLemmas.{csv_long, json_long}
 use Rattle.fish_psf.specs.Keys.{keys_of}
 use Rattle.fish_psf.specs.Records.{fields_of_payload, is_record}
@@ -168,23 +173,33 @@ stored_later v u t form outs behind tally gains keeps h = record {
   counted = h.counted;
 }
 
--- a line that was taken is stored where it is its payload
-pub stored_line : (v u t : View) (form : Form) (outs behind : List (Option (List ℕ))) (payload : List ℕ) (outcome : Option (List ℕ))
-    (tally after : Tally) → (is_record form payload ≡ true → outcome ≡ Some payload)
-    → (is_record form payload ≡ false → outcome ≡ None) → IsStoredUpTo v u form outs (outcome ∷ behind) tally
-    → TakesLine u t form payload tally after → IsStoredUpTo v t form outs behind after
-stored_line v u t form outs behind payload outcome tally after some none h (inl done) =
-    stored_more v u t form outs behind tally after payload done.0
-    (subst (λ (z : Option (List ℕ)). IsStoredUpTo v u form outs (z ∷ behind) tally) (some done.1.accepted) h) done.1 done.2
-stored_line v u t form outs behind payload outcome tally after some none h (inr left) =
-    stored_none_more v u t form outs behind tally after
-    (subst (λ (z : Option (List ℕ)). IsStoredUpTo v u form outs (z ∷ behind) tally) (none left.0) h)
-    (gains_unclaimed u t left.1) (keeps_ingests u t left.1.left.on) left.2
+-- a line or row that was taken as a payload is a text that was
+pub taken : {E : Type 0} (r : Result (Option Shut) E) (v u : View) (form : Form) (payload : List ℕ) (outcome : Option (List ℕ))
+    (t t' : Tally) → (is_record form payload ≡ true → outcome ≡ Some payload) → (is_record form payload ≡ false → outcome ≡ None)
+    → IfOk r (λ end. MatchOption end (TakesLine v u form payload t t') (FindsFull v u form payload t t'))
+    → IfOk r (λ end. MatchOption end (TakesText v u form outcome t t') (FindsTextFull v u form outcome t t'))
+taken (Ok None) v u form payload outcome t t' some none (inl done) =
+    subst (λ (o : Option (List ℕ)). TakesText v u form o t t') (sym (some done.1.accepted)) done
+taken (Ok None) v u form payload outcome t t' some none (inr left) =
+    subst (λ (o : Option (List ℕ)). TakesText v u form o t t') (sym (none left.0))
+    (gains_unclaimed v u left.1, keeps_ingests v u left.1.left.on, left.1.shut, left.2)
+taken (Ok (Some shut)) v u form payload outcome t t' some none f = (payload, some f.0, f.1, f.2)
+taken (Err e) v u form payload outcome t t' some none h = tt
 
--- a line that was taken leaves what had shut the pass
-pub takes_shut : (v u : View) (form : Form) (payload : List ℕ) (t t' : Tally) → TakesLine v u form payload t t' → u.shut ≡ v.shut
-takes_shut v u form payload t t' (inl h) = h.1.shut
-takes_shut v u form payload t t' (inr h) = h.1.shut
+-- a text that was taken is stored where it is a record
+pub stored_text : (v u t : View) (form : Form) (outs behind : List (Option (List ℕ))) (outcome : Option (List ℕ)) (tally after : Tally)
+    → IsStoredUpTo v u form outs (outcome ∷ behind) tally → TakesText u t form outcome tally after
+    → IsStoredUpTo v t form outs behind after
+stored_text v u t form outs behind (Some payload) tally after h done =
+    stored_more v u t form outs behind tally after payload done.0 h done.1 done.2
+stored_text v u t form outs behind None tally after h left =
+    stored_none_more v u t form outs behind tally after h left.0 left.1 left.3
+
+-- it leaves what had shut the pass
+pub text_shut : (v u : View) (form : Form) (outcome : Option (List ℕ)) (t t' : Tally) → TakesText v u form outcome t t'
+    → u.shut ≡ v.shut
+text_shut v u form (Some payload) t t' h = h.1.shut
+text_shut v u form None t t' h = h.2
 
 -- the claim that shuts a pass has the lines of the record that it prepared
 claim_size : (v u : View) (form : Form) (payload : List ℕ) (shut : Shut) → Learns v u → IsShutHere v form payload shut u
@@ -221,21 +236,21 @@ size_sooner v u t form payload lines learns h =
     let least = h.least in
     record { version = h.version; least = omega arith; rows = h.rows; knows = h.knows; size = h.size }
 
--- a line that found the log full
-pub full_line : (v u t : View) (form : Form) (outs behind : List (Option (List ℕ))) (payload : List ℕ) (outcome : Option (List ℕ))
-    (tally after : Tally) (shut : Shut) → Stands t → u.shut ≡ v.shut → (is_record form payload ≡ true → outcome ≡ Some payload)
-    → IsStoredUpTo v u form outs (outcome ∷ behind) tally → FindsFull u t form payload tally after shut
-    → IsFullAt v t form outs after shut
-full_line v u t form outs behind payload outcome tally after shut stands same some h f =
-    let is = f.1 in
+-- a text that found the log full
+pub full_text : (v u t : View) (form : Form) (outs behind : List (Option (List ℕ))) (outcome : Option (List ℕ)) (tally after : Tally)
+    (shut : Shut) → Stands t → u.shut ≡ v.shut → IsStoredUpTo v u form outs (outcome ∷ behind) tally
+    → FindsTextFull u t form outcome tally after shut → IsFullAt v t form outs after shut
+full_text v u t form outs behind outcome tally after shut stands same h f =
+    let payload = f.0 in
+    let is = f.2 in
     let e = refusal.Full shut.line shut.lines shut.end in
     let gains : Gains u t [] = gains_left u t is.left (keeps_refused u t form payload e is) (marks_refused u t form payload e is) in
     record {
       payload = payload;
       rest = behind;
-      stored = subst (λ (z : Tally). IsStoredUpTo v t form outs (Some payload ∷ behind) z) (sym f.2)
+      stored = subst (λ (z : Tally). IsStoredUpTo v t form outs (Some payload ∷ behind) z) (sym f.3)
           (stored_later v u t form outs (Some payload ∷ behind) tally gains (keeps_ingests u t is.left.on)
-          (subst (λ (z : Option (List ℕ)). IsStoredUpTo v u form outs (z ∷ behind) tally) (some f.0) h));
+          (subst (λ (z : Option (List ℕ)). IsStoredUpTo v u form outs (z ∷ behind) tally) f.1 h));
       full = full_by t shut.line shut.lines shut.end stands is.shut_is;
       size = ⊎_elim (λ (b : (u.shut ≡ Some shut) × HasNotClaimed u t). inl (sym same ∙ b.0))
           (λ (b : IsShutHere u form payload shut t). inr (size_sooner v u t form payload shut.lines h.gains.on.learns
@@ -281,13 +296,21 @@ head_record texts text more h = by (rows_in texts.rest.now) h
         first : (o : Option (List ℕ)) (os : List (Option (List ℕ))) → o ∷ os ≡ Some text ∷ more → o ≡ Some text
         first o os e = cc
 
--- each line takes one
-pub takes_one : (v u : View) (form : Form) (payload : List ℕ) (t t' : Tally) → TakesLine v u form payload t t'
+-- so is a row that a file gives
+pub text_given : (file : RecordTexts) (x : RecordText) (more : List (Option (List ℕ))) → text_form x ≡ form_of file
+    → texts_left file ≡ payload_in x ∷ more → IsGiven x
+text_given file (text.Line line) more same next = tt
+text_given file text.Refused more same next = tt
+text_given (texts.Rows rows) (text.Row row) more same next = head_record rows row more next
+text_given (texts.Lines lines) (text.Row row) more same next = absurd (let bad : Csv ≡ Json = same in cc)
+
+-- each text takes one
+pub text_one : (v u : View) (form : Form) (outcome : Option (List ℕ)) (t t' : Tally) → TakesText v u form outcome t t'
     → t'.stored + t'.refused ≡ t.stored + t.refused + 1
-takes_one v u form payload t t' (inl h) =
+text_one v u form (Some payload) t t' h =
     (let a = ap (λ (z : Tally). z.stored) h.2 in let b = ap (λ (z : Tally). z.refused) h.2 in omega arith)
-takes_one v u form payload t t' (inr h) =
-    (let a = ap (λ (z : Tally). z.stored) h.2 in let b = ap (λ (z : Tally). z.refused) h.2 in omega arith)
+text_one v u form None t t' h =
+    (let a = ap (λ (z : Tally). z.stored) h.3 in let b = ap (λ (z : Tally). z.refused) h.3 in omega arith)
 
 -- ---- the file
 

@@ -4,3 +4,4 @@ pub mod Lines
 pub mod Open
 pub mod Resuming
 pub mod Split
+pub mod Texts

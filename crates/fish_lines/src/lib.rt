@@ -11,9 +11,11 @@ mod lines;
 mod open_line;
 mod resuming;
 mod splitter;
+mod texts;
 
 pub use file::records;
 pub use found::{Records, RecordsRefusal};
 pub use lines::Lines;
 pub use resuming::{Begin, left_after};
 pub use splitter::{Line, LineList, Splitter, lines_of_pieces};
+pub use texts::{RecordText, RecordTexts};

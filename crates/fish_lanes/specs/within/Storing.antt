@@ -1,5 +1,5 @@
 -- How far the records of a file are stored.
-use Rattle.std.specs.Prelude.{ℕ, ◌≡◌, ◌+◌, ◌⊎◌, ◌++◌, List, [], ◌∷◌, Option, Some, None, false, true}
+use Rattle.std.specs.Prelude.{ℕ, ◌≡◌, ◌+◌, ◌⊎◌, ◌++◌, List, [], ◌∷◌, Option, Some, None, false, true, ⊤}
 use Rattle.fish_ingest.specs.Ingestion.{HasIngested}
 use Rattle.fish_ingest.specs.Refusal.{HasNotClaimed, IsFull}
 use Rattle.fish_lanes.specs.within.Gains.{Gains, IsFullBy}
@@ -9,12 +9,15 @@ use Rattle.fish_lanes.specs.within.Sizes.{IsSizeBetween}
 use Rattle.fish_lanes.specs.Telling.{AreCounted, all_of}
 use Rattle.fish_lanes.specs.declared.ingesting.Tally.{Tally}
 use Rattle.fish_lines.specs.File.{accepted}
+use Rattle.fish_lines.specs.declared.texts.RecordText.{RecordText}
+use Rattle.fish_lines.specs.declared.texts.RecordText.TheVariants as text
 use Rattle.fish_psf.specs.Records.{is_record}
 use Rattle.fish_report.specs.declared.item.Item.{Item}
 use Rattle.fish_report.specs.declared.item.Item.TheVariants as item
 use Rattle.fish_rule.specs.declared.view.Shut.{Shut}
 use Rattle.fish_rule.specs.declared.view.View.{View}
 use Rattle.fish_value.specs.declared.field.Form.{Form}
+use Rattle.fish_value.specs.declared.field.Form.TheVariants.{Csv}
 
 -- nothing yet
 abbrev pub nothing : Tally
@@ -41,6 +44,21 @@ TakesLine v u form payload t t' = ((number : ℕ) × HasIngested v form payload 
 -- the payload is a record, and found the log full
 abbrev pub FindsFull : View → View → Form → List ℕ → Tally → Tally → Shut → Type 0
 FindsFull v u form payload t t' shut = (is_record form payload ≡ true) × IsFull v form payload shut u × (t' ≡ t)
+
+-- the text of a line or row was taken: a record is stored, and one that is refused is counted
+abbrev pub TakesText : View → View → Form → Option (List ℕ) → Tally → Tally → Type 0
+TakesText v u form (Some payload) t t' = (number : ℕ) × HasIngested v form payload number u × (t' ≡ one_stored t)
+TakesText v u form None t t' = Gains v u [] × KeepsRegistry v u × (u.shut ≡ v.shut) × (t' ≡ one_refused t)
+
+-- it is that of a record, which found the log full
+abbrev pub FindsTextFull : View → View → Form → Option (List ℕ) → Tally → Tally → Shut → Type 0
+FindsTextFull v u form outcome t t' shut =
+    (payload : List ℕ) × (outcome ≡ Some payload) × IsFull v form payload shut u × (t' ≡ t)
+
+-- the text is one that a file gives: a row is a record
+abbrev pub IsGiven : RecordText → Type 0
+IsGiven (text.Row row) = is_record Csv row ≡ true
+IsGiven x = ⊤
 
 -- those in front are stored, those behind aren't read yet
 pub record IsStoredUpTo (v u : View) (form : Form) (outs behind : List (Option (List ℕ))) (tally : Tally) : Type 0 where

@@ -40,14 +40,14 @@ returns-then-file-gt-MAX_FILE-clause-item g c =
 pub returns-in-Ok-clause-item : goal.returns-in-Ok-clause-item
 returns-in-Ok-clause-item g c =
     let v = view c.args.pass.now in
-    let u = view c.ingest_form.new.pass in
+    let u = view c.ingest_records.new.pass in
     let w = work.Ingest c.args.form c.args.begin c.args.name.now c.args.file.now in
-    let tally = c.ingest_form.new.tally in
+    let tally = c.ingest_records.new.tally in
     subst (IsItem anywhere v u w)
     (sym (c.item_of.ensures ∙ ap (λ (z : List ℕ). item_of z tally c.in-Ok.end) c.in_ok-name.ensures))
     (file_item v u c.args.form c.args.begin c.args.name.now c.args.file.now tally c.in-Ok.end
     (let short = c.if-file-gt-MAX_FILE.false in omega arith) c.in-Ok.ensures.ends)
 
 pub returns-in-Err-clause-part : goal.returns-in-Err-clause-part
-returns-in-Err-clause-part g c = file_part (view c.args.pass.now) (view c.ingest_form.new.pass) c.args.form c.args.begin
+returns-in-Err-clause-part g c = file_part (view c.args.pass.now) (view c.ingest_records.new.pass) c.args.form c.args.begin
     c.args.name.now c.args.file.now c.in-Err.ensures.part
