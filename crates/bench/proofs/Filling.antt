@@ -40,7 +40,7 @@ filled images shape rows log pass later flusher fresh rest live of on =
       of = of;
       live = live;
       held = holds_on v u rows (ap (λ (z : View). z.lane) on.frame) (ap (λ (z : View). z.rows) on.frame)
-          (ap (λ (z : View). z.main_words) on.frame) held;
+          (ap (λ (z : View). z.control_words) on.frame) held;
       commit = first_commit shape;
       entries = [];
       carries = carries_on images flusher v u log.shape rows rows (first_commit shape) [] carries on.learns carries.grown;

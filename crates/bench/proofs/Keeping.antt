@@ -14,21 +14,21 @@ use Rattle.fish_rule.specs.declared.table.Log.{Log}
 use Rattle.fish_rule.specs.declared.table.Pass.{Pass}
 use Rattle.fish_rule.specs.declared.view.View.{View}
 
--- behind a call of the registrar
+-- after a call of the registrar
 pub kept_on : (top : ℕ) (log : Log) (p q : Pass) (r s : Registrar) → IsKept top log p r → IsPassOf log q
     → Knows (view q) s → Changes (view p) (view q) → IsKept top log q s
 kept_on top log p q r s h of knows changes = record {
   of = of;
   knows = knows;
   control = record {
-    main = ap (λ (z : View). z.lane) changes.frame ∙ h.control.main;
+    control = ap (λ (z : View). z.lane) changes.frame ∙ h.control.control;
     idle = ap (λ (z : View). z.flight) changes.frame ∙ h.control.idle;
     outside = ap (λ (z : View). z.epoch) changes.frame ∙ h.control.outside;
     below = λ lane among. h.control.below lane (subst (Among lane) (ap (λ (z : View). z.out) changes.frame) among);
   };
 }
 
--- behind a split
+-- after a split
 pub kept_split : (top : ℕ) (log : Log) (p q : Pass) (r : Registrar) → IsKept top log p r → IsPassOf log q
     → view q ≡ split_left (top + 1) (view p) → IsKept (top + 1) log q r
 kept_split top log p q r h of left =
@@ -36,7 +36,7 @@ kept_split top log p q r h of left =
     record {
       of = of;
       knows = knows_on (view p) (view q) r (ap (λ (z : View). z.lane) left) (ap (λ (z : View). z.rows) left)
-          (ap (λ (z : View). z.main_words) left) (ap (λ (z : View). z.round) left) learns h.knows;
+          (ap (λ (z : View). z.control_words) left) (ap (λ (z : View). z.round) left) learns h.knows;
       control = left_controls top (view p) h.control (view q) left;
     }
 
@@ -46,7 +46,7 @@ kept_within top log p r few h = record {
   of = h.of;
   knows = h.knows;
   control = record {
-    main = h.control.main;
+    control = h.control.control;
     idle = h.control.idle;
     outside = h.control.outside;
     below = λ lane among. let within = h.control.below lane among in omega arith;

@@ -54,7 +54,7 @@ entered_on : (v u : View) → IsEntered v → u.lane ≡ v.lane → u.flight ≡
 entered_on v u entered lane idle epoch =
     record { live = subst (λ (n : ℕ). 1 ≤ n) (sym lane) entered.live; idle = idle; epoch = epoch ∙ entered.epoch }
 
--- so it does behind the publication of a record that was placed
+-- so it does after the publication of a record that was placed
 module _ (v u : View) (lines number line : ℕ) (claimed : IsClaimed v lines (answer.Placed number line) u) where
   placed : Placed v lines number line u
   placed = placed_law v u lines number line claimed

@@ -11,39 +11,39 @@ use Rattle.fish_rule.specs.declared.view.View.{View}
 -- the control pass of a new log has given out no lane
 pub first_controls : (v : View) (k : Key) → v ≡ first_view k → IsControl 1 v
 first_controls v k is = subst (IsControl 1) (sym is)
-    (record { main = refl; idle = refl; outside = refl; below = λ lane among. absurd among })
+    (record { control = refl; idle = refl; outside = refl; below = λ lane among. absurd among })
 
-module _ (top : ℕ) (v : View) (control : IsControl top v) where
+module _ (top : ℕ) (v : View) (idle_control : IsControl top v) where
   -- the control pass has a lane, nothing in flight, and isn't entered
   live : 1 ≤ v.lane
-  live = let e = control.main in omega arith
+  live = let e = idle_control.control in omega arith
 
   pub control_enters : CanEnter v
-  control_enters = record { live = live; idle = control.idle }
+  control_enters = record { live = live; idle = idle_control.idle }
 
   pub control_starts : CanStart v
-  control_starts = record { live = live; outside = control.outside }
+  control_starts = record { live = live; outside = idle_control.outside }
 
   -- the lane above the last one may be given out
   pub control_splits : 1 ≤ top → top < 16 → CanSplitPass v (top + 1)
   control_splits some few = record {
-    main = control.main;
+    control = idle_control.control;
     above = omega arith;
     below = omega arith;
-    here = λ among. let within = control.below (top + 1) among in absurd (omega arith);
-    idle = control.idle;
+    here = λ among. let within = idle_control.below (top + 1) among in absurd (omega arith);
+    idle = idle_control.idle;
   }
 
   module _ (u : View) where
     -- then it is the last one
     pub left_controls : u ≡ split_left (top + 1) v → IsControl (top + 1) u
     left_controls is = subst (IsControl (top + 1)) (sym is) (record {
-      main = control.main;
-      idle = control.idle;
-      outside = control.outside;
+      control = idle_control.control;
+      idle = idle_control.idle;
+      outside = idle_control.outside;
       below = λ lane among. elim among [
         | inl same ↦ (let e = same in omega arith)
-        | inr before ↦ (let within = control.below lane before in omega arith)
+        | inr before ↦ (let within = idle_control.below lane before in omega arith)
       ];
     })
 

@@ -20,14 +20,14 @@ pub record IsReady (log : Log) (pass : Pass) : Type 0 where
 
 -- the control pass, idle, when no lane above this one was given out
 pub record IsControl (top : ℕ) (v : View) : Type 0 where
-  pub main : v.lane ≡ 1
+  pub control : v.lane ≡ 1
   pub idle : v.flight ≡ None
   pub outside : v.epoch ≡ Out
   pub below : (lane : ℕ) → Among lane v.out → lane ≤ top
 
 -- the log is empty, and begins with the definitions
 pub record IsOpened (opened : Opened) : Type 0 where
-  pub pass : IsPassOf opened.log opened.main
-  pub control : IsControl 1 (view opened.main)
+  pub pass : IsPassOf opened.log opened.control
+  pub control : IsControl 1 (view opened.control)
   pub active : AreActive opened.log.key.rows.value opened.defs.items
   pub defs : AreDefs opened.defs.items

@@ -45,7 +45,7 @@ pub fn definitions_of(alloc: Global, sources: Sources) -> Result<Definitions, Al
     Ok(definitions)
 }
 
-/// Adds a definition. What can't be added fails as a want of memory does.
+/// Adds a definition. What can't be added fails as if memory ran out.
 fn add(
     alloc: Global,
     definitions: &mut Definitions,

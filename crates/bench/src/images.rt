@@ -182,7 +182,7 @@ pub fn measure_image<R: Clock + AllocGlobal + Eprint>(rt: &R) -> Result<(), Allo
     Ok(())
 }
 
-/// The words of all records, each linked to the one in front of it.
+/// The words of all records, each linked to the one before it.
 fn image(alloc: Global) -> Result<Vec<u64>, AllocError> {
     let mut words = Vec::new(alloc);
     let mut prev = 0u64;

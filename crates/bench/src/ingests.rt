@@ -65,8 +65,8 @@ pub fn measure_ingest<R: Threads + Sync + Clock + AllocGlobal + Eprint>(
 ) -> Result<(), AllocError> {
     let alloc = rt.alloc();
     let definitions = definitions_of(alloc, OVER_EVENTS)?;
-    let Opened { log, main, defs } = open(alloc, SHAPE, definitions)?;
-    let measured = ingest_in(rt, &log, main, payloads, lanes);
+    let Opened { log, control, defs } = open(alloc, SHAPE, definitions)?;
+    let measured = ingest_in(rt, &log, control, payloads, lanes);
     drop(log);
     drop(defs);
     measured
@@ -76,15 +76,15 @@ pub fn measure_ingest<R: Threads + Sync + Clock + AllocGlobal + Eprint>(
 fn ingest_in<R: Threads + Sync + Clock + AllocGlobal + Eprint>(
     rt: &R,
     log: &Log,
-    main: Pass,
+    control: Pass,
     payloads: &[Text],
     lanes: LaneCount,
 ) -> Result<(), AllocError>
-    requires pass { IsPassOf log.now main }
-    requires control { IsControl 1 (view main) }
+    requires pass { IsPassOf log.now control }
+    requires control { IsControl 1 (view control) }
 {
     let alloc = rt.alloc();
-    let passes = passes_of(alloc, log, main, lanes)?;
+    let passes = passes_of(alloc, log, control, lanes)?;
     let share = payloads.len().div_ceil(usize::from(lanes.number()));
     let mut lanes = lanes_of(alloc, log, passes, payloads, share)?;
     time_lanes(rt, "ingest", "bytes", log, lanes.as_mut_slice());

@@ -16,7 +16,7 @@ use std::alloc::{AllocError, Global};
 #[derive(Drop)]
 pub struct Opened {
     pub log: Log,
-    pub main: Pass,
+    pub control: Pass,
     pub defs: Vec<ActiveDef>,
 }
 
@@ -30,26 +30,26 @@ pub fn open(alloc: Global, shape: Shape, definitions: Definitions) -> Result<Ope
     let Definitions { catalog, defs } = definitions;
     let _rows = catalog.rows();
     let start = Start::first(alloc, shape, catalog)?;
-    let (log, main) = open_log(alloc, shape, &start)?;
-    Ok(Opened { log, main, defs })
+    let (log, control) = open_log(alloc, shape, &start)?;
+    Ok(Opened { log, control, defs })
 }
 
 /// A pass for each of so many lanes, the control pass last.
 pub fn passes_of(
     alloc: Global,
     log: &Log,
-    main: Pass,
+    control: Pass,
     lanes: LaneCount,
 ) -> Result<Vec<Pass>, AllocError>
-    requires pass { IsPassOf log.now main }
-    requires control { IsControl 1 (view main) }
+    requires pass { IsPassOf log.now control }
+    requires control { IsControl 1 (view control) }
     ensures { IfOk result (λ passes. All (IsReady log.now) passes.items) }
 {
-    let mut main = main;
+    let mut control = control;
     let mut passes = Vec::new(alloc);
     for number in 1..lanes.number() {
-        passes.push(split_pass(log, &mut main, number + 1))?;
+        passes.push(split_pass(log, &mut control, number + 1))?;
     }
-    passes.push(main)?;
+    passes.push(control)?;
     Ok(passes)
 }

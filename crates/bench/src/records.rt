@@ -35,7 +35,7 @@ pub fn records_of<L: Ledger>(
     Ok(records)
 }
 
-/// The record of a payload. A payload that is none fails as a want of memory does.
+/// The record of a payload. A payload that is none fails as if memory ran out.
 fn record_of<L: Ledger>(
     alloc: Global,
     defs: &[ActiveDef],

@@ -71,10 +71,18 @@ pub fn measure_registrations<R: Threads + Sync + Clock + AllocGlobal + Eprint>(
     work: Work,
 ) -> Result<(), AllocError> {
     let alloc = rt.alloc();
-    let (log, mut main) = open_empty(alloc)?;
+    let (log, mut control) = open_empty(alloc)?;
     let mut registrar = Registrar::new(Catalog::new(alloc));
-    let measured = ingest_beside(rt, clock, &log, &mut main, &mut registrar, payloads, work);
-    drop((log, main, registrar));
+    let measured = ingest_beside(
+        rt,
+        clock,
+        &log,
+        &mut control,
+        &mut registrar,
+        payloads,
+        work,
+    );
+    drop((log, control, registrar));
     measured
 }
 
@@ -95,24 +103,24 @@ fn ingest_beside<R: Threads + Sync + Clock + AllocGlobal + Eprint>(
     rt: &R,
     clock: &HostRuntime,
     log: &Log,
-    main: &mut Pass,
+    control: &mut Pass,
     registrar: &mut Registrar,
     payloads: &[Text],
     work: Work,
 ) -> Result<(), AllocError>
-    requires { IsKept 1 log.now main.old registrar.old }
+    requires { IsKept 1 log.now control.old registrar.old }
 {
     let alloc = rt.alloc();
     let count = work.lanes.number();
-    let passes = passes_of(alloc, log, main, registrar, count)?;
+    let passes = passes_of(alloc, log, control, registrar, count)?;
     let share = payloads.len().div_ceil(usize::from(count));
     let mut lanes = lanes_of(alloc, log, passes, payloads, share)?;
-    let measured = match register_all(clock, log, main, registrar) {
+    let measured = match register_all(clock, log, control, registrar) {
         Ok(()) => run_beside(
             rt,
             clock,
             log,
-            main,
+            control,
             registrar,
             lanes.as_mut_slice(),
             work.changes,
@@ -127,66 +135,66 @@ fn ingest_beside<R: Threads + Sync + Clock + AllocGlobal + Eprint>(
 fn passes_of(
     alloc: Global,
     log: &Log,
-    main: &mut Pass,
+    control: &mut Pass,
     registrar: &Registrar,
     count: u8,
 ) -> Result<Vec<Pass>, AllocError>
-    requires kept { IsKept 1 log.now main.old registrar.now }
+    requires kept { IsKept 1 log.now control.old registrar.now }
     requires few { count ≤ 4 }
     ensures passes { IfOk result (λ passes. All (IsReady log.now) passes.items) }
-    ensures kept { OnOk result (IsKept 16 log.now main.new registrar.now) }
+    ensures kept { OnOk result (IsKept 16 log.now control.new registrar.now) }
 {
     let mut passes = Vec::new(alloc);
     for number in 1..count + 1 {
-        passes.push(next_pass(log, main, registrar, number))?;
+        passes.push(next_pass(log, control, registrar, number))?;
     }
     Ok(passes)
 }
 
 /// The pass of the next lane.
-fn next_pass(log: &Log, main: &mut Pass, registrar: &Registrar, top: u8) -> Pass
-    requires kept { IsKept top log.now main.old registrar.now }
+fn next_pass(log: &Log, control: &mut Pass, registrar: &Registrar, top: u8) -> Pass
+    requires kept { IsKept top log.now control.old registrar.now }
     requires few { (1 ≤ top) × (top < 16) }
     ensures ready { IsReady log.now result }
-    ensures kept { IsKept (top + 1) log.now main.new registrar.now }
+    ensures kept { IsKept (top + 1) log.now control.new registrar.now }
 {
-    split_pass(log, main, top + 1)
+    split_pass(log, control, top + 1)
 }
 
 /// Registers the definitions over events.
 fn register_all(
     clock: &HostRuntime,
     log: &Log,
-    main: &mut Pass,
+    control: &mut Pass,
     registrar: &mut Registrar,
 ) -> Result<(), AllocError>
-    requires { IsKept 16 log.now main.old registrar.old }
-    ensures { IsKept 16 log.now main.new registrar.new }
+    requires { IsKept 16 log.now control.old registrar.old }
+    ensures { IsKept 16 log.now control.new registrar.new }
 {
     for definition in OVER_EVENTS {
-        register(clock, log, main, registrar, *definition)?;
+        register(clock, log, control, registrar, *definition)?;
     }
     Ok(())
 }
 
-/// Registers a definition, and waits until its index begins. What can't be registered fails as a want of memory does.
+/// Registers a definition, and waits until its index begins. What can't be registered fails as if memory ran out.
 fn register(
     clock: &HostRuntime,
     log: &Log,
-    main: &mut Pass,
+    control: &mut Pass,
     registrar: &mut Registrar,
     definition: (&str, &str),
 ) -> Result<(), AllocError>
-    requires { IsKept 16 log.now main.old registrar.old }
-    ensures { IsKept 16 log.now main.new registrar.new }
+    requires { IsKept 16 log.now control.old registrar.old }
+    ensures { IsKept 16 log.now control.new registrar.new }
 {
     let (name, source) = definition;
     let name = name_of(clock.alloc(), name)?;
     let def = def_of(clock.alloc(), source)?;
-    let begun = begin(log, main, registrar, &name, &def);
+    let begun = begin(log, control, registrar, &name, &def);
     drop(def);
     if begun {
-        wait(clock, log, main, registrar);
+        wait(clock, log, control, registrar);
         return Ok(());
     }
     Err(AllocError)
@@ -214,31 +222,31 @@ fn def_of(alloc: Global, source: &str) -> Result<Def, AllocError>
 }
 
 /// Registers a definition. Whether it did.
-fn begin(log: &Log, main: &mut Pass, registrar: &mut Registrar, name: &Text, def: &Def) -> bool
-    requires kept { IsKept 16 log.now main.old registrar.old }
+fn begin(log: &Log, control: &mut Pass, registrar: &mut Registrar, name: &Text, def: &Def) -> bool
+    requires kept { IsKept 16 log.now control.old registrar.old }
     requires name { IsName name.now }
     requires def { IsSaid def.now }
-    ensures { IsKept 16 log.now main.new registrar.new }
+    ensures { IsKept 16 log.now control.new registrar.new }
 {
-    registrar.begin(log, main, name, def).is_ok()
+    registrar.begin(log, control, name, def).is_ok()
 }
 
 /// Looks at the lanes. Whether the registration still waits.
-fn look(log: &Log, main: &mut Pass, registrar: &mut Registrar) -> bool
-    requires { IsKept 16 log.now main.old registrar.old }
-    ensures { IsKept 16 log.now main.new registrar.new }
+fn look(log: &Log, control: &mut Pass, registrar: &mut Registrar) -> bool
+    requires { IsKept 16 log.now control.old registrar.old }
+    ensures { IsKept 16 log.now control.new registrar.new }
 {
-    matches!(registrar.poll(log, main), Poll::NotYet { .. })
+    matches!(registrar.poll(log, control), Poll::NotYet { .. })
 }
 
 /// Looks at the lanes until the index of the registration that waits begins, and sleeps between two looks, so that the
 /// lanes have the cores.
-fn wait(clock: &HostRuntime, log: &Log, main: &mut Pass, registrar: &mut Registrar)
-    requires { IsKept 16 log.now main.old registrar.old }
-    ensures { IsKept 16 log.now main.new registrar.new }
+fn wait(clock: &HostRuntime, log: &Log, control: &mut Pass, registrar: &mut Registrar)
+    requires { IsKept 16 log.now control.old registrar.old }
+    ensures { IsKept 16 log.now control.new registrar.new }
 {
     for _ in 0..TURNS {
-        if !look(log, main, registrar) {
+        if !look(log, control, registrar) {
             return;
         }
         sleep(clock, Duration::from_micros(PAUSE));
@@ -246,28 +254,28 @@ fn wait(clock: &HostRuntime, log: &Log, main: &mut Pass, registrar: &mut Registr
 }
 
 /// Ends a definition. Whether it did.
-fn end(log: &Log, main: &mut Pass, registrar: &mut Registrar, name: &Text) -> bool
-    requires { IsKept 16 log.now main.old registrar.old }
-    ensures { IsKept 16 log.now main.new registrar.new }
+fn end(log: &Log, control: &mut Pass, registrar: &mut Registrar, name: &Text) -> bool
+    requires { IsKept 16 log.now control.old registrar.old }
+    ensures { IsKept 16 log.now control.new registrar.new }
 {
-    registrar.end(log, main, name).is_ok()
+    registrar.end(log, control, name).is_ok()
 }
 
 /// Registers a definition and ends it again, so often.
 fn change(
     clock: &HostRuntime,
     log: &Log,
-    main: &mut Pass,
+    control: &mut Pass,
     registrar: &mut Registrar,
     times: u16,
 ) -> Result<(), AllocError>
-    requires { IsKept 16 log.now main.old registrar.old }
-    ensures { IsKept 16 log.now main.new registrar.new }
+    requires { IsKept 16 log.now control.old registrar.old }
+    ensures { IsKept 16 log.now control.new registrar.new }
 {
     for _ in 0..times {
-        register(clock, log, main, registrar, PUBLIC)?;
+        register(clock, log, control, registrar, PUBLIC)?;
         let name = name_of(clock.alloc(), PUBLIC.0)?;
-        if !end(log, main, registrar, &name) {
+        if !end(log, control, registrar, &name) {
             return Err(AllocError);
         }
     }
@@ -279,19 +287,19 @@ fn run_beside<R: Threads + Sync + Clock + Eprint>(
     rt: &R,
     clock: &HostRuntime,
     log: &Log,
-    main: &mut Pass,
+    control: &mut Pass,
     registrar: &mut Registrar,
     lanes: &mut [IngestLane],
     changes: Changes,
 ) -> Result<(), AllocError>
-    requires kept { IsKept 16 log.now main.old registrar.old }
+    requires kept { IsKept 16 log.now control.old registrar.old }
     requires lanes { AreLanes log.now lanes.old }
 {
     let (done, ()) = join_mut(
         rt,
         &mut || -> Result<(), AllocError>
-            requires { IsKept 16 log.now main.now registrar.now }
-        { change(clock, log, main, registrar, changes.number()) },
+            requires { IsKept 16 log.now control.now registrar.now }
+        { change(clock, log, control, registrar, changes.number()) },
         &mut || -> ()
             requires { IsSync R.row × AreLanes log.now lanes.now }
         { time_lanes(rt, changes.word(), "bytes", log, lanes) },

@@ -62,7 +62,7 @@ impl Values {
 #[derive(Drop)]
 pub struct Filled {
     pub log: Log,
-    pub main: Pass,
+    pub control: Pass,
 }
 
 /// What a scan or a selection gave.
@@ -88,10 +88,10 @@ fn measure_index<R: Clock + AllocGlobal + Eprint>(
 ) -> Result<(), AllocError> {
     let alloc = rt.alloc();
     let payloads = short_payloads(alloc, values)?;
-    let Filled { log, mut main } = fill_log(alloc, FEW, SHORT, payloads.as_slice())?;
+    let Filled { log, mut control } = fill_log(alloc, FEW, SHORT, payloads.as_slice())?;
     drop(payloads);
-    let measured = time_index(rt, &log, &mut main, values);
-    drop((log, main));
+    let measured = time_index(rt, &log, &mut control, values);
+    drop((log, control));
     measured
 }
 
@@ -117,24 +117,24 @@ pub fn fill_log(
     payloads: &[Text],
 ) -> Result<Filled, AllocError>
     requires { IsShape shape }
-    ensures { IfOk result (λ f. IsPassOf f.log f.main) }
+    ensures { IfOk result (λ f. IsPassOf f.log f.control) }
 {
     let definitions = definitions_of(alloc, sources)?;
-    let Opened { log, main, defs } = open(alloc, shape, definitions)?;
+    let Opened { log, control, defs } = open(alloc, shape, definitions)?;
     drop(defs);
-    let mut main = main;
-    ingest_anew(alloc, &log, &mut main, payloads);
-    Ok(Filled { log, main })
+    let mut control = control;
+    ingest_anew(alloc, &log, &mut control, payloads);
+    Ok(Filled { log, control })
 }
 
 /// Ingests payloads by the control pass of a new log.
-fn ingest_anew(alloc: Global, log: &Log, main: &mut Pass, payloads: &[Text])
-    requires pass { IsPassOf log.now main.old }
-    requires control { IsControl 1 (view main.old) }
-    ensures { IsPassOf log.now main.new }
+fn ingest_anew(alloc: Global, log: &Log, control: &mut Pass, payloads: &[Text])
+    requires pass { IsPassOf log.now control.old }
+    requires control { IsControl 1 (view control.old) }
+    ensures { IsPassOf log.now control.new }
 {
     let mut defs = Defs::new(alloc);
-    ingest_all(alloc, log, main, &mut defs, payloads);
+    ingest_all(alloc, log, control, &mut defs, payloads);
     drop(defs);
 }
 
@@ -143,19 +143,19 @@ fn ingest_anew(alloc: Global, log: &Log, main: &mut Pass, payloads: &[Text])
 fn time_index<R: Clock + AllocGlobal + Eprint>(
     rt: &R,
     log: &Log,
-    main: &mut Pass,
+    control: &mut Pass,
     values: Values,
 ) -> Result<(), AllocError>
-    requires { IsPassOf log.now main.old }
+    requires { IsPassOf log.now control.old }
 {
     let (walk, pass) = values.words();
-    let walked = walk_first(rt, log, main)?;
+    let walked = walk_first(rt, log, control)?;
     report(rt, walk, 1, walked.nanoseconds, walked.nodes, "nodes");
     let other = Value::Int(other_number(buckets(log)));
-    let passed = time_scan(rt, log, main, "a", other, How::Index)?;
+    let passed = time_scan(rt, log, control, "a", other, How::Index)?;
     report(rt, pass, 1, passed.nanoseconds, walked.nodes, "entries");
     match values {
-        Values::Same => time_given(rt, log, main),
+        Values::Same => time_given(rt, log, control),
         Values::Own => Ok(()),
     }
 }
@@ -164,23 +164,23 @@ fn time_index<R: Clock + AllocGlobal + Eprint>(
 fn time_given<R: Clock + AllocGlobal + Eprint>(
     rt: &R,
     log: &Log,
-    main: &mut Pass,
+    control: &mut Pass,
 ) -> Result<(), AllocError>
-    requires { IsPassOf log.now main.old }
+    requires { IsPassOf log.now control.old }
 {
     let first = Value::Int(FIRST as i64);
-    let given = time_scan(rt, log, main, "a", first, How::Index)?;
+    let given = time_scan(rt, log, control, "a", first, How::Index)?;
     report(rt, "given", 1, given.nanoseconds, given.rows, "rows");
     Ok(())
 }
 
 /// Walks down the chain of the bucket of the first record's value.
-fn walk_first<R: Clock>(rt: &R, log: &Log, main: &mut Pass) -> Result<Walked, AllocError>
-    requires { IsPassOf log.now main.old }
-    ensures { IsPassOf log.now main.new }
+fn walk_first<R: Clock>(rt: &R, log: &Log, control: &mut Pass) -> Result<Walked, AllocError>
+    requires { IsPassOf log.now control.old }
+    ensures { IsPassOf log.now control.new }
 {
     let first = Value::Int(FIRST as i64);
-    let walked = walk_bucket(rt, log, main, &first);
+    let walked = walk_bucket(rt, log, control, &first);
     drop(first);
     match walked {
         Some(walked) => Ok(walked),
@@ -189,28 +189,28 @@ fn walk_first<R: Clock>(rt: &R, log: &Log, main: &mut Pass) -> Result<Walked, Al
 }
 
 /// Walks down the chain of the bucket in which the entries of a value are, of the definition with id 0.
-fn walk_bucket<R: Clock>(rt: &R, log: &Log, main: &mut Pass, value: &Value) -> Option<Walked>
-    requires { IsPassOf log.now main.old }
-    ensures { IsPassOf log.now main.new }
+fn walk_bucket<R: Clock>(rt: &R, log: &Log, control: &mut Pass, value: &Value) -> Option<Walked>
+    requires { IsPassOf log.now control.old }
+    ensures { IsPassOf log.now control.new }
 {
     let bucket = bucket_of(key_hash(0, value), buckets(log)) as u32;
-    walk_counted::<R, Brand>(rt, log, main, bucket, Blank::new(1))
+    walk_counted::<R, Brand>(rt, log, control, bucket, Blank::new(1))
 }
 
 /// The same with a counter of a blank.
 fn walk_counted<R: Clock, L: Ledger>(
     rt: &R,
     log: &Log,
-    main: &mut Pass,
+    control: &mut Pass,
     bucket: u32,
     blank: Blank,
 ) -> Option<Walked>
     requires blank { IsBlankOf L.name L.parts blank }
-    requires pass { IsPassOf log.now main.old }
-    ensures { IsPassOf log.now main.new }
+    requires pass { IsPassOf log.now control.old }
+    ensures { IsPassOf log.now control.new }
 {
     let mut steps = Steps::<L>::new(blank);
-    walk_chain(rt, log, main, bucket, &mut steps)
+    walk_chain(rt, log, control, bucket, &mut steps)
 }
 
 /// The least number that no record has, whose entries would be in the bucket of the first record's value.
@@ -240,13 +240,13 @@ fn bucket_of_number(number: i64, count: u64) -> u64
 pub fn time_scan<R: Clock + AllocGlobal>(
     rt: &R,
     log: &Log,
-    main: &mut Pass,
+    control: &mut Pass,
     name: &str,
     value: Value,
     how: How,
 ) -> Result<Timed, AllocError>
-    requires { IsPassOf log.now main.old }
-    ensures { IsPassOf log.now main.new }
+    requires { IsPassOf log.now control.old }
+    ensures { IsPassOf log.now control.new }
 {
     let alloc = rt.alloc();
     let ask = Ask {
@@ -256,7 +256,7 @@ pub fn time_scan<R: Clock + AllocGlobal>(
         to: None,
         how,
     };
-    let timed = time_asked(rt, log, main, &ask);
+    let timed = time_asked(rt, log, control, &ask);
     drop(ask);
     match timed {
         Some(timed) => Ok(timed),
@@ -268,11 +268,11 @@ pub fn time_scan<R: Clock + AllocGlobal>(
 fn time_asked<R: Clock + AllocGlobal>(
     rt: &R,
     log: &Log,
-    main: &mut Pass,
+    control: &mut Pass,
     ask: &Ask,
 ) -> Option<Timed>
-    requires { IsPassOf log.now main.old }
-    ensures { IsPassOf log.now main.new }
+    requires { IsPassOf log.now control.old }
+    ensures { IsPassOf log.now control.new }
 {
     let mut defs = Defs::new(rt.alloc());
     let Ok(start) = Instant::now(rt) else {
@@ -284,7 +284,7 @@ fn time_asked<R: Clock + AllocGlobal>(
         Blank::new(1),
         Blank::new(1),
         log,
-        main,
+        control,
         &mut defs,
         ask,
     );
@@ -306,19 +306,19 @@ fn scanned<P: Ledger, L: Ledger>(
     parses: Blank,
     loads: Blank,
     log: &Log,
-    main: &mut Pass,
+    control: &mut Pass,
     defs: &mut Defs,
     ask: &Ask,
 ) -> Result<Answer, ScanRefusal>
     requires parses { IsBlankOf P.name P.parts parses }
     requires loads { IsBlankOf L.name L.parts loads }
-    requires pass { IsPassOf log.now main.old }
-    requires defs { IsDefsOf (view main.old) defs.old }
-    ensures { IsPassOf log.now main.new }
+    requires pass { IsPassOf log.now control.old }
+    requires defs { IsDefsOf (view control.old) defs.old }
+    ensures { IsPassOf log.now control.new }
 {
     let mut parses = Steps::<P>::new(parses);
     let mut loads = Steps::<L>::new(loads);
-    scan(alloc, log, main, defs, ask, &mut parses, &mut loads)
+    scan(alloc, log, control, defs, ask, &mut parses, &mut loads)
 }
 
 /// How many rows an answer has, if there is one.

@@ -35,9 +35,9 @@ pub fn measure_full<R: Clock + AllocGlobal + Eprint>(
     rt: &R,
     payloads: &[Text],
 ) -> Result<(), AllocError> {
-    let Filled { log, mut main } = fill_log(rt.alloc(), SHAPE, EVENTS, payloads)?;
-    let measured = time_full(rt, &log, &mut main, payloads);
-    drop((log, main));
+    let Filled { log, mut control } = fill_log(rt.alloc(), SHAPE, EVENTS, payloads)?;
+    let measured = time_full(rt, &log, &mut control, payloads);
+    drop((log, control));
     measured
 }
 
@@ -45,15 +45,15 @@ pub fn measure_full<R: Clock + AllocGlobal + Eprint>(
 fn time_full<R: Clock + AllocGlobal + Eprint>(
     rt: &R,
     log: &Log,
-    main: &mut Pass,
+    control: &mut Pass,
     payloads: &[Text],
 ) -> Result<(), AllocError>
-    requires { IsPassOf log.now main.old }
+    requires { IsPassOf log.now control.old }
 {
     let bytes = bytes_of(payloads);
-    settle(log, main);
+    settle(log, control);
     for &(kind, full, select) in TYPES {
-        let (scanned, selected) = time_type(rt, log, main, payloads, kind)?;
+        let (scanned, selected) = time_type(rt, log, control, payloads, kind)?;
         report(rt, full, 1, scanned.nanoseconds, bytes, "bytes");
         report(rt, select, 1, selected.nanoseconds, bytes, "bytes");
     }
@@ -64,15 +64,15 @@ fn time_full<R: Clock + AllocGlobal + Eprint>(
 fn time_type<R: Clock + AllocGlobal>(
     rt: &R,
     log: &Log,
-    main: &mut Pass,
+    control: &mut Pass,
     payloads: &[Text],
     kind: &str,
 ) -> Result<(Timed, Timed), AllocError>
-    requires { IsPassOf log.now main.old }
-    ensures { IsPassOf log.now main.new }
+    requires { IsPassOf log.now control.old }
+    ensures { IsPassOf log.now control.new }
 {
     let value = Value::Text(Text::copy_of(rt.alloc(), kind)?);
-    let scanned = time_scan(rt, log, main, "type", value, How::Full)?;
+    let scanned = time_scan(rt, log, control, "type", value, How::Full)?;
     let selected = time_select(rt, kind, payloads)?;
     if scanned.rows != selected.rows {
         return Err(AllocError);
@@ -192,7 +192,7 @@ fn select_all<P: Ledger>(
     }
 }
 
-/// Puts them behind the rows.
+/// Puts them after the rows.
 fn add_selected<P: Ledger>(
     alloc: Global,
     reader: &mut RecordReader,
@@ -231,7 +231,7 @@ fn has_value<P: Ledger>(
     }
 }
 
-/// Puts a payload behind the rows.
+/// Puts a payload after the rows.
 fn push_row(alloc: Global, rows: &mut Rows, number: u32, payload: &Text) -> Result<(), AllocError> {
     let payload = payload.again(alloc)?;
     rows.push(Row { number, payload })

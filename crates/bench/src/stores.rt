@@ -56,8 +56,8 @@ pub fn measure_stores<R: Threads + Sync + Clock + AllocGlobal + Eprint>(
     lanes: LaneCount,
 ) -> Result<(), AllocError> {
     let alloc = rt.alloc();
-    let Opened { log, main, defs } = open_for(alloc, workload)?;
-    let measured = store_in(rt, &log, main, defs.as_slice(), workload, lanes);
+    let Opened { log, control, defs } = open_for(alloc, workload)?;
+    let measured = store_in(rt, &log, control, defs.as_slice(), workload, lanes);
     drop(log);
     drop(defs);
     measured
@@ -67,18 +67,18 @@ pub fn measure_stores<R: Threads + Sync + Clock + AllocGlobal + Eprint>(
 fn store_in<R: Threads + Sync + Clock + AllocGlobal + Eprint>(
     rt: &R,
     log: &Log,
-    main: Pass,
+    control: Pass,
     defs: &[ActiveDef],
     workload: Workload,
     lanes: LaneCount,
 ) -> Result<(), AllocError>
-    requires pass { IsPassOf log.now main }
-    requires control { IsControl 1 (view main) }
+    requires pass { IsPassOf log.now control }
+    requires control { IsControl 1 (view control) }
     requires active { AreActive log.now.key.rows.value defs.now }
     requires defs { AreDefs defs.now }
 {
     let alloc = rt.alloc();
-    let passes = passes_of(alloc, log, main, lanes)?;
+    let passes = passes_of(alloc, log, control, lanes)?;
     let share = RECORDS / u64::from(lanes.number());
     let mut lanes = lanes_of(alloc, log, passes, defs, workload, share)?;
     time_lanes(rt, workload.name(), "records", log, lanes.as_mut_slice());

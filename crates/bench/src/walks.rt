@@ -36,8 +36,8 @@ pub fn measure_walk<R: Clock + AllocGlobal + Eprint>(
     rt: &R,
     workload: Workload,
 ) -> Result<(), AllocError> {
-    let Opened { log, main, defs } = open_for(rt.alloc(), workload)?;
-    let walked = store_and_walk(rt, &log, main, defs.as_slice(), workload);
+    let Opened { log, control, defs } = open_for(rt.alloc(), workload)?;
+    let walked = store_and_walk(rt, &log, control, defs.as_slice(), workload);
     drop(log);
     drop(defs);
     let Walked { nodes, nanoseconds } = walked?;
@@ -49,12 +49,12 @@ pub fn measure_walk<R: Clock + AllocGlobal + Eprint>(
 fn store_and_walk<R: Clock + AllocGlobal>(
     rt: &R,
     log: &Log,
-    main: Pass,
+    control: Pass,
     defs: &[ActiveDef],
     workload: Workload,
 ) -> Result<Walked, AllocError>
-    requires pass { IsPassOf log.now main }
-    requires control { IsControl 1 (view main) }
+    requires pass { IsPassOf log.now control }
+    requires control { IsControl 1 (view control) }
     requires active { AreActive log.now.key.rows.value defs.now }
     requires defs { AreDefs defs.now }
 {
@@ -62,7 +62,7 @@ fn store_and_walk<R: Clock + AllocGlobal>(
         mut pass,
         mut records,
         stored: _,
-    } = lane_of(rt.alloc(), log, main, defs, workload, RECORDS)?;
+    } = lane_of(rt.alloc(), log, control, defs, workload, RECORDS)?;
     store_all(log, &mut pass, &mut records);
     drop(records);
     let walked = walk_longest::<R, Brand>(rt, log, &mut pass, Blank::new(1));

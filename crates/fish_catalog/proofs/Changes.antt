@@ -1,4 +1,4 @@
--- What always holds of rows stays, as one is put behind the others, and as a beginning is set.
+-- What always holds of rows stays, as one is put after the others, and as a beginning is set.
 use Rattle.std.proofs.Common.{◌≡◌, ℕ, zero, suc, ◌+◌, ◌<◌, List, [], ◌∷◌, ◌++◌, Option, Some, None, ◌⊎◌, inl, inr, cond}
 use Rattle.std.proofs.Common.{is_none, length, get_or, set, refl, sym, ap, subst, ◌∙◌, arith, length-append, slice_get}
 use Rattle.std.proofs.Common.{All, count_by}
@@ -61,7 +61,7 @@ count_push rows y active = omega (
   ap {B = ℕ} (λ (t : Option ℕ). cond (is_none t) 1 0) active,
 )
 
--- an active row with the next id, behind the others
+-- an active row with the next id, after the others
 pub IsCatalog-push : (rows : List CatRow) (y : CatRow) → IsCatalog rows → y.id ≡ length rows → IsRow y → IsActive y →
     ¬ HasActive rows y.name → count_by is_active rows < most_active → length rows < most_rows →
     IsCatalog (rows ++ y ∷ [])

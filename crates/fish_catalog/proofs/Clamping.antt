@@ -9,7 +9,7 @@ use Rattle.fish_catalog.specs.Clamps.{IsClamped, begun_by, clamped}
 use Rattle.fish_catalog.specs.Rows.{IsCatalog, IsInOrder, IsRow, is_active}
 use Rattle.fish_catalog.specs.declared.row.CatRow.{CatRow}
 
--- a cut index ends where it begins or behind
+-- a cut index ends where it begins or after
 order_clamped : (n : ℕ) (from to : Option ℕ) → IsInOrder from to
     → IsInOrder (Some (begun_by n from)) (option_map (λ t. min t n) to)
 order_clamped n from None h = tt

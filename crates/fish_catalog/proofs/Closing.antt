@@ -134,7 +134,7 @@ count_closed rows id to row there active =
       ap {B = ℕ} (λ (t : Option ℕ). cond (is_none t) 1 0) active,
     )
 
--- an end where the index began or behind
+-- an end where the index began or after
 closes_in_order : (begin : Option ℕ) (from to : ℕ) → begin ≡ Some from → from ≤ to → IsInOrder begin (Some to)
 closes_in_order begin from to begins upto = subst (λ b. IsInOrder b (Some to)) (sym begins) upto
 

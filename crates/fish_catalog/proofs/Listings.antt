@@ -65,7 +65,7 @@ listing_of_catalog rows h = record {
 
 -- ---- one more
 
--- the definition that a registration puts behind the others
+-- the definition that a registration puts after the others
 abbrev newest : List Listed → List ℕ → List ℕ → Listed
 newest ls name text = record { id = length ls; name = name; def = text; active = true }
 
@@ -86,7 +86,7 @@ apart_more ls y old free i j one other at_i at_j on other_on same =
       ]
     ]
 
--- a definition that may be registered, behind the others
+-- a definition that may be registered, after the others
 pub listing_registered : (ls : List Listed) (name text : List ℕ) → IsListing ls → IsNew ls name text →
     IsListing (ls ++ record { id = length ls; name = name; def = text; active = true } ∷ [])
 listing_registered ls name text old new =

@@ -12,7 +12,7 @@ use Rattle.fish_catalog.specs.declared.row.CatRow.{CatRow}
 abbrev pub NoneBelow : (CatRow → Type 0) → List CatRow → ℕ → Type 0
 NoneBelow P rows n = (k : ℕ) → k < n → (row : CatRow) → slice_get rows k ≡ Some row → P row → ⊥
 
--- the row with this id has the name, and none behind it and below n has
+-- the row with this id has the name, and none after it and below n has
 pub record NewestBelow (rows : List CatRow) (name : List ℕ) (n id : ℕ) : Type 0 where
   pub row : CatRow
   pub there : slice_get rows id ≡ Some row
@@ -32,7 +32,7 @@ from_front (suc n) [] k row h = absurd cc
 from_front (suc n) (x ∷ rows) zero row h = h
 from_front (suc n) (x ∷ rows) (suc k) row h = from_front n rows k row h
 
--- and what stands in front of a position stands in the list's front
+-- and what stands before a position stands in the list's front
 in_front : (n : ℕ) (rows : List CatRow) (k : ℕ) (row : CatRow) → k < n → slice_get rows k ≡ Some row
     → slice_get (take n rows) k ≡ Some row
 in_front zero rows k row less h = absurd (omega arith)
@@ -40,7 +40,7 @@ in_front (suc n) [] k row less h = absurd cc
 in_front (suc n) (x ∷ rows) zero row less h = h
 in_front (suc n) (x ∷ rows) (suc k) row less h = in_front n rows k row (omega arith) h
 
--- rows are apart where no active one has the name of an active one in front of it
+-- rows are apart where no active one has the name of an active one before it
 pub apart_all : (rows : List CatRow)
     → ((k : ℕ) → k < length rows → (row : CatRow) → slice_get rows k ≡ Some row → IsActive row → IsAlone (take k rows) row.name)
     → AreApart rows
@@ -55,7 +55,7 @@ apart_all rows alone j k one other at_j at_k active other_active same =
       ]
     ]
 
--- and then so is each in front of another
+-- and then so is each before another
 pub apart_alone : (rows : List CatRow) (n : ℕ) (row : CatRow) → AreApart rows → slice_get rows n ≡ Some row → IsActive row
     → IsAlone (take n rows) row.name
 apart_alone rows n row apart at active k other there other_active same =

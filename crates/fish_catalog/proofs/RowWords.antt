@@ -45,7 +45,7 @@ text_same f g h =
     (ranges_same f g 7 7 32 (λ i few. h (7 + i) (omega arith) (omega arith)))
     ∙ ap (λ w. bytes_in (map g (range_with_len 7 32)) (text_size w)) (h 2 (omega arith) (omega arith))
 
--- a definition is read from the words behind the two boundaries alone
+-- a definition is read from the words after the two boundaries alone
 pub listed_same : (f g : ℕ → ℕ) (id : ℕ) (active : Bool) → ((i : ℕ) → 2 ≤ i → i < 39 → f i ≡ g i) →
     listed_in f id active ≡ listed_in g id active
 listed_same f g id active h =
@@ -54,7 +54,7 @@ listed_same f g id active h =
 
 -- ---- the words of a row say what it is
 
--- what holds of each byte holds of the 0 behind the end
+-- what holds of each byte holds of the 0 past the end
 small_at : (b : List ℕ) → All (λ x. x < 256) b → (i : ℕ) → get_or b i 0 < 256
 small_at b small i =
     elim (cases_lt i (length b)) [

@@ -11,7 +11,7 @@ begun_by n (Some from) = min from n
 abbrev pub clamped : ℕ → CatRow → CatRow
 clamped n row = record row { from = Some (begun_by n row.from); to = option_map (λ to. min to n) row.to }
 
--- the row's index begins, and neither begins nor ends behind the count
+-- the row's index begins, and neither begins nor ends after the count
 pub record IsClamped (n : ℕ) (row : CatRow) : Type 0 where
   pub from : ℕ
   pub begins : row.from ≡ Some from

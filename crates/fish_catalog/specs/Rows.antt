@@ -17,7 +17,7 @@ is_active row = is_none row.to
 abbrev pub IsActive : CatRow → Type 0
 IsActive row = row.to ≡ None
 
--- an index that ends has begun, and ends where it began or behind it
+-- an index that ends has begun, and ends where it began or after it
 abbrev pub IsInOrder : Option ℕ → Option ℕ → Type 0
 IsInOrder from None = Unit {0}
 IsInOrder None (Some to) = ⊥

@@ -34,7 +34,7 @@ pub fn parse_canonical(alloc: Global, text: &[u8]) -> Result<Def, AllocError>
     Ok(def)
 }
 
-/// A text that is no definition isn't canonical; want of memory says nothing of it.
+/// A text that is no definition isn't canonical; where memory runs out, that says nothing of it.
 fn refused(refusal: LangRefusal) -> Result<bool, AllocError>
     ensures { IfOk result (λ canonical. (canonical ≡ false) × (refusal ≢ LangRefusal.OutOfMemory)) }
 {

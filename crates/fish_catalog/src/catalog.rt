@@ -145,7 +145,7 @@ impl Catalog {
         *self.rows.allocator()
     }
 
-    /// Puts an active row with the next id behind the others.
+    /// Puts an active row with the next id after the others.
     pub fn add(&mut self, name: &Text, def: &Text) -> Result<u16, CatRefusal>
         requires name { IsName name.now }
         requires def { IsCanonical def.now }
@@ -165,7 +165,7 @@ impl Catalog {
         Ok(self.push_row(name, def)?)
     }
 
-    /// Whether an active row of this name may be put behind the others. Takes no memory.
+    /// Whether an active row of this name may be put after the others. Takes no memory.
     pub fn may_add(&self, name: &Text) -> Result<(), CatRefusal>
         ensures active { IsErrOf result CatRefusal.NameActive ↔ HasActive self.now name.now }
         ensures many_active { IsErrOf result CatRefusal.TooManyActive ↔
@@ -190,7 +190,7 @@ impl Catalog {
         Ok(())
     }
 
-    /// Puts an active row with the next id behind the others, where there is room for it.
+    /// Puts an active row with the next id after the others, where there is room for it.
     fn push_row(&mut self, name: &Text, def: &Text) -> Result<u16, AllocError>
         requires name { IsName name.now }
         requires def { IsCanonical def.now }

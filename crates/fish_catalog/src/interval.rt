@@ -14,14 +14,14 @@ pub struct Interval {
     pub id: u16,
     /// The first record of its index.
     pub from: u32,
-    /// The first record behind its index, or none where the row is active.
+    /// The first record after its index, or none where the row is active.
     pub to: Option<u32>,
 }
 
 /// The intervals of a definition, by id.
 pub type Intervals = Sequence<Interval>;
 
-/// Puts the interval of a row behind the others, where the row has the text and its index has begun.
+/// Puts the interval of a row after the others, where the row has the text and its index has begun.
 pub(crate) fn add_interval(
     intervals: &mut Intervals,
     row: &CatRow,

@@ -91,7 +91,7 @@ fn is_row(alloc: Global, row: &CatRow) -> Result<bool, AllocError>
     is_canonical(alloc, &row.def)
 }
 
-/// Whether an index that ends has begun, and not behind its end.
+/// Whether an index that ends has begun, and not past its end.
 fn are_in_order(from: Option<u32>, to: Option<u32>) -> bool
     ensures { IsTrue result ↔ IsInOrder from to }
 {

@@ -25,7 +25,7 @@ pub struct CatRow {
     pub def: Text,
     /// The first record of its index, or none where the index hasn't begun.
     pub from: Option<u32>,
-    /// The first record behind its index, or none where the row is active.
+    /// The first record after its index, or none where the row is active.
     pub to: Option<u32>,
 }
 

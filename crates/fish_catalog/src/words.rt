@@ -75,7 +75,7 @@ fn word_of_sizes(row: &CatRow) -> u64
     name + text * 0x100 + u64::from(row.is_active()) * 0x1_0000
 }
 
-/// The word of eight bytes, with zero bytes behind the end.
+/// The word of eight bytes, with zero bytes past the end.
 fn word_of_bytes(bytes: &[u8], position: usize) -> u64
     requires { position < 39 }
     ensures { result ≡ word_at bytes.now position }
@@ -93,7 +93,7 @@ fn word_of_bytes(bytes: &[u8], position: usize) -> u64
     ])
 }
 
-/// The byte at a position, or 0 behind the end.
+/// The byte at a position, or 0 past the end.
 fn byte_at(bytes: &[u8], position: usize) -> u8
     ensures { result ≡ slice_index bytes.now position }
 {

@@ -74,7 +74,7 @@ given_found v u node lines x to given sees =
 pub no_mark : (f : Found) → f.kind ≡ Stored → f.kind ≢ Mark
 no_mark f is e = (let bad : Stored ≡ Mark = sym is ∙ e in cc)
 
--- how a record is divided whose region was found: its key entries, and the values behind them
+-- how a record is divided whose region was found: its key entries, and the values after them
 pub record IsDivided (n c : ℕ) (f : Found) (w : World) : Type 0 where
   pub entry : IsEntryAt n c w
   pub counts : c < length entry.parts.keys
@@ -111,7 +111,7 @@ given_divided v node f s given among number is =
 
 -- ---- what may be read
 
--- the word of a byte behind the key entries may be read
+-- the word of a byte after the key entries may be read
 pub read_within : (v u : View) (n line first size done : ℕ) → Learns v u → HasBytes v n line first size → done < size
     → (f : Found) × CanReadWord u f ((first + done) / 8) × (f.line ≡ line) × (f.number ≡ n)
 read_within v u n line first size done learns h less =

@@ -27,7 +27,7 @@ pub first_known : (k : Key) (v : View) (b x : ℕ) → v.about ≡ k → (x ≤ 
     → IsPast v x → x ≡ first_head v.about b
 first_known k v b x about first = subst (λ (z : Key). x ≤ z.line * 4 → x ≡ first_head z b) (sym about) first
 
--- a place behind the key's base is behind the view's
+-- a place after the key's base is after the view's
 pub behind_known : (k : Key) (v : View) (x : ℕ) → v.about ≡ k → k.line * 4 < x → v.about.line * 4 < x
 behind_known k v x about more = subst (λ (z : Key). z.line * 4 < x) (sym about) more
 
@@ -177,7 +177,7 @@ module _ (v u t : View) (walk : Walk) (word below : ℕ) (walking : IsWalking v 
         (label_outside t (label_at v walk.place word) walk.from walk.to turn_label out) turn_clear goes.clear;
   }
 
-  -- an entry of the range is given, and the walk goes on behind it
+  -- an entry of the range is given, and the walk goes on after it
   pub gone_on : IsWalking t (record walk { given = walk.place; place = below })
   gone_on = record { settled = turn_settled; at = turn_at walk.place (omega arith); clear = goes.clear }
 

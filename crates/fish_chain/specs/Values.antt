@@ -58,12 +58,12 @@ abbrev pub AreBytesIn : ℕ → ℕ → List ℕ → ℕ → Key → World → T
 AreBytesIn n first bytes some k w =
     (j : ℕ) → j < some → byte_at (words_in n w) (first + j) ≡ slice_index bytes j
 
--- the bytes from one on up to another are those of a word, each at its place behind the record's first byte
+-- the bytes from one on up to another are those of a word, each at its place after the record's first byte
 abbrev pub AreBytesOf : ℕ → ℕ → List ℕ → ℕ → ℕ → Type 0
 AreBytesOf word first bytes from to =
     (j : ℕ) → from ≤ j → j < to → slice_index (to_le_bytes w64 word) ((first + j) % 8) ≡ slice_index bytes j
 
--- the region of a record at a line was found, its header read, and so many bytes from one on lie behind its key entries
+-- the region of a record at a line was found, its header read, and so many bytes from one on lie after its key entries
 -- and within the region
 pub record HasBytes (v : View) (n line first size : ℕ) : Type 0 where
   pub found : Found

@@ -16,7 +16,7 @@ abbrev pub IsPast : View → ℕ → Type 0
 IsPast v place = place ≤ v.about.line * 4
 
 -- nothing of the table is left at the place where a walk goes on: it is the head that the bucket had at the start,
--- unless the walk stopped before, since its range begins behind the base
+-- unless the walk stopped before, since its range begins after the base
 pub record IsRest (v : View) (bucket from place : ℕ) : Type 0 where
   pub past : IsPast v place
   pub first : from ≤ v.about.number → place ≡ first_head v.about bucket
@@ -47,7 +47,7 @@ pub record IsNumbered (v : View) (place number : ℕ) : Type 0 where
   pub place_is : label.place ≡ place
   pub number_is : entry_number label.word ≡ number
 
--- a walk may go on at this place behind the entry where it stands: the place is lower, that of an entry of the
+-- a walk may go on at this place after the entry where it stands: the place is lower, that of an entry of the
 -- bucket or none of the table's, and no entry of the range lies between
 pub record LeadsTo (v : View) (walk : Walk) (place : ℕ) : Type 0 where
   pub lower : place < walk.place

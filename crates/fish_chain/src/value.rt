@@ -116,7 +116,7 @@ fn are_bytes<L: Ledger>(
     true
 }
 
-/// Whether a word has these bytes from one on up to another, each at its place behind the record's first byte.
+/// Whether a word has these bytes from one on up to another, each at its place after the record's first byte.
 fn has_bytes_from(word: u64, first: u64, bytes: &[u8], from: usize, to: usize) -> bool
     requires few { (first < 2 ^ 20) × (length bytes.now < 2 ^ 9) }
     requires within { (from ≤ to) × (to ≤ length bytes.now) }

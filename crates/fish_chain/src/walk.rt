@@ -109,7 +109,7 @@ pub fn walk_rest(log: &Log, pass: &mut Pass) -> u64
     kept_walk(pass).place
 }
 
-/// Where a walk goes on behind an entry of a record: at the next older one, or nowhere where all older
+/// Where a walk goes on after an entry of a record: at the next older one, or nowhere where all older
 /// records lie below the range.
 fn place_below<L: Ledger>(
     log: &Log,

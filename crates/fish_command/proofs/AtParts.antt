@@ -18,9 +18,9 @@ use Rattle.fish_command.proofs.Arguments.{shape, rules, plain_built, option_buil
 use Rattle.fish_command.proofs.Walks.{unless, judged, judged_next, judged_end, Stands, at, behind, wanted}
 use Rattle.fish_command.proofs.Walks.{with_plain, plain_stands, Reads, Spots, turn_to, turn_fails, either_none}
 
--- ---- words behind `--`
+-- ---- words after `--`
 
--- a word behind `--` is no fault
+-- a word after `--` is no fault
 trailing_turn : (b : Bool) (x : Word) (h : Held) → settle_fault rules false h ≡ []
     → turn_fault shape [] (behind b h) x ≡ []
 trailing_turn b x h settles = rw (and-false (is_pending plain_built h.pending)) settles
@@ -57,7 +57,7 @@ words_next : (x : Word) (xs : List Word) (r : Option Found) → is_mark x ≡ fa
 words_next x xs None is = refl
 words_next x xs (Some f) is = rw is refl
 
--- words behind `--` by whether the first is a second one
+-- words after `--` by whether the first is a second one
 behind_by : (b : Bool) (x : Word) (xs : List Word) (h : Held) (r : Option Found) (mark : Bool) → is_mark x ≡ mark → Stands h r
     → ((if list_all (λ w. not (is_mark w)) xs then judged xs (behind true (with_plain x h)) else None)
     ≡ option_and_then (with_words xs) (option_map (with_word x) r))
@@ -70,7 +70,7 @@ behind_by b x xs h r false is s next =
     ∙ (λ i. unless (trailing_turn b x h s.settles i) (judged xs (trailing_walked b x h i))) in
     rw (is, turn) (next ∙ word_then x (with_words xs) r ∙ words_next x xs r is)
 
--- `clap` finds behind `--` what is read there
+-- `clap` finds after `--` what is read there
 behind_read : (words : List Word) (b : Bool) (h : Held) (r : Option Found) → Stands h r
     → (if list_all (λ w. not (is_mark w)) words then judged words (behind b h) else None) ≡ option_and_then (with_words words) r
 behind_read [] b h r s = judged_end (behind b h) ∙ (λ i. unless (s.settles i) (s.found i)) ∙ sym (some_found r)
@@ -151,7 +151,7 @@ mark_turn : (b : Bool) (h : Held) → turn_fault shape [] (at b h) (codes "--") 
 mark_turn true h = refl
 mark_turn false h = refl
 
--- the words behind it are plain
+-- the words after it are plain
 mark_walked : (b : Bool) (h : Held) → walked rules [] (at b h) (codes "--") ≡ behind b h
 unfolding walked
 mark_walked true h = refl

@@ -67,7 +67,7 @@ value_reads n rows skip y ys spots o plain =
     (spots.at_parts false (given n y rows skip) (option_and_then (with_option n y) (found_in rows)) (value_stands n y rows skip o)
     ∙ then_then (with_option n y) (λ f. read ys (at_part f)) (found_in rows))
 
--- words behind `--` where the value is wanted are a fault
+-- words after `--` where the value is wanted are a fault
 trailing_fails : (n : Word) (rows : List Row) (skip : ℕ) (z : Word) (zs : List Word) → IsOption n
     → judged (z ∷ zs) (walked rules [] (wanted n rows skip) (codes "--")) ≡ None
 unfolding walked

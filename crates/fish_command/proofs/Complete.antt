@@ -26,7 +26,7 @@ pub not_true : (a : Bool) → not a ≡ true → a ≡ false
 not_true true h = sym h
 not_true false h = refl
 
--- words behind `--` are read as plain words
+-- words after `--` are read as plain words
 words_read : (words : List Word) (f : Found) → list_all (λ w. not (is_mark w)) words ≡ true
     → with_words words f ≡ Some (record f { plain = f.plain ++ words })
 words_read [] f unmarked = rw append-nil
@@ -59,7 +59,7 @@ option_next None f cs options next due is h behind = cc
 option_next (Some c) f cs options next due is h behind =
     options_next (with_choice f.options c) f cs options next due h behind
 
--- a line is read as its plain words and its options, behind those that were found before
+-- a line is read as its plain words and its options, after those that were found before
 pub line_read : (parts : List Part) (behind : List Word) (f : Found) (options : Options)
     → list_all is_part parts ≡ true → list_all (λ w. not (is_mark w)) behind ≡ true
     → with_choices f.options (filter_map choice_in parts) ≡ Some options

@@ -9,7 +9,7 @@ use Rattle.fish_command.specs.within.Matched.{only, values}
 use Rattle.fish_command.specs.Options.{Word}
 use Rattle.fish_command.specs.within.Reading.{are_placed_after}
 
--- some words may be behind `--` where none of them is one
+-- some words may be after `--` where none of them is one
 pub are_placed_after_some : (words : List Word) → 0 < length words
     → list_all (λ w. not (is_mark w)) words ≡ are_placed_after words
 are_placed_after_some [] some = absurd (omega arith)

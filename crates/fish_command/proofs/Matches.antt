@@ -127,7 +127,7 @@ no_check : (rows : List Row) (has : Bool) → check_fault shape rows has ≡ []
 no_check rows true = refl
 no_check rows false = refl
 
--- no fault behind another
+-- no fault after another
 else_nil : (k : Kinds) → or_else k [] ≡ k
 else_nil [] = refl
 else_nil (k ∷ ks) = refl

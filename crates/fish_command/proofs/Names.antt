@@ -82,7 +82,7 @@ module _ (P : Word → Type 0) (plain : (y : Word) → starts_with_minus y ≡ f
     (single : (y : Word) → starts_with_minus y ≡ true → has_one_minus y ≡ true → is_mark y ≡ false
     → long_of y ≡ None → P y)
     (mark : P (codes "--")) (long : (c : ℕ) (rest : Word) → P (45 ∷ 45 ∷ c ∷ rest)) where
-  -- behind two minuses
+  -- after two minuses
   third : (more : Word) → P (45 ∷ 45 ∷ more)
   third [] = mark
   third (c ∷ rest) = long c rest
@@ -92,7 +92,7 @@ module _ (P : Word → Type 0) (plain : (y : Word) → starts_with_minus y ≡ f
   second_by b more true is = subst (λ (n : ℕ). P (45 ∷ n ∷ more)) (sym (eqb-true b 45 is)) (third more)
   second_by b more false is = single (45 ∷ b ∷ more) refl (rw is refl) (rw is refl) (rw is refl)
 
-  -- behind one minus
+  -- after one minus
   second : (more : Word) → P (45 ∷ more)
   second [] = single (45 ∷ []) refl refl refl refl
   second (b ∷ more) = second_by b more (b == 45) refl

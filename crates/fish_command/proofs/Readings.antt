@@ -128,13 +128,13 @@ sample_is behind (a ∷ []) o q line e =
     sample_by behind a o q o.layout o.pages o.bits (within 0 most_records (int_of a)) line refl refl refl refl e
 sample_is behind (a ∷ b ∷ more) o q line e = absurd cc
 
--- the words behind `select`
+-- the words after `select`
 select_in_is : (behind : List Word) (q : Request) (r : Option Found) → read behind (at_part nothing_found) ≡ r
     → option_and_then (λ f. select_of f.plain f.options) r ≡ Some q → IsRequest (codes "select" ∷ behind) q
 select_in_is behind q None reads e = absurd cc
 select_in_is behind q (Some f) reads e = select_is behind f.plain f.options q (line_is behind f reads) e
 
--- the words behind `run` and the store
+-- the words after `run` and the store
 run_behind_is : (store : Word) (behind : List Word) (q : Request) (minus : Bool) (r : Option Found)
     → starts_with_minus store ≡ minus → read behind (at_part nothing_found) ≡ r
     → (if minus then None else option_and_then (λ f. run_of store f.plain f.options) r) ≡ Some q
@@ -144,12 +144,12 @@ run_behind_is store behind q false None starts reads e = absurd cc
 run_behind_is store behind q false (Some f) starts reads e =
     run_is store behind f.plain f.options q starts (line_is behind f reads) e
 
--- the words behind `run`
+-- the words after `run`
 run_in_is : (behind : List Word) (q : Request) → run_in behind ≡ Some q → IsRequest (codes "run" ∷ behind) q
 run_in_is [] q e = absurd cc
 run_in_is (store ∷ behind) q e = run_behind_is store behind q _ _ refl refl e
 
--- the words behind `sample`
+-- the words after `sample`
 sample_in_is : (behind : List Word) (q : Request) (r : Option Found) → read behind (at_part nothing_found) ≡ r
     → option_and_then (λ f. sample_of f.plain f.options) r ≡ Some q → IsRequest (codes "sample" ∷ behind) q
 sample_in_is behind q None reads e = absurd cc

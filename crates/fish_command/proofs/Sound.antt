@@ -17,7 +17,7 @@ use Rattle.fish_command.specs.within.Reading.{with_word, with_words}
 use Rattle.fish_command.specs.declared.options.Options.{Options}
 use Rattle.fish_command.proofs.Names.{kinds, long_plain, same_word}
 
--- words are a line, whose plain words and options come behind those of f, and are with them those of g
+-- words are a line, whose plain words and options come after those of f, and are with them those of g
 pub record Goes (words : List Word) (f g : Found) : Type 0 where
   pub parts : List Part
   pub behind : List Word
@@ -29,7 +29,7 @@ pub record Goes (words : List Word) (f g : Found) : Type 0 where
 
 -- ---- one part more
 
--- a plain word in front of a line
+-- a plain word before a line
 goes_plain : (w : Word) (words : List Word) (f g : Found) → starts_with_minus w ≡ false
     → Goes words (record f { plain = f.plain ++ w ∷ [] }) g → Goes (w ∷ words) f g
 goes_plain w words f g starts h = record {
@@ -42,7 +42,7 @@ goes_plain w words f g starts h = record {
   once = h.once;
 }
 
--- an option with its value as the next word in front of a line
+-- an option with its value as the next word before a line
 goes_apart : (n v : Word) (words : List Word) (c : Choice) (o : Options) (f g : Found) → choice_of n v ≡ Some c
     → with_choice f.options c ≡ Some o → Goes words (record f { options = o }) g
     → Goes ((codes "--" ++ n) ∷ v ∷ words) f g
@@ -56,7 +56,7 @@ goes_apart n v words c o f g is more h = record {
   once = rw (is, more) h.once;
 }
 
--- an option with its value behind `=` in front of a line
+-- an option with its value after `=` before a line
 goes_joined : (n v : Word) (words : List Word) (c : Choice) (o : Options) (f g : Found) → choice_of n v ≡ Some c
     → with_choice f.options c ≡ Some o → Goes words (record f { options = o }) g
     → Goes ((codes "--" ++ n ++ codes "=" ++ v) ∷ words) f g
@@ -72,7 +72,7 @@ goes_joined n v words c o f g is more h = record {
 
 -- ---- what was read of one part
 
--- an option that was read is one, and the words behind it are read with it
+-- an option that was read is one, and the words after it are read with it
 options_read : (f g : Found) (next : Found → Option Found) (n v : Word) (c : Choice) (r : Option Options) {P : Type 0}
     → choice_of n v ≡ Some c → with_choice f.options c ≡ r
     → option_and_then next (option_map (λ o. record f { options = o }) r) ≡ Some g
@@ -92,12 +92,12 @@ choice_read f g next n v None is e behind = absurd cc
 choice_read f g next n v (Some c) is e behind =
     options_read f g next n v c (with_choice f.options c) is refl e behind
 
--- words behind `--` that were read
+-- words after `--` that were read
 record GoesBehind (words : List Word) (f g : Found) : Type 0 where
   unmarked : list_all (λ w. not (is_mark w)) words ≡ true
   are : g ≡ record f { plain = f.plain ++ words }
 
--- one word more behind `--`
+-- one word more after `--`
 words_go_by : (mark : Bool) (w : Word) (more : List Word) (f g : Found) → is_mark w ≡ mark
     → (if mark then None else with_words more (with_word w f)) ≡ Some g
     → ((h : Found) → with_words more h ≡ Some g → GoesBehind more h g) → GoesBehind (w ∷ more) f g
@@ -109,7 +109,7 @@ words_go_by false w more f g is e behind =
       are = rest.are ∙ ap (λ (words : List Word). record f { plain = words }) (append_assoc f.plain (w ∷ []) more);
     }
 
--- words behind `--` are plain words
+-- words after `--` are plain words
 words_go : (words : List Word) (f g : Found) → with_words words f ≡ Some g → GoesBehind words f g
 words_go [] f g e =
     let same : f ≡ g = cc in
@@ -119,7 +119,7 @@ words_go [] f g e =
     }
 words_go (w ∷ more) f g e = words_go_by (is_mark w) w more f g refl e (λ h. words_go more h g)
 
--- `--` and what is read behind it are a line
+-- `--` and what is read after it are a line
 end_goes : (words : List Word) (f g : Found) → with_behind words f ≡ Some g → Goes (codes "--" ∷ words) f g
 end_goes [] f g e = absurd cc
 end_goes (w ∷ more) f g e =
@@ -136,12 +136,12 @@ end_goes (w ∷ more) f g e =
 
 -- ---- the words of an option
 
--- a name, and the value behind a `=` where there is one
+-- a name, and the value after a `=` where there is one
 abbrev joined_text : Word × Option Word → Word
 joined_text (n, None) = n
 joined_text (n, Some v) = n ++ codes "=" ++ v
 
--- one byte more in front of what is joined
+-- one byte more before what is joined
 joined_more : (c : ℕ) (name rest : Word) (has : Bool)
     → joined_text (c ∷ name, (if has then Some rest else None)) ≡ c ∷ joined_text (name, (if has then Some rest else None))
 joined_more c name rest true = refl
@@ -190,7 +190,7 @@ found_at (at_value n f) = f
 goes_from : (w x : Word) (words : List Word) (f g : Found) → w ≡ x → Goes (x ∷ words) f g → Goes (w ∷ words) f g
 goes_from w x words f g is h = subst (λ (y : Word). Goes (y ∷ words) f g) (sym is) h
 
--- one part and the words behind it, by what its first word is
+-- one part and the words after it, by what its first word is
 part_goes : (mark minus : Bool) (o : Option (Word × Option Word)) (w : Word) (words : List Word) (f g : Found)
     → is_mark w ≡ mark → starts_with_minus w ≡ minus → long_of w ≡ o
     → (if mark then with_behind words f else (if minus then read_option o f (read words)

@@ -29,7 +29,7 @@ values_more id how s vs [] same = rw same refl
 values_more id how s vs (r ∷ rows) same =
     values_more_by id s vs r rows (with_values id how s vs rows) (bytes_eq r.id id) refl (values_more id how s vs rows same)
 
--- another argument keeps its values, behind a row that stays
+-- another argument keeps its values, after a row that stays
 values_skip : (j : Word) (r : Row) (rows more : List Row) (b : Bool) → values j more ≡ values j rows
     → unwrap_or (option_map (λ (x : Row). x.values) (cond b (Some r) (find (λ x. bytes_eq x.id j) more))) []
     ≡ unwrap_or (option_map (λ (x : Row). x.values) (cond b (Some r) (find (λ x. bytes_eq x.id j) rows))) []

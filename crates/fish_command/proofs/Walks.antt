@@ -67,7 +67,7 @@ free false = idle
 abbrev pub at : Bool → Held → Walk
 at b h = record { held = h; waiting = free b; position = 1; is_trailing = false; stopped = None }
 
--- behind `--`
+-- after `--`
 abbrev pub behind : Bool → Held → Walk
 behind b h = record { held = h; waiting = free b; position = 1; is_trailing = true; stopped = None }
 
@@ -85,7 +85,7 @@ wanted n rows skip = record {
 abbrev pub with_plain : Word → Held → Held
 with_plain x h = record (settled rules h) { pending = Some (codes "words", x ∷ []) }
 
--- a part may come behind a plain word
+-- a part may come after a plain word
 pub plain_stands : (x : Word) (h : Held) (r : Option Found) → Stands h r → Stands (with_plain x h) (option_map (with_word x) r)
 plain_stands x h r s = record {
   settles = refl;

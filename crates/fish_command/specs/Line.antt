@@ -1,4 +1,4 @@
--- What may stand behind the first words of a command: plain words and options, in any order.
+-- What may come after the first words of a command: plain words and options, in any order.
 use Rattle.std.specs.Prelude.{◌≡◌, List, [], ◌∷◌, ◌++◌, Bool, not, IsTrue, codes, Option, Some, None, is_some}
 use Rattle.std.specs.List.{filter_map, flat_map, list_all}
 use Rattle.std.specs.Str.{bytes_eq}
@@ -6,7 +6,7 @@ use Rattle.std.specs.Str.Parse.{starts_with_minus}
 use Rattle.fish_command.specs.Options.{Choice, Word, choice_of, no_options, with_choices}
 use Rattle.fish_command.specs.declared.options.Options.{Options}
 
--- a plain word, or an option by its name, with its value as the next word or behind `=` in the same one
+-- a plain word, or an option by its name, with its value as the next word or after `=` in the same one
 pub data Part : Type 0 where
   plain : (word : Word) → Part
   apart : (name value : Word) → Part
@@ -40,7 +40,7 @@ choice_in (joined name value) = choice_of name value
 abbrev pub is_mark : Word → Bool
 is_mark word = bytes_eq word (codes "--")
 
--- plain words behind `--`, which stands where there are some
+-- plain words after `--`, which stands where there are some
 abbrev pub marked : List Word → List Word
 marked [] = []
 marked (word ∷ more) = codes "--" ∷ word ∷ more

@@ -14,7 +14,7 @@ pub data Request : Type 0 where
   run : (store script : Word) (pages bits : Option ℕ) → Request
   sample : (number : ℕ) → Request
 
--- words are `select`, and behind it DEF VALUE FILE with at most a form
+-- words are `select`, and after it DEF VALUE FILE with at most a form
 pub record IsSelect (words : List Word) (def value file : Word) (layout : Layout) : Type 0 where
   pub behind : List Word
   pub options : Options
@@ -24,7 +24,7 @@ pub record IsSelect (words : List Word) (def value file : Word) (layout : Layout
   pub no_pages : options.pages ≡ None
   pub no_bits : options.bits ≡ None
 
--- words are `run` and STORE, and behind them SCRIPT with at most a number of pages and one of bits
+-- words are `run` and STORE, and after them SCRIPT with at most a number of pages and one of bits
 pub record IsRun (words : List Word) (store script : Word) (pages bits : Option ℕ) : Type 0 where
   pub behind : List Word
   pub options : Options
@@ -35,7 +35,7 @@ pub record IsRun (words : List Word) (store script : Word) (pages bits : Option 
   pub bits_are : bits ≡ options.bits
   pub no_layout : options.layout ≡ None
 
--- words are `sample`, and behind it a whole number from 0 to 60,000, without an option
+-- words are `sample`, and after it a whole number from 0 to 60,000, without an option
 pub record IsSample (words : List Word) (number : ℕ) : Type 0 where
   pub behind : List Word
   pub options : Options

@@ -1,6 +1,6 @@
 //! What comes after the first words of a command: plain words and options, in any order.
 //!
-//! `clap` reads it, behind a test of what its model has no place for: where a `-` alone and `--` may be. That an option
+//! `clap` reads it, after a test of what its model has no place for: where a `-` alone and `--` may be. That an option
 //! is given once, and how many plain words there are, is read off the matches.
 
 ghost use Rattle.std.specs.Prelude.{◌≡◌, IfOk, false, map, not, option_and_then, option_map};
@@ -78,7 +78,7 @@ fn are_placed(words: &[Text]) -> bool
     true
 }
 
-/// Whether words may be behind `--`.
+/// Whether words may be after `--`.
 #[tactic(auto, using(crate::proofs::LineLemmas::are_placed_after_some))]
 fn are_placed_after(words: &[Text]) -> bool
     ensures { result ≡ are_placed_after words.now }

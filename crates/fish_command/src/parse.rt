@@ -12,7 +12,7 @@ use fish_lang::parse_def;
 use fish_value::{Text, read_value};
 use std::alloc::{AllocError, Global};
 
-/// Reads a command: `select`, `run` or `sample`, with its words and its options. The words are those behind the
+/// Reads a command: `select`, `run` or `sample`, with its words and its options. The words are those after the
 /// program's name.
 pub fn parse_command(alloc: Global, words: &[Text]) -> Result<Command, CommandRefusal>
     ensures ok { IfOk result (λ command. IsCommand words.now (Ok (asked_of command))) }

@@ -51,7 +51,7 @@ pub(crate) fn request_of<'a>(
     }
 }
 
-/// The parts of `select` that the words behind it are.
+/// The parts of `select` that the words after it are.
 fn select_in<'a>(alloc: Global, behind: &'a [Text]) -> Result<Option<CommandParts<'a>>, AllocError>
     ensures parts { IfOk result (λ request. option_map request_of_parts request ≡ select_in behind.now) }
     ensures sized { IfOk result (λ request. IfSome request IsSized) }
@@ -84,7 +84,7 @@ fn select_of<'a>(line: &ArgMatches<'a>) -> Option<CommandParts<'a>>
     }
 }
 
-/// The parts of `run` that the words behind it are.
+/// The parts of `run` that the words after it are.
 fn run_in<'a>(alloc: Global, behind: &'a [Text]) -> Result<Option<CommandParts<'a>>, AllocError>
     ensures parts { IfOk result (λ request. option_map request_of_parts request ≡ run_in behind.now) }
     ensures sized { IfOk result (λ request. IfSome request IsSized) }
@@ -103,7 +103,7 @@ fn run_in<'a>(alloc: Global, behind: &'a [Text]) -> Result<Option<CommandParts<'
     Ok(request)
 }
 
-/// A line as the parts of `run`, behind the store.
+/// A line as the parts of `run`, after the store.
 fn run_of<'a>(store: &'a Text, line: &ArgMatches<'a>) -> Option<CommandParts<'a>>
     ensures parts { option_map request_of_parts result ≡ option_and_then (λ f. run_of store.now f.plain f.options)
         (found_in (rows_of (found_of line.now))) }
@@ -121,7 +121,7 @@ fn run_of<'a>(store: &'a Text, line: &ArgMatches<'a>) -> Option<CommandParts<'a>
     }
 }
 
-/// The parts of `sample` that the words behind it are.
+/// The parts of `sample` that the words after it are.
 fn sample_in<'a>(alloc: Global, behind: &'a [Text]) -> Result<Option<CommandParts<'a>>, AllocError>
     ensures parts { IfOk result (λ request. option_map request_of_parts request ≡ sample_in behind.now) }
     ensures sized { IfOk result (λ request. IfSome request IsSized) }

@@ -37,7 +37,7 @@ no-need c e comma =
     let first = neither (c == 34) (c == 13) last.0 in
     rw (comma, first.0, first.1, last.1) refl
 
--- a comma stands in front of each part but the first
+-- a comma stands before each part but the first
 comma-front : (c : ℕ) (y x : List ℕ) (ys : List (List ℕ)) → is_comma c ≡ true → field_text default_writer y ≡ y
     → y ++ fields_text default_writer ys ≡ x
     → fields_text default_writer (y ∷ ys) ≡ c ∷ x
@@ -89,7 +89,7 @@ line-stored c x e =
     let blank = not-blank p.0 p.1 c x p.3 p.4 in
     stored-is (parts_of (c ∷ x)) ∙ rw (p.2, text, blank) (append-nil (p.0 ++ fields_text default_writer p.1) ∙ p.4)
 
--- what was read of a field, in front of the first part
+-- what was read of a field, before the first part
 abbrev joined : List ℕ → List (List ℕ) → List (List ℕ)
 joined field [] = field ∷ []
 joined field (y ∷ ys) = (field ++ y) ∷ ys
@@ -124,7 +124,7 @@ line-ends fields field (c ∷ rest) e = elim (either (c == 13) (c == 10) e) [
   | inr lf ↦ rw (eqb-true c 10 lf) refl
 ]
 
--- in front of a byte that is no quote, and at the end, a field begins as it goes on
+-- before a byte that is no quote, and at the end, a field begins as it goes on
 field-same : (fields : List (List ℕ)) (x tail : List ℕ) → list_any is_mark x ≡ false → ends_line tail ≡ true
     → next_record default_config st.StartField fields [] (x ++ tail) ≡ next_record default_config st.InField fields [] (x ++ tail)
 unfolding next_record
@@ -163,7 +163,7 @@ line-run fields field (c ∷ x) tail e ends =
           ∙ rw (onto-more c field (parts_of x), slice_split-cons_no is_comma c x other) refl
     ]
 
--- a line in front of which a row begins, with what ends it
+-- a line before which a row begins, with what ends it
 line-first : (c : ℕ) (x tail : List ℕ) → list_any is_mark (c ∷ x) ≡ false → ends_line tail ≡ true
     → row_from position.Row [] [] ((c ∷ x) ++ tail) ≡ after-line (parts_of (c ∷ x)) tail
 line-first c x tail e ends =
@@ -173,14 +173,14 @@ line-first c x tail e ends =
     row-other c [] [] (x ++ tail) begins ∙ field-same [] (c ∷ x) tail e ends ∙ line-run [] [] (c ∷ x) tail e ends
     ∙ ap (λ rows. after-line rows tail) (joined-none (c ∷ x))
 
--- the row of a line, and the rows behind it
+-- the row of a line, and the rows after it
 line-rows : (c : ℕ) (x tail : List ℕ) → list_any is_mark (c ∷ x) ≡ false → ends_line tail ≡ true
     → rows_in ((c ∷ x) ++ tail) ≡ parts_of (c ∷ x) ∷ rows_in tail
 line-rows c x [] e ends = rows-next ((c ∷ x) ++ []) ∙ rw (line-first c x [] e ends) refl
 line-rows c x (d ∷ rest) e ends = rows-next ((c ∷ x) ++ (d ∷ rest))
     ∙ rw (line-first c x (d ∷ rest) e ends) (ap (λ rows. parts_of (c ∷ x) ∷ rows) (sym (rows-end d rest ends)))
 
--- a line of a text and what is behind it, as the code names them
+-- a line of a text and what is after it, as the code names them
 pub TakesRow-line : (b line rest : List ℕ) (outcome : Option (List ℕ)) → b ≡ line ++ rest → 0 < length line
     → list_any is_mark line ≡ false → ends_line rest ≡ true → outcome ≡ kept line → TakesRow b outcome rest
 unfolding payload_of
@@ -197,7 +197,7 @@ pub IsStored-line : (line : List ℕ) → 0 < length line → list_any is_mark l
 IsStored-line [] some e = absurd (omega arith)
 IsStored-line (c ∷ x) some e = (parts_of (c ∷ x), sym (line-stored c x e))
 
--- line ends in front of the row count nowhere
+-- line ends before the row count nowhere
 pub TakesRow-same : (b behind rest : List ℕ) (outcome : Option (List ℕ)) → rows_in behind ≡ rows_in b
     → length behind ≤ length b → TakesRow behind outcome rest → TakesRow b outcome rest
 TakesRow-same b behind rest outcome same within (fields, rows, payload, less) = (fields, sym same ∙ rows, payload, omega (arith, less))

@@ -52,7 +52,7 @@ several : (fields : List (List ℕ)) (rows : List (List (List ℕ))) → (rows �
 several fields [] h = absurd (h refl)
 several fields (x ∷ more) h = refl
 
--- a row is the only one where no byte is left behind it but line ends
+-- a row is the only one where no byte is left after it but line ends
 pub one_row : (b : List ℕ) (fields : List (List ℕ)) (rest text : List ℕ) (empty : Bool)
     → rows_in b ≡ fields ∷ rows_in rest → rows_in text ≡ rows_in rest
     → IfSome (slice_get text 0) (λ c. (c == 13 || c == 10) ≡ false) → empty ≡ (length text == 0)

@@ -21,7 +21,7 @@ either-is : {A : Type 0} (b : Bool) (x y q : A) → (if b then x else y) ≡ q �
 either-is true x y q e = inl (refl, e)
 either-is false x y q e = inr (refl, e)
 
--- a text in which a row has begun has that row, and the machine stands between rows behind it
+-- a text in which a row has begun has that row, and the machine stands between rows after it
 begun : (s : State) (fields : List (List ℕ)) (field xs : List ℕ) → is_inside s ≡ true
     → (q : Read) × (next_record default_config s fields field xs ≡ Some q) × IsBetween q.1 × (length q.2 ≤ length xs - 1)
 unfolding next_record
@@ -48,7 +48,7 @@ row-there c xs e =
     let found = begun st.StartField [] [] (c ∷ xs) refl in
     (found.0, row-other c [] [] xs e ∙ found.1, found.2, omega (arith, found.3))
 
--- the next row of a text is shorter than the text, and behind it the machine stands between rows
+-- the next row of a text is shorter than the text, and after it the machine stands between rows
 abbrev pub IsNext : List ℕ → Option Read → Type 0
 IsNext xs None = Unit {0}
 IsNext xs (Some q) = IsBetween q.1 × (length q.2 < length xs)
@@ -65,7 +65,7 @@ next-row (c ∷ xs) = elim (cases_Bool (c == 13 || c == 10)) [
   | inr begins ↦ (let found = row-there c xs begins in rw found.1 (found.2, found.3))
 ]
 
--- behind CR a text goes on as from its start
+-- after CR a text goes on as from its start
 after-cr : (b : List ℕ) → next_record default_config st.AfterCr [] [] b ≡ next_record default_config st.StartRecord [] [] b
 unfolding next_record
 after-cr [] = refl
@@ -106,7 +106,7 @@ unfolding records_from rows_in
 rows-left zero s xs h a = absurd (omega arith)
 rows-left (suc n) s xs h a = rw (between-same s xs h) (enough (suc n) (length xs + 1) st.StartRecord xs (inl refl) a (omega arith))
 
--- the first row of a text and those behind it
+-- the first row of a text and those after it
 pub rows-next : (xs : List ℕ) → rows_in xs ≡ records_next (λ s ys. rows_in ys) (row_from position.Row [] [] xs)
 unfolding records_from rows_in
 rows-next xs = rw (add-one (length xs))
@@ -117,7 +117,7 @@ rows-next xs = rw (add-one (length xs))
 pub rows-none : (xs : List ℕ) → row_from position.Row [] [] xs ≡ None → rows_in xs ≡ []
 rows-none xs e = rows-next xs ∙ rw e refl
 
--- a text with a first row has that row and those behind it, in a shorter text
+-- a text with a first row has that row and those after it, in a shorter text
 pub rows-more : (xs : List ℕ) (fields : List (List ℕ)) (s : State) (rest : List ℕ) → row_from position.Row [] [] xs ≡ Some (fields, s, rest)
     → (rows_in xs ≡ fields ∷ rows_in rest) × (length rest < length xs)
 rows-more xs fields s rest e = (rows-next xs ∙ rw e refl, (rw e at (next-row xs)).1)

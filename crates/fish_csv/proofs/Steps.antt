@@ -45,13 +45,13 @@ plain-other c fields field rest n e =
     let q = neither (c == 13) (c == 10) e in
     rw (ne_eqb c 44 n, q.0, q.1) refl
 
--- a quote in front of a field
+-- a quote before a field
 pub field-quote : (c : ℕ) (fields : List (List ℕ)) (field rest : List ℕ) → c ≡ 34
     → next_record default_config st.StartField fields field (c ∷ rest) ≡ next_record default_config st.InQuoted fields field rest
 unfolding next_record
 field-quote c fields field rest e = rw e refl
 
--- another byte in front of a field
+-- another byte before a field
 pub field-other : (c : ℕ) (fields : List (List ℕ)) (field rest : List ℕ) → c ≢ 34
     → next_record default_config st.StartField fields field (c ∷ rest) ≡ next_record default_config st.InField fields field (c ∷ rest)
 field-other c fields field rest n = start-same fields field c rest (ne_eqb c 34 n)
@@ -69,25 +69,25 @@ pub quoted-other : (c : ℕ) (fields : List (List ℕ)) (field rest : List ℕ) 
 unfolding next_record
 quoted-other c fields field rest n = rw (ne_eqb c 34 n) refl
 
--- a quote behind a quote
+-- a quote after a quote
 pub closed-quote : (fields : List (List ℕ)) (field rest : List ℕ)
     → next_record default_config st.AfterQuote fields field (34 ∷ rest) ≡ next_record default_config st.InQuoted fields
     (field ++ (34 ∷ [])) rest
 unfolding next_record
 closed-quote fields field rest = refl
 
--- another byte behind a quote
+-- another byte after a quote
 pub closed-other : (c : ℕ) (fields : List (List ℕ)) (field rest : List ℕ) → c ≢ 34
     → next_record default_config st.AfterQuote fields field (c ∷ rest) ≡ next_record default_config st.InField fields field (c ∷ rest)
 closed-other c fields field rest n = after-quote-same fields field c rest (ne_eqb c 34 n)
 
--- a line end in front of a row
+-- a line end before a row
 pub row-end : (c : ℕ) (fields : List (List ℕ)) (field rest : List ℕ) → (c == 13 || c == 10) ≡ true
     → next_record default_config st.StartRecord fields field (c ∷ rest) ≡ next_record default_config st.StartRecord fields field rest
 unfolding next_record
 row-end c fields field rest e = rw e refl
 
--- another byte in front of a row
+-- another byte before a row
 pub row-other : (c : ℕ) (fields : List (List ℕ)) (field rest : List ℕ) → (c == 13 || c == 10) ≡ false
     → next_record default_config st.StartRecord fields field (c ∷ rest) ≡ next_record default_config st.StartField fields field (c ∷ rest)
 row-other c fields field rest e =
@@ -110,7 +110,7 @@ pub IfOk-as : {E : Type 0} (r : Result (Option Position) E) (at to : Position) (
 IfOk-as (Ok o) at to c fields field after next same h = Advances-as at to c fields field o after next same h
 IfOk-as (Err e) at to c fields field after next same h = tt
 
--- in front of a row the end of the text ends none, elsewhere it ends one
+-- before a row the end of the text ends none, elsewhere it ends one
 pub end-row : (fields : List (List ℕ)) (field : List ℕ) → row_from position.Row fields field [] ≡ None
 unfolding next_record
 end-row fields field = refl

@@ -31,7 +31,7 @@ but-last x c =
     let count : length (x ++ (c ∷ [])) - 1 ≡ length x = omega (arith, size) in
     rw (count, take-append-le (length x) x (c ∷ []) fits) (take_all (length x) x fits)
 
--- the text in front of the line end
+-- the text before the line end
 pub stored-is : (fields : List (List ℕ)) → stored_text fields ≡ row_body default_writer fields ++ blank_quotes fields
 unfolding stored_text
 stored-is fields =
@@ -64,7 +64,7 @@ same-fields p q e = let same : p ≡ q = cc in ap (λ r. r.0) same
 same-rest : (p q : Read) → Some p ≡ Some q → p.2 ≡ q.2
 same-rest p q e = let same : p ≡ q = cc in ap (λ r. r.2) same
 
--- where LF ends a row and leaves the byte behind it, the end of the text ends the row as LF does
+-- where LF ends a row and leaves the byte after it, the end of the text ends the row as LF does
 end-as-lf : (s : State) (fields after : List (List ℕ)) (field x : List ℕ)
     → next_record default_config s fields field (x ++ (10 ∷ 0 ∷ [])) ≡ Some (after, st.StartRecord, 0 ∷ [])
     → next_record default_config s fields field x ≡ Some (after, st.StartRecord, [])

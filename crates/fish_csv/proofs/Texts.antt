@@ -45,7 +45,7 @@ length-front : (p rest : List ℕ) (c : ℕ) → length p < length (p ++ (c ∷ 
 length-front [] rest c = omega arith
 length-front (x ∷ p) rest c = omega (arith, length-front p rest c)
 
--- what stands in front of an ASCII byte of a text is a text, and what stands behind it
+-- what stands before an ASCII byte of a text is a text, and what follows it
 in-front : (p rest : List ℕ) (c : ℕ) → c < 128 → IsUtf8 (p ++ (c ∷ rest)) → IsUtf8 p
 in-front p rest c small h =
     let at : IsCharBoundary (p ++ (c ∷ rest)) (length p) =
@@ -139,7 +139,7 @@ end-small c e = elim (either (c == 13) (c == 10) e) [
   | inr lf ↦ small c 10 lf (omega arith)
 ]
 
--- the same from in front of a row
+-- the same from before a row
 first-texts : (xs : List ℕ) (q : Read) → IsUtf8 xs → row_from position.Row [] [] xs ≡ Some q → AreTexts q.0
 unfolding next_record
 first-texts [] q text e = cc e

@@ -24,7 +24,7 @@ escaped-more before middle after run rest behind total e f g h =
     ((run ++ (34 ∷ 34 ∷ [])) ++ escaped default_writer behind) = simp append_assoc in
     left ∙ same ∙ sym right ∙ h
 
--- a field that a row has stands at a position of the row, and one that it doesn't have stands behind it
+-- a field that a row has stands at a position of the row, and one that it doesn't have comes after it
 pub field-below : (fields : List (List ℕ)) (i : ℕ) (text : List ℕ) → Some text ≡ field_at fields i → i < length fields
 unfolding field_at
 field-below [] i text e = cc e

@@ -23,7 +23,7 @@ row_from at fields field b = next_record default_config (state_of at) fields fie
 abbrev pub IsBetween : State → Type 0
 IsBetween s = (s ≡ st.StartRecord) ⊎ (s ≡ st.AfterCr)
 
--- whatever bytes come behind it, the byte c leads from this position and these fields to another, or ends the row
+-- whatever bytes come after it, the byte c leads from this position and these fields to another, or ends the row
 abbrev pub Advances : Position → ℕ → List (List ℕ) → List ℕ → Option Position → List (List ℕ) → List ℕ → Type 0
 Advances at c fields field None after next =
     (rest : List ℕ) → (s : State) × IsBetween s × (row_from at fields field (c ∷ rest) ≡ Some (after, s, rest))

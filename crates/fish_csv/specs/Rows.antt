@@ -17,15 +17,15 @@ kept text = if is_some (row_of text) then Some text else None
 unfoldable pub payload_of : List (List ℕ) → Option (List ℕ)
 payload_of fields = kept (stored_text fields)
 
--- the rows behind the header, where there is to be one
+-- the rows after the header, where there is to be one
 abbrev pub without_header : Bool → List (List (List ℕ)) → List (List (List ℕ))
 without_header header rows = if header then drop 1 rows else rows
 
--- of each row behind the header its payload, or none where it is refused
+-- of each row after the header its payload, or none where it is refused
 abbrev pub outcomes_of : Bool → List (List (List ℕ)) → List (Option (List ℕ))
 outcomes_of header rows = map payload_of (without_header header rows)
 
--- of each row of a file its payload, or none where it is refused; a byte order mark in front of the file counts nowhere
+-- of each row of a file its payload, or none where it is refused; a byte order mark before the file counts nowhere
 unfoldable pub outcomes : Bool → List ℕ → List (Option (List ℕ))
 outcomes header b = outcomes_of header (rows_in (strip_bom b))
 

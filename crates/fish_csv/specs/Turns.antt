@@ -3,7 +3,7 @@ use Rattle.std.specs.Prelude.{◌≡◌, ◌<◌, ◌==◌, ◌||◌, ℕ, List,
 use Rattle.fish_csv.specs.Reading.{rows_in}
 use Rattle.fish_csv.specs.Rows.{payload_of, stored_text}
 
--- the first row of a text has this payload or is refused, and the rows behind it are those of a shorter text
+-- the first row of a text has this payload or is refused, and the rows after it are those of a shorter text
 abbrev pub TakesRow : List ℕ → Option (List ℕ) → List ℕ → Type 0
 TakesRow b outcome rest =
     (fields : List (List ℕ)) × (rows_in b ≡ fields ∷ rows_in rest) × (payload_of fields ≡ outcome) × (length rest < length b)
@@ -16,7 +16,7 @@ IsStored text = (fields : List (List ℕ)) × (text ≡ stored_text fields)
 abbrev pub is_mark : ℕ → Bool
 is_mark c = c == 34 || c == 13 || c == 10
 
--- a line ends in front of a text: a line end comes, or nothing
+-- a line ends before a text: a line end comes, or nothing
 abbrev pub ends_line : List ℕ → Bool
 ends_line [] = true
 ends_line (c ∷ rest) = c == 13 || c == 10

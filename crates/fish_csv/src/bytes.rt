@@ -4,7 +4,7 @@ ghost use Rattle.std.specs.Prelude.{◌≡◌, ◌==◌, ◌||◌, ◌≤◌, �
 ghost use Rattle.csv.specs.Reading.{is_bom, strip_bom};
 ghost use Rattle.fish_csv.specs.Reading.{rows_in};
 
-/// The first byte, and those behind it.
+/// The first byte, and those after it.
 pub(crate) fn first_and_rest(b: &[u8]) -> Option<(u8, &[u8])>
     ensures { MatchOption result (b.now ≡ []) (λ parts. b.now ≡ parts.0 ∷ parts.1.now) }
 {

@@ -11,7 +11,7 @@ use crate::bytes::first_and_rest;
 use csv::ByteRecord;
 use fish_value::{FieldView, Path, read_int};
 
-/// What a row has at a path, its text lent.
+/// What a row has at a path, its text borrowed.
 pub(crate) fn field_at<'r>(row: &'r ByteRecord, path: &Path) -> FieldView<'r>
     requires { list_all is_utf8 (fields_of row.now) ≡ true }
     ensures { field_seen result ≡ field_in path.now (fields_of row.now) }
@@ -57,7 +57,7 @@ fn to_position(number: i64) -> Option<usize>
     Some((number - 1) as usize)
 }
 
-/// A text as a field. It is lent where it is no whole number.
+/// A text as a field. It is borrowed where it is no whole number.
 fn to_field(text: &[u8]) -> FieldView<'_>
     requires { is_utf8 text.now ≡ true }
     ensures { field_seen result ≡ field_of (Some text.now) }

@@ -82,7 +82,7 @@ pub struct RowTexts<'b> {
 }
 
 impl<'b> RowTexts<'b> {
-    /// Stands in front of the first row, with `header` behind it. A byte order mark at the file's start is dropped.
+    /// Stands before the first row, with `header` after it. A byte order mark at the file's start is dropped.
     #[tactic(auto, unfolding(crate::specs::Left::left))]
     pub fn new(alloc: Global, b: &'b [u8], header: bool) -> Result<RowTexts<'b>, CsvRefusal>
         ensures rows { IfOk result (λ texts. left texts ≡ outcomes header b.now) }
@@ -99,7 +99,7 @@ impl<'b> RowTexts<'b> {
         Ok(RowTexts { store, rest })
     }
 
-    /// Stands in front of the first of these rows, which stand after others in a file: so what may be a byte order mark belongs to
+    /// Stands before the first of these rows, which stand after others in a file: so what may be a byte order mark belongs to
     /// a row.
     pub fn after(alloc: Global, b: &'b [u8]) -> RowTexts<'b>
         ensures { result.rest.now ≡ b.now }
@@ -145,7 +145,7 @@ impl CsvRows {
         }
     }
 
-    /// Puts a row's payload behind the others, or counts the row as refused.
+    /// Puts a row's payload after the others, or counts the row as refused.
     fn count(&mut self, outcome: Option<Text>) -> Result<(), AllocError>
         requires { self.old.refused < u64.MAX }
         ensures texts { OnOk result (self.new.texts ≡ self.old.texts ++ accepted (outcome ∷ [])) }
@@ -178,7 +178,7 @@ impl Store {
         }
     }
 
-    /// The text behind the first row, where that is a header.
+    /// The text after the first row, where that is a header.
     fn behind_header<'b>(&mut self, b: &'b [u8], header: bool) -> Result<&'b [u8], AllocError>
         ensures rows { IfOk result (λ rest. rows_in rest.now ≡ without_header header (rows_in b.now)) }
         ensures within { IfOk result (λ rest. length rest.now ≤ length b.now) }

@@ -16,19 +16,19 @@ use std::alloc::AllocError;
 /// Where the reading of a row stands.
 #[derive(Clone, Copy, Debug, PartialEq, Eq)]
 pub(crate) enum Position {
-    /// In front of a row.
+    /// Before a row.
     Row,
-    /// In front of a field that is not the first.
+    /// Before a field that is not the first.
     Field,
     /// In a field, outside quotes.
     Plain,
     /// Between the quotes of a field.
     Quoted,
-    /// Behind a quote that ended them, or that is the first of two.
+    /// After a quote that ended them, or that is the first of two.
     Closed,
 }
 
-/// Reads the first row of a text, and answers what is left behind it. There is none where the text
+/// Reads the first row of a text, and answers what is left after it. There is none where the text
 /// has line ends alone.
 pub(crate) fn read_row<'b>(
     b: &'b [u8],
@@ -103,7 +103,7 @@ fn advance(
     }
 }
 
-/// The same in front of a field.
+/// The same before a field.
 fn advance_field(
     c: u8,
     row: &mut ByteRecord,
@@ -164,7 +164,7 @@ fn advance_plain(
     Ok(Some(Position::Plain))
 }
 
-/// Puts the field at hand behind the others.
+/// Puts the field at hand after the others.
 fn end_field(row: &mut ByteRecord, field: &mut Vec<u8>) -> Result<(), AllocError>
     requires { partial_of row.old ≡ [] }
     ensures fields { OnOk result (fields_of row.new ≡ fields_of row.old ++ field.old.items ∷ []) }

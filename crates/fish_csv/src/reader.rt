@@ -64,7 +64,7 @@ pub struct CsvRow<'r> {
 impl<'r> CsvRow<'r> {
     ghost use Rattle.fish_csv.specs.Row.{row_fields};
 
-    /// What the record has at a path, its text lent: a column by its name, `$1` for the first. A
+    /// What the record has at a path, its text borrowed: a column by its name, `$1` for the first. A
     /// whole number of 64 bits is [`FieldView::Int`], any other text is [`FieldView::Text`]. It takes
     /// no memory.
     pub fn look(&self, path: &Path) -> FieldView<'_>

@@ -70,7 +70,7 @@ impl CsvRecord {
         Ok(CsvRecord { row })
     }
 
-    /// What the record has at a path, its text lent: a column by its name, `$1` for the first. A
+    /// What the record has at a path, its text borrowed: a column by its name, `$1` for the first. A
     /// whole number of 64 bits is [`FieldView::Int`], any other text is [`FieldView::Text`]. It takes
     /// no memory.
     pub fn look(&self, path: &Path) -> FieldView<'_>

@@ -26,7 +26,7 @@ pub(crate) fn write_row(row: &ByteRecord, out: &mut Vec<u8>) -> Result<(), Alloc
     Ok(())
 }
 
-/// Writes what stands in front of the field at a position.
+/// Writes what stands before the field at a position.
 fn write_separator(position: usize, out: &mut Vec<u8>) -> Result<(), AllocError>
     ensures { OnOk result (out.new.items ≡ out.old.items ++ next_sep default_writer position) }
 {

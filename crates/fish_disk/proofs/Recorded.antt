@@ -50,7 +50,7 @@ earlier_call calls call k within =
     slice_get-get_or (calls ++ call ∷ []) k call (omega (arith, length-append calls (call ∷ [])))
     ∙ ap Some (get_or-append calls (call ∷ []) call k within) ∙ sym (slice_get-get_or calls k call within)
 
--- the last call is behind them
+-- the last call is after them
 pub last_call : (calls : List Call) (call : Call) → slice_get (calls ++ call ∷ []) (length calls) ≡ Some call
 last_call calls call =
     slice_get-get_or (calls ++ call ∷ []) (length calls) call (omega (arith, length-append calls (call ∷ [])))

@@ -27,14 +27,14 @@ drop_above at n p d c torn above =
     ∙ drop-drop k (at + n) d
     ∙ ap (λ q. drop q d) e
 
--- a part in front of the range stays
+-- a part before the range stays
 pub torn_below : (at n p m : ℕ) (d c : List ℕ) → Torn at n d c → p + m ≤ at → part p m c ≡ part p m d
 torn_below at n p m d c torn below =
     sym (drop-take p m c)
     ∙ ap (λ (l : List ℕ). drop p l) (take_below at n (p + m) d c torn below)
     ∙ drop-take p m d
 
--- a part behind the range stays
+-- a part after the range stays
 pub torn_above : (at n p m : ℕ) (d c : List ℕ) → Torn at n d c → at + n ≤ p → part p m c ≡ part p m d
 torn_above at n p m d c torn above = ap (λ (l : List ℕ). take m l) (drop_above at n p d c torn above)
 
@@ -56,7 +56,7 @@ torn_more at n m d c more torn = record {
   no_longer = omega (arith, more, torn.no_longer);
 }
 
--- two writes, one behind the other, leave what one of both ranges may
+-- two writes, one after the other, leave what one of both ranges may
 pub torn_then : (at n m : ℕ) (d e c : List ℕ) → Torn at n d e → Torn (at + n) m e c → Torn at (n + m) d c
 torn_then at n m d e c first second = record {
   before = take_below (at + n) m at e c second (omega arith) ∙ first.before;

@@ -1,4 +1,4 @@
--- A piece that is put over the last bytes and behind them, as far as there is room.
+-- A piece that is put over the last bytes and after them, as far as there is room.
 use Rattle.std.proofs.Common.{◌≡◌, ℕ, zero, suc, ◌+◌, ◌-◌, ◌<◌, ◌≤◌, ◌⊎◌, ⊎_elim, inl, inr, List, [], ◌++◌, length}
 use Rattle.std.proofs.Common.{take, refl, ap, sym, ◌∙◌, arith, append_assoc, append-nil, length-append}
 use Rattle.std.specs.Prelude.{min, Bool, true, false, IsTrue, Some, None, unwrap_or, if◌then◌else◌}

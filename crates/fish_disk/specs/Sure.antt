@@ -16,7 +16,7 @@ abbrev pub content_in : SureDisk → Option (List ℕ)
 content_in disk = if disk.told then Some disk.bytes.items else None
 
 -- bytes with a piece put over those from `at` on, as far as they fit the room. A piece that begins
--- behind the end is dropped
+-- past the end is dropped
 abbrev pub kept_with : ℕ → ℕ → List ℕ → List ℕ → List ℕ
 kept_with room at piece bytes =
     if nat_le at (length bytes) then take room (put_at at piece bytes) else bytes

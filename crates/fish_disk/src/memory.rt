@@ -58,7 +58,7 @@ impl MemoryDisk {
     }
 
     /// A disk with what a crash now may leave, none of whose calls fail. Two bits of `pick` for each
-    /// write behind the last sync, the lowest for the first of them, say what is left of it: nothing,
+    /// write after the last sync, the lowest for the first of them, say what is left of it: nothing,
     /// its first half, all of it, or foreign bytes. Copies all bytes once for each call.
     pub fn crashed(&self, alloc: Global, pick: u64) -> Result<MemoryDisk, AllocError>
         ensures { IfOk result (λ disk. images_of self.now disk.first × IsNew disk disk.first []) }
@@ -184,7 +184,7 @@ fn written(alloc: Global, bytes: &[u8], at: usize, piece: &[u8]) -> Result<Bytes
     Ok(all)
 }
 
-/// What a crash right behind a call leaves of these bytes, by choice where the call is a write.
+/// What a crash right after a call leaves of these bytes, by choice where the call is a write.
 fn left_by(alloc: Global, call: &Call, bytes: &[u8], choice: u64) -> Result<Bytes, AllocError>
     ensures { IfOk result (λ left. after_call call.now (Only bytes.now) left) }
 {
@@ -196,7 +196,7 @@ fn left_by(alloc: Global, call: &Call, bytes: &[u8], choice: u64) -> Result<Byte
 }
 
 /// What a crash leaves of a write, by choice: 0 nothing, 1 the first half of the piece, 2 all of it,
-/// and else foreign bytes. Of a write behind the end, whose ground was lost, it leaves nothing.
+/// and else foreign bytes. Of a write past the end, whose ground was lost, it leaves nothing.
 fn torn(
     alloc: Global,
     bytes: &[u8],

@@ -71,7 +71,7 @@ fn overwrite(bytes: &mut Vec<u8>, at: usize, piece: &[u8])
     bytes[at..at + piece.len()].copy_from_slice(piece);
 }
 
-/// Puts a piece behind the others as far as it fits, and answers whether all of it was put.
+/// Puts a piece after the others as far as it fits, and answers whether all of it was put.
 fn extend_within(bytes: &mut Vec<u8>, room: usize, piece: &[u8]) -> bool
     requires fits { length bytes.old.items ≤ room }
     requires holds { room ≤ vec_capacity bytes.old }

@@ -19,14 +19,14 @@ are_from n (l ∷ ls) ids = (
   are_from (suc n) ls (λ k m there. let e : m.id ≡ n + suc k = ids (suc k) m there in omega arith),
 )
 
--- an id in front of them ends none
+-- an id before them ends none
 end_none : (id n : ℕ) (ls : List Listed) → id < n → AreFrom n ls → ended_at id ls ≡ ls
 end_none id n [] less h = refl
 end_none id n (l ∷ ls) less h =
     (λ j. choose_second (ℕ_discrete l.id id) (ended l) l (λ e. let q = h.0 in omega arith) j
     ∷ end_none id (suc n) ls (omega arith) h.1 j)
 
--- an id behind them ends none
+-- an id after them ends none
 end_past : (k n : ℕ) (ls : List Listed) → length ls ≤ k → AreFrom n ls → ended_at (n + k) ls ≡ ls
 end_past k n [] less h = refl
 end_past zero n (l ∷ ls) less h = absurd (omega arith)

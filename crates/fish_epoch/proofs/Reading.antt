@@ -241,7 +241,7 @@ module _ (v u : View) (before x : ℕ) (ls : List Listed) (learns : Learns v u)
         more;
   }
 
-  -- the definition that was registered stands behind the others
+  -- the definition that was registered comes after the others
   pub made_registered : (t : View) (l : Listed) → x < 512 → Learns u t → HasRow t (length ls) l
       → KnowsDefinitions t.about t.learned (suc before) (ls ++ l ∷ [])
   made_registered t l less later row = record {

@@ -69,7 +69,7 @@ enters_epoch v e = record {
 
 -- ---- rounds
 
--- the version was announced, and the load behind it found what it found
+-- the version was announced, and the load after it found what it found
 pub record IsRound (v : View) (version found : ℕ) (u : View) : Type 0 where
   pub keeps : OnlyEnters v u
   pub epoch : u.epoch ≡ confirmed (Announced version) found
@@ -112,7 +112,7 @@ first_round v a b c version found first reached announced load rises few =
     round_of v a b c version found (subst (OnlyEnters v) (sym first) (enters_version v version reached))
     (ap (λ (z : View). z.learned.version) first) (omega arith) announced load rises few
 
--- a round behind another that found a newer version
+-- a round after another that found a newer version
 pub next_round : (v a b c : View) (before version found : ℕ) → IsRound v before version a → version ≢ before
     → b ≡ after_announce a version → c ≡ after_load_version b found → b.learned.version ≤ found → found ≤ 512
     → IsRound v version found c

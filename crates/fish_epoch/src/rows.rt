@@ -113,7 +113,7 @@ fn end_row(rows: &mut [Listed], id: u16)
     }
 }
 
-/// The words of a row, behind its boundaries, which are left 0.
+/// The words of a row, after its boundaries, which are left 0.
 fn read_words(log: &Log, pass: &mut Pass, id: u64) -> [u64; ROW_WORDS]
     requires pass { IsPassOf log.now pass.old }
     requires row { KnowsRow (view pass.old).about (view pass.old).learned id }

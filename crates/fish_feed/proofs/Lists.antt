@@ -51,7 +51,7 @@ pairs_both R S T f (x ∷ xs) (y ∷ ys) (z ∷ zs) h k = (f x y z h.0 k.0, pair
 pub get_at : {A : Type 0} (xs : List A) (i : ℕ) (x : A) → i < length xs → x ≡ get_or xs i x → slice_get xs i ≡ Some x
 get_at xs i x less is = slice_get_read xs (length xs) i x refl less is
 
--- what is so of each position is so with one more behind
+-- what is so of each position is so with one more after
 pub at_push : {A : Type 0} (P : ℕ → A → Type 0) (xs : List A) (x : A) → ((i : ℕ) (y : A) → slice_get xs i ≡ Some y → P i y)
     → P (length xs) x → (i : ℕ) (y : A) → slice_get (xs ++ x ∷ []) i ≡ Some y → P i y
 at_push P [] x h one zero y at = subst (P 0) (let e : x ≡ y = cc in e) one

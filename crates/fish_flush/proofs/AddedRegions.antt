@@ -122,7 +122,7 @@ module _ (k : Key) (v u : View) (n : ℕ) (a : Batch) (on : Extends v u) (stands
   pub added_lines : size ≡ 4 * copied.found.lines
   added_lines = copied.size_is ∙ copied.has.full ∙ omega arith
 
-  -- the next one begins behind it
+  -- the next one begins after it
   pub added_line : IsLineAt u (n + 1) (a.line + size / 4)
   added_line =
       let begins = added_next.begins in
@@ -186,7 +186,7 @@ module _ (k : Key) (v u : View) (n : ℕ) (a : Batch) (on : Extends v u) (stands
         read = λ c w old holds was.
             let frame = on.frame in
             let held = holds_later v u c.rows (ap (λ (z : View). z.lane) frame) (ap (λ (z : View). z.rows) frame)
-            (ap (λ (z : View). z.main_words) frame) holds in
+            (ap (λ (z : View). z.control_words) frame) holds in
             let h = read_more u stands copied.found copied.among copied.plain copied.read copied.has a.heads.items heads' out copied.spelled
             c (w ++ words_in (pending a)) old n a.line a.page a.starts.items held copied.number at was in
             let spelled : (w ++ words_in (pending a)) ++ out ≡ w ++ words_in (pending b) =

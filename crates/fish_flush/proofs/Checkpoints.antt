@@ -105,7 +105,7 @@ may_draft images v m f s rows c old to settles rises holds h =
     let frame = settles.frame in
     record {
       rows_are = holds_later v m rows (ap (λ (z : View). z.lane) frame) (ap (λ (z : View). z.rows) frame)
-          (ap (λ (z : View). z.main_words) frame) holds;
+          (ap (λ (z : View). z.control_words) frame) holds;
       shape = record { some_pages = omega arith; few_pages = omega arith; some_bits = omega arith; few_bits = omega arith };
       turn = omega arith;
       some = omega arith;
@@ -133,7 +133,7 @@ may_save images v m u end s f d rows c old to settles rises settled counted on h
     record {
       may = record {
         rows_are = holds_later m u rows (ap (λ (z : View). z.lane) frame) (ap (λ (z : View). z.rows) frame)
-            (ap (λ (z : View). z.main_words) frame) may.rows_are;
+            (ap (λ (z : View). z.control_words) frame) may.rows_are;
         shape = may.shape;
         turn = may.turn;
         some = may.some;
@@ -153,7 +153,7 @@ may_save images v m u end s f d rows c old to settles rises settled counted on h
 
 -- ---- refusals
 
--- want of memory is no fault
+-- that memory ran out is no fault
 pub no_fault : {T : Type 0} (r : Result T FlushRefusal) → IsErrAnd r (λ e. e ≡ OutOfMemory) → IsErrOf r DiskFault → ⊥
 no_fault (Ok x) h is = elim h [ ]
 no_fault (Err e) h is = cc

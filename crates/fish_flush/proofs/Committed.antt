@@ -56,7 +56,7 @@ pub committed_length : (f : Flusher) (c : Commit) (body lines : List ℕ) (log :
 committed_length f c body lines log h =
     ap (λ (l : List Entry). length l) (sym h.is.stands.entries) ∙ agrees_entries c _ c.count h.is.stands.end h.is.stands.agrees
 
--- entries that are told, one behind the other
+-- entries that are told, one after the other
 pub told_both : (u : View) (base : ℕ) (xs ys : List Entry) → AreKnown u base xs → AreKnown u (base + length xs) ys
     → AreKnown u base (xs ++ ys)
 told_both u base [] ys first second i e at =
@@ -118,7 +118,7 @@ still_goes f c log images at i h =
 module _ (images : List ℕ → Type 0) (f : Flusher) (v u : View) (s : Shape) (rows : List CatRow) (to : ℕ) (d : Draft)
     (lines : List ℕ) (drafts : IsDrafted u s f rows to d lines) (c : Commit) (old : List Entry) (at : IsAtRest images f c old)
     (bits : c.bucket_bits ≡ s.bucket_bits) (grown : Rattle.fish_flush.specs.Rows.HaveGrown c.count c.rows rows) where
-  -- what is kept behind it
+  -- what is kept after it
   after : Flusher
   after = flusher_after f d
 

@@ -66,7 +66,7 @@ commits_read f c d body lines old h bits grown catalog =
       size = length-words_of (length lines / 8) lines ∙ omega arith;
     }
 
--- and what was copied behind it makes it a commit of more
+-- and what was copied after it makes it a commit of more
 pub commits_more : (f g : Flusher) (c d : Commit) (body lines body' lines' more_words : List ℕ) (old more : List Entry)
     → IsCommitted f c body lines old → IsBodyOf d body' → words_in lines' ≡ more_words → f.line ≤ d.lines
     → length lines' ≡ 32 * (d.lines - f.line) → d.turn ≡ g.turn → d.count ≡ g.count → d.lines ≡ g.line

@@ -99,7 +99,7 @@ filled_more v u x end from to n a b d lines first more h one =
           let r = h.read c w old holds read in
           let frame = first.frame in
           let held = holds_later v u c.rows (ap (λ (z : View). z.lane) frame) (ap (λ (z : View). z.rows) frame)
-          (ap (λ (z : View). z.main_words) frame) holds in
+          (ap (λ (z : View). z.control_words) frame) holds in
           let apart : w ++ words_in (lines ++ pending b) ≡ (w ++ words_in lines) ++ words_in (pending b) =
           ap (λ (l : List ℕ). w ++ l) before ∙ sym (append_assoc w (words_in lines) (words_in (pending b))) in
           let both : (w ++ words_in lines) ++ words_in (pending d) ≡ w ++ words_in (lines ++ pending d) =

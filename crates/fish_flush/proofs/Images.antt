@@ -38,7 +38,7 @@ part-add p n m c = take-add n m (drop p c) ∙ ap (λ (l : List ℕ). take n (dr
 
 -- ---- torn writes
 
--- lines that are written behind those that a slot counts leave what it is
+-- lines that are written after those that a slot counts leave what it is
 pub rests_lines : (s line n : ℕ) (b w d c : List ℕ) → s ≤ 1 → line_count b ≤ line → Torn (lines_at + 32 * line) n d c
     → Rests s b w d → Rests s b w c
 rests_lines s line n b w d c le few torn h =

@@ -23,7 +23,7 @@ use Rattle.fish_registry.specs.declared.registrar.Registrar.{Registrar}
 use Rattle.fish_rule.proofs.laws.Intervals.{longer_at}
 use Rattle.fish_rule.proofs.laws.Versions.{drafted_here}
 use Rattle.fish_rule.specs.Logs.{AreKnown}
-use Rattle.fish_rule.specs.Registry.{main_word, row_at}
+use Rattle.fish_rule.specs.Registry.{control_word, row_at}
 use Rattle.fish_rule.specs.Table.{boundaries_of, first_view}
 use Rattle.fish_rule.specs.declared.view.Key.{Key}
 
@@ -87,20 +87,20 @@ pub first_holds : FirstHolds
 first_holds k =
     let rows : List CatRow = k.rows.value in
     record {
-      main = refl;
+      control = refl;
       listed = refl;
       from = λ id row there. (let place : 0 + id ≡ id = omega arith in
-          ap (λ (n : ℕ). main_word (boundaries_of 0 rows) (row_at n 0)) (sym place)
+          ap (λ (n : ℕ). control_word (boundaries_of 0 rows) (row_at n 0)) (sym place)
           ∙ drafted_here 0 id 0 rows row there (omega arith) ∙ from_is row);
       to = λ id row there. (let place : 0 + id ≡ id = omega arith in
-          ap (λ (n : ℕ). main_word (boundaries_of 0 rows) (row_at n 1)) (sym place)
+          ap (λ (n : ℕ). control_word (boundaries_of 0 rows) (row_at n 1)) (sym place)
           ∙ drafted_here 0 id 1 rows row there (omega arith) ∙ to_is row);
     }
 
 -- what a registrar knows of its rows has it
 pub known_held : KnownAreHeld
 known_held v r knows = record {
-  main = knows.main;
+  control = knows.control;
   listed = knows.listed;
   from = λ id row there. (knows.bounds id row there).from;
   to = λ id row there. (knows.bounds id row there).to;

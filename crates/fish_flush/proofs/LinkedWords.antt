@@ -52,7 +52,7 @@ bucket_same n c e f head second third rest =
 
 -- ---- key entries
 
--- key entries of two lists of keys, one behind the other
+-- key entries of two lists of keys, one after the other
 with_more : (n line c : ℕ) (xs : List KeyPart) (k : KeyPart) (places : List (ℕ × ℕ))
     → with_keys n line c (xs ++ k ∷ []) places ≡ (bucket_of_key n k, place_of line (c + length xs)) ∷ with_keys n line c xs places
 with_more n line c [] k places =
@@ -71,7 +71,7 @@ with_relinked r n line c d [] places = refl
 with_relinked r n line c d (k ∷ ks) places =
     with_relinked r n line (c + 1) (d + 1) ks ((bucket_of_key n k, place_of line c) ∷ places)
 
--- the previous node of a key, where it is there, behind these key entries
+-- the previous node of a key, where it is there, after these key entries
 abbrev pub prev_in : ℕ → List (ℕ × ℕ) → Option KeyPart → ℕ
 prev_in n places None = 0
 prev_in n places (Some k) = head_of places (bucket_of_key n k)

@@ -1,4 +1,4 @@
--- Lines are written behind those that were written before.
+-- Lines are written after those that were written before.
 use Rattle.std.proofs.Common.{◌≡◌, ℕ, ◌+◌, ◌-◌, ◌*◌, ◌/◌, ◌<◌, ◌≤◌, List, [], ◌++◌, length, take, drop}
 use Rattle.std.proofs.Common.{refl, ap, sym, ◌∙◌, subst, arith, length-append, length-drop}
 use Rattle.std.proofs.Math.Seq.{drop-append_seam, take-add, take-append_seam, take-length}
@@ -12,7 +12,7 @@ use Rattle.fish_flush.specs.Writing.{HasPut, IsPut}
 use Rattle.fish_slots.specs.Offsets.{lines_at}
 use Rattle.fish_flush.proofs.Images.{part-add}
 
--- a piece that was put makes the content reach behind it
+-- a piece that was put makes the content reach after it
 pub put_long : (at : ℕ) (piece o c : List ℕ) → at ≤ length o → c ≡ put_at at piece o → at + length piece ≤ length c
 put_long at piece o c within is =
     let front = length-take-le at o within in
@@ -34,7 +34,7 @@ torn_none at c = record { before = refl; after = refl; no_shorter = omega arith;
 taken : (n : ℕ) (l : List ℕ) → n ≤ length l → length (take n l) ≡ n
 taken n l less = length-take-le n l less
 
--- one piece behind what was put
+-- one piece after what was put
 pub put_more : (old mid new : Option (List ℕ)) (at n m to : ℕ) (lines piece : List ℕ) → n + m ≤ length lines → to ≡ at + n
     → piece ≡ take m (drop n lines) → HasPut old mid at (take n lines) → IfSome mid (λ c. to ≤ length c) → HasWritten mid new to piece
     → HasPut old new at (take (n + m) lines)
@@ -67,7 +67,7 @@ put_more old mid (Some c) at n m to lines piece less to_is is put long written =
           (part-add at n m c ∙ (λ i. low i ++ high i) ∙ sym (take-add n m lines)),
     )
 
--- a piece behind lines that were put
+-- a piece after lines that were put
 pub put_behind : (old mid new : Option (List ℕ)) (at to : ℕ) (lines piece : List ℕ) → to ≡ at + length lines
     → HasPut old mid at lines → IfSome mid (λ c. to ≤ length c) → HasWritten mid new to piece → HasPut old new at (lines ++ piece)
 put_behind old mid new at to lines piece to_is put long written =
@@ -94,7 +94,7 @@ put_is old (Some c) line lines put long =
     let more = put.2.no_shorter in
     (omega arith, put.3)
 
--- and the content reaches behind it
+-- and the content reaches after it
 pub long_more : (mid new : Option (List ℕ)) (to end : ℕ) (piece : List ℕ) → to + length piece ≡ end → IfSome mid (λ c. to ≤ length c)
     → HasWritten mid new to piece → IfSome new (λ c. end ≤ length c)
 long_more mid None to end piece is long written = tt
@@ -155,7 +155,7 @@ module _ {D : Type 0} (content : D → Option (List ℕ)) (images : D → List �
       crash_more images since moment x y z (lines_at + 32 * line) (32 * (written - line)) (32 * (to - written)) (32 * (to - line))
       (lines_at + 32 * written) (32 * (to - written)) (omega arith) refl (omega arith) h.crash write
 
-  -- more lines behind them
+  -- more lines after them
   pub written_more : (y z : D) (line written to : ℕ) (lines piece : List ℕ) → line ≤ written → written < to
       → length lines ≡ 32 * (written - line) → length piece ≡ 32 * (to - written) → AreWritten y line written lines
       → HasWritten (content y) (content z) (lines_at + 32 * written) piece

@@ -74,13 +74,13 @@ looked_in k v u m n lines word line about above settled same sees is low_is =
 
 -- the control pass holds its rows as it reads on
 pub holds_later : (v u : View) (rows : List Rattle.fish_catalog.specs.declared.row.CatRow.CatRow) → u.lane ≡ v.lane → u.rows ≡ v.rows
-    → u.main_words ≡ v.main_words → HoldsRows v rows → HoldsRows u rows
+    → u.control_words ≡ v.control_words → HoldsRows v rows → HoldsRows u rows
 holds_later v u rows lane listed words h = record {
-  main = lane ∙ h.main;
+  control = lane ∙ h.control;
   listed = h.listed ∙ sym listed;
-  from = λ id row there. ap (λ z. Rattle.fish_rule.specs.Registry.main_word z (Rattle.fish_rule.specs.Registry.row_at id 0)) words
+  from = λ id row there. ap (λ z. Rattle.fish_rule.specs.Registry.control_word z (Rattle.fish_rule.specs.Registry.row_at id 0)) words
       ∙ h.from id row there;
-  to = λ id row there. ap (λ z. Rattle.fish_rule.specs.Registry.main_word z (Rattle.fish_rule.specs.Registry.row_at id 1)) words
+  to = λ id row there. ap (λ z. Rattle.fish_rule.specs.Registry.control_word z (Rattle.fish_rule.specs.Registry.row_at id 1)) words
       ∙ h.to id row there;
 }
 
@@ -165,7 +165,7 @@ next_starts c s lines r t (inr v) = ap (λ (z : Reached). z.starts) v.2
 
 module _ (v : View) (s : Stands v) (f : Found) (among : Among f v.learned.found) (plain : f.kind ≢ Mark) (words : List ℕ)
     (has : HasWords v f words) (heads heads' out : List ℕ) (spelled : AreSpelled f.line words heads heads' out) where
-  -- the region follows an image that has all in front of it
+  -- the region follows an image that has all before it
   next_region : (c : Commit) (at : Reached) → HoldsRows v c.rows → 2 ^ c.bucket_bits ≡ length heads → at.number ≡ f.number
       → at.line ≡ f.line → f.line + f.lines ≤ c.lines → AreHeads (length heads) at.places heads
       → IsNextRegion c at v f.number f.lines out heads heads'

@@ -55,7 +55,7 @@ nothing_leaves im since moment x f u rows c old at = record {
   was = λ i here. (i, here);
 }
 
--- where lines were written behind those that it counts, and perhaps torn, every image rests as it did
+-- where lines were written after those that it counts, and perhaps torn, every image rests as it did
 pub torn_rests : {D : Type 0} (im : D → List ℕ → Type 0) (since : D → ℕ → List ℕ → Type 0) (moment : D → ℕ) (x y : D) (f : Flusher)
     (c : Commit) (old : List Entry) (n : ℕ) (at : IsAtRest (im x) f c old)
     → LeavesOnly im since moment x y (TornFrom (im x) (lines_at + 32 * f.line) n)

@@ -37,7 +37,7 @@ module _ {D : Type 0} (content : D → Option (List ℕ)) (images : D → List �
   saved_draft : IsDrafted u s f rows d.count (record d { batch = b }) lines
   saved_draft = drafted m u end s f rows d.count d b lines may.may may.drafts on stands copied
 
-  -- the lines were written behind those of the last commit
+  -- the lines were written after those of the last commit
   saved_torn : LeavesOnly images since moment x y (TornFrom (images x) (lines_at + 32 * f.line) n)
   saved_torn = subst (λ (k : ℕ). LeavesOnly images since moment x y (TornFrom (images x) (lines_at + 32 * k) n))
       may.drafts.begins.line crash

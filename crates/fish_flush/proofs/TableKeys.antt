@@ -83,7 +83,7 @@ module _ {v : View} (w : World) (r : Rule v.about w) (seat : ℕ) (at : get_elem
     (rows : List CatRow) (holds : HoldsRows v rows) where
   -- the definitions of the version are those of the rows
   now : definitions_at v.about w.registry (version_in w.registry) ≡ map listed_of rows
-  now = ((r.registry.each seat v at).main holds.main).definitions ∙ sym holds.listed
+  now = ((r.registry.each seat v at).control holds.control).definitions ∙ sym holds.listed
 
   -- there are at most 256
   pub few_rows : (id : ℕ) (row : CatRow) → slice_get rows id ≡ Some row → id < 256
@@ -97,12 +97,12 @@ module _ {v : View} (w : World) (r : Rule v.about w) (seat : ℕ) (at : get_elem
   -- the boundaries stand in the words
   pub begin_word : (id : ℕ) (row : CatRow) → slice_get rows id ≡ Some row → w.registry (row_at id 0) ≡ bound_word row.from
   begin_word id row there =
-      ((r.registry.each seat v at).main holds.main).owned (row_at id 0) (inr (id, 0, few_rows id row there, omega arith, refl))
+      ((r.registry.each seat v at).control holds.control).owned (row_at id 0) (inr (id, 0, few_rows id row there, omega arith, refl))
       ∙ holds.from id row there
 
   pub end_word : (id : ℕ) (row : CatRow) → slice_get rows id ≡ Some row → w.registry (row_at id 1) ≡ bound_word row.to
   end_word id row there =
-      ((r.registry.each seat v at).main holds.main).owned (row_at id 1) (inr (id, 1, few_rows id row there, omega arith, refl))
+      ((r.registry.each seat v at).control holds.control).owned (row_at id 1) (inr (id, 1, few_rows id row there, omega arith, refl))
       ∙ holds.to id row there
 
   module _ (n : ℕ) (above : v.about.number ≤ n) (below : n < w.count) (p : BodyParts) (lines : ℕ) (e : ℕ → ℕ)

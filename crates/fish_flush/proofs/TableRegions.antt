@@ -1,4 +1,4 @@
--- The words of a region of the table, with its previous nodes, follow an image that has all in front of it.
+-- The words of a region of the table, with its previous nodes, follow an image that has all before it.
 use Rattle.std.proofs.Common.{◌≡◌, ◌≢◌, ℕ, zero, suc, ◌+◌, ◌-◌, ◌*◌, ◌/◌, ◌<◌, ◌≤◌, ◌^◌, inl, inr, List}
 use Rattle.std.proofs.Common.{[], ◌∷◌, ◌++◌, length, get_or}
 use Rattle.std.proofs.Common.{refl, ap, sym, ◌∙◌, subst, arith, Some, slice_get}

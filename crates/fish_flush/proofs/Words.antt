@@ -35,7 +35,7 @@ no_bytes : (a : List ℕ) → length a ≡ 0 → a ≡ []
 no_bytes [] size = refl
 no_bytes (x ∷ a) size = absurd (omega arith)
 
--- words of two lists of bytes, one behind the other
+-- words of two lists of bytes, one after the other
 words_append : (n m : ℕ) (a b : List ℕ) → length a ≡ 8 * n → words_of (n + m) (a ++ b) ≡ words_of n a ++ words_of m b
 words_append zero m a b size =
     let none : a ≡ [] = no_bytes a (omega arith) in

@@ -49,7 +49,7 @@ KnownAreHeld = (v : View) (r : Registrar) → Knows v r → HoldsRows v r.catalo
 
 -- they stay so, whatever else the pass does
 abbrev pub HoldsOn : Type 0
-HoldsOn = (v u : View) (rows : List CatRow) → u.lane ≡ v.lane → u.rows ≡ v.rows → u.main_words ≡ v.main_words
+HoldsOn = (v u : View) (rows : List CatRow) → u.lane ≡ v.lane → u.rows ≡ v.rows → u.control_words ≡ v.control_words
     → HoldsRows v rows → HoldsRows u rows
 
 -- ---- how rows go on, from those of a commit of so many entries

@@ -4,15 +4,15 @@ use Rattle.fish_catalog.specs.Covering.{Covers}
 use Rattle.fish_catalog.specs.Listing.{listed_of}
 use Rattle.fish_catalog.specs.Words.{bound_word}
 use Rattle.fish_catalog.specs.declared.row.CatRow.{CatRow}
-use Rattle.fish_rule.specs.Registry.{main_word, row_at}
+use Rattle.fish_rule.specs.Registry.{control_word, row_at}
 use Rattle.fish_rule.specs.declared.view.View.{View}
 
 -- the rows are those of the log's words, as the control pass knows them: its definitions, and where their indices begin and end
 pub record HoldsRows (v : View) (rows : List CatRow) : Type 0 where
-  pub main : v.lane ≡ 1
+  pub control : v.lane ≡ 1
   pub listed : map listed_of rows ≡ v.rows
-  pub from : (id : ℕ) (row : CatRow) → slice_get rows id ≡ Some row → main_word v.main_words (row_at id 0) ≡ bound_word row.from
-  pub to : (id : ℕ) (row : CatRow) → slice_get rows id ≡ Some row → main_word v.main_words (row_at id 1) ≡ bound_word row.to
+  pub from : (id : ℕ) (row : CatRow) → slice_get rows id ≡ Some row → control_word v.control_words (row_at id 0) ≡ bound_word row.from
+  pub to : (id : ℕ) (row : CatRow) → slice_get rows id ≡ Some row → control_word v.control_words (row_at id 1) ≡ bound_word row.to
 
 -- the rows went on: each old one is there under its id with its text, and a new one covers no record below a number that the
 -- old one under its id didn't cover

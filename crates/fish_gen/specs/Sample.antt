@@ -1,7 +1,7 @@
 -- What the records of a sample are.
 use Rattle.std.specs.Prelude.{ℕ, ◌*◌, ◌%◌, ◌^◌, List, ◌++◌, codes, decimal}
 
--- the key of a number: its product with a factor, modulo 2^32, and of that what is left behind whole thousands
+-- the key of a number: its product with a factor, modulo 2^32, and of that what is left past whole thousands
 abbrev pub sample_key : ℕ → ℕ
 sample_key n = ((n * 2654435761) % 2 ^ 32) % 1000
 

@@ -22,7 +22,7 @@ pub fn sample_record(alloc: Global, number: u32) -> Result<Text, AllocError>
 }
 
 /// The key of a number: multiplicative hashing with a factor near the golden ratio of 2^32 (Knuth, "The Art of Computer
-/// Programming", volume 3, section 6.4), and of that what is left behind whole thousands.
+/// Programming", volume 3, section 6.4), and of that what is left past whole thousands.
 fn key_of(number: u32) -> u32
     ensures { result ≡ sample_key number }
 {

@@ -1,4 +1,4 @@
--- Regions that agree: there is one way to read words, and what comes behind them changes nothing.
+-- Regions that agree: there is one way to read words, and what comes after them changes nothing.
 use Rattle.std.proofs.Common.{◌≡◌, ℕ, zero, suc, ◌+◌, ◌-◌, ◌*◌, ◌<◌, ◌≤◌, ◌^◌, List, ◌++◌, inl, inr}
 use Rattle.std.proofs.Common.{length, take, drop, replicate, sym, ap, subst, ◌∙◌, arith, length-drop}
 use Rattle.std.specs.Prelude.{slice_index}
@@ -67,7 +67,7 @@ front_whole c s rest n h =
     let size = length-take (4 * region_lines rest) rest in
     omega arith
 
--- what comes behind changes nothing
+-- what comes after changes nothing
 pub at_more : (c : Commit) (s : Reached) (rest more : List ℕ) (n : Reached) → FollowsAt c s rest n → FollowsAt c s (rest ++ more) n
 at_more c s rest more n h =
     let g = goes c s (region_lines rest) (region rest) n h in
@@ -109,12 +109,12 @@ agrees_once c w (suc k) s t h g =
     follows_once c h.0 _ _ s t (lines_small (slice_index (drop (4 * h.0.line) w) 0)) h.2
     (subst (λ (z : Reached). Follows c w z t) same g.2)
 
--- what comes behind changes nothing
+-- what comes after changes nothing
 pub agrees_more : (c : Commit) (w more : List ℕ) (k : ℕ) (s : Reached) → Agrees c w k s → Agrees c (w ++ more) k s
 agrees_more c w more zero s h = h
 agrees_more c w more (suc k) s h = (h.0, agrees_more c w more k h.0 h.1, follows_more c w more h.0 s h.2)
 
--- where more agree, the first ones do, and one behind them
+-- where more agree, the first ones do, and one after them
 pub agrees_first : (c : Commit) (w : List ℕ) (k n : ℕ) (s : Reached) → k < n → Agrees c w n s
     → (t : Reached) × Agrees c w k t × ((u : Reached) × Follows c w t u)
 agrees_first c w k zero s less h = absurd (omega arith)
@@ -150,7 +150,7 @@ no_log c w k log d h =
           d.lines all (ap (λ (z : Reached). z.line) same ∙ h.lines)
     ]
 
--- behind a number of entries that agree another one agrees, where more of them do
+-- after a number of entries that agree another one agrees, where more of them do
 stops_first : (c : Commit) (w : List ℕ) (k n : ℕ) → IsDamaged c w k → IsDamaged c w n → k < n → ⊥
 stops_first c w k n d e less =
     let t = agrees_first c w k n e.end less e.agrees in
@@ -158,7 +158,7 @@ stops_first c w k n d e less =
     let same = agrees_once c w k t.0 d.end t.1 d.agrees in
     d.last (omega arith) t.2.0 (subst (λ (z : Reached). Follows c w z t.2.0) same t.2.1)
 
--- words are damaged behind one number of entries
+-- words are damaged after one number of entries
 pub one_damage : (c : Commit) (w : List ℕ) (k n : ℕ) → IsDamaged c w k → IsDamaged c w n → k ≡ n
 one_damage c w k n d e =
     elim (cases_lt k n) [
@@ -185,11 +185,11 @@ pub within_lines : (c : Commit) (s : Reached) (lines : ℕ) (r : List ℕ) (n : 
 within_lines c s lines r n (inl v) = (v.0.some, v.0.within)
 within_lines c s lines r n (inr v) = ((goes c s lines r n (inr v)).some, v.1.kept.within)
 
--- the header says the same with more words behind
+-- the header says the same with more words after
 pub same_lines : (rest more : List ℕ) → 0 < length rest → region_lines (rest ++ more) ≡ region_lines rest
 same_lines rest more some = ap lines_of (get_or_append_left rest more 0 0 some)
 
--- a region that stands there with more words behind stands there, if they are enough
+-- a region that stands there with more words after stands there, if they are enough
 pub at_less : (c : Commit) (s : Reached) (rest more : List ℕ) (n : Reached) → 0 < length rest → 4 * region_lines rest ≤ length rest
     → FollowsAt c s (rest ++ more) n → FollowsAt c s rest n
 at_less c s rest more n some whole h =

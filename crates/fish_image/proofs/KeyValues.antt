@@ -71,6 +71,6 @@ none_below least id (k ∷ ks) h above =
     under_other id k ks (λ same. absurd (omega (arith, same, h.0, above)))
     ∙ none_below k.id id ks h.3 (omega (arith, h.0, above))
 
--- nor do they behind one of them
+-- nor do they after one of them
 pub none_from : (id : ℕ) (k : KeyPart) (ks : List KeyPart) → AreProperKeys 0 (k ∷ ks) → id < k.id → values_under id (k ∷ ks) ≡ []
 none_from id k ks h above = under_other id k ks (λ same. absurd (omega arith)) ∙ none_below k.id id ks h.3 above

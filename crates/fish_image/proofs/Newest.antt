@@ -57,13 +57,13 @@ other false x y h = refl
 among_more : (x : ℕ × ℕ) (xs : List (ℕ × ℕ)) (b p : ℕ) → IsAmong xs b p → IsAmong (x ∷ xs) b p
 among_more x xs b p h = record { at = suc h.at; there = h.there }
 
--- none is behind the first
+-- none is after the first
 first_most : (bound : ℕ) (x : ℕ × ℕ) (xs : List (ℕ × ℕ)) (b q k : ℕ) → Descend bound (x ∷ xs) → slice_get (x ∷ xs) k ≡ Some (b, q) → q ≤ x.1
 first_most bound x xs b q zero h at =
     let place : x.1 ≡ q = ap (λ (z : ℕ × ℕ). z.1) (same_Some x (b, q) at) in omega arith
 first_most bound x xs b q (suc k) h at = (let less = (descend_among x.1 xs k b q h.2 at).0 in omega arith)
 
--- one of another bucket than the first stands behind it
+-- one of another bucket than the first comes after it
 rest_most : (x : ℕ × ℕ) (xs : List (ℕ × ℕ)) (b q k p : ℕ) → (x.0 ≡ b → ⊥) → IsNewest xs b p → slice_get (x ∷ xs) k ≡ Some (b, q) → q ≤ p
 rest_most x xs b q zero p apart h at = absurd (apart (ap (λ (z : ℕ × ℕ). z.0) (same_Some x (b, q) at)))
 rest_most x xs b q (suc k) p apart h at = h.most q (record { at = k; there = at })
@@ -96,7 +96,7 @@ head_newest bound (x ∷ xs) b h =
           })
     ]
 
--- the key entries of a record stand behind those before it, and within its words
+-- the key entries of a record come after those before it, and within its words
 keys_descend : (n line c : ℕ) (ks : List KeyPart) (places : List (ℕ × ℕ)) → Descend (place_of line c) places
     → Descend (place_of line (c + length ks)) (with_keys n line c ks places)
 keys_descend n line c [] places h = descend_more (place_of line c) (place_of line (c + 0)) places (omega arith) h

@@ -1,4 +1,4 @@
--- What was seen of words, as more come behind them.
+-- What was seen of words, as more come after them.
 use Rattle.std.proofs.Common.{◌≡◌, ℕ, ◌<◌, ◌≤◌, List, [], ◌∷◌, ◌++◌, Option, Some, None, append_assoc, append-nil}
 use Rattle.std.proofs.Common.{length, zero, suc, refl, sym, subst, ◌∙◌, arith, slice_get, inl, inr, ◌⊎◌}
 use Rattle.fish_catalog.specs.declared.commit.Commit.{Commit}
@@ -27,7 +27,7 @@ breaks_more c w more n h = record {
       h.never (more ++ last) m (subst (λ (l : List ℕ). Follows c l h.end m) (append_assoc w more last) follows);
 }
 
--- behind all entries nothing is looked at
+-- after all entries nothing is looked at
 pub seen_more : (o : Option ℕ) (c : Commit) (w more left : List ℕ) (at : Progress) → Seen o c w left at → c.count ≤ at.number
     → Seen o c (w ++ more) left at
 seen_more (Some n) c w more left at h all = breaks_more c w more n h
@@ -63,7 +63,7 @@ breaks_damaged c w n h =
       lines = λ same. absurd (omega arith);
     }
 
--- one element more behind a list
+-- one element more after a list
 pub pushed : {A : Type 0} (xs : List A) (x y : A) (k : ℕ) → slice_get (xs ++ x ∷ []) k ≡ Some y
     → ((k < length xs) × (slice_get xs k ≡ Some y)) ⊎ ((k ≡ length xs) × (Some x ≡ Some y))
 pushed [] x y zero h = inr (refl, h)

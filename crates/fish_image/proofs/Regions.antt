@@ -79,7 +79,7 @@ pub link_first : (n line : ℕ) (keys : List KeyPart) (places : List (ℕ × ℕ
     → IsLinkedTo n line 0 keys places places now
 link_first n line keys places now h = record { heads = h; there = λ x. x; back = λ x. x; same = refl }
 
--- the next key entry stands in front of the others
+-- the next key entry stands before the others
 pub next_key : (keys : List KeyPart) (c : ℕ) (key : KeyPart) → c < length keys → key ≡ get_or keys c key
     → drop c keys ≡ key ∷ drop (c + 1) keys
 next_key keys c key less is =

@@ -35,11 +35,11 @@ pub length-zeros : (n : ℕ) → length (zeros n) ≡ n
 unfolding zeros
 length-zeros n = length-replicate n 0
 
--- behind the first bytes stands what follows
+-- after the first bytes stands what follows
 pub behind : (xs ys : List ℕ) (n : ℕ) → length xs ≡ n → drop n (xs ++ ys) ≡ ys
 behind xs ys n size = ap (λ (m : ℕ). drop m (xs ++ ys)) (sym size) ∙ drop-append_seam xs ys
 
--- and further behind
+-- and further after
 pub further : (xs ys : List ℕ) (n m : ℕ) → length xs ≡ n → drop (n + m) (xs ++ ys) ≡ drop m ys
 further xs ys n m size = ap (λ (k : ℕ). drop (k + m) (xs ++ ys)) (sym size) ∙ drop-append-add xs ys m
 
@@ -80,7 +80,7 @@ length-padded n b few =
     let rest = length-zeros (n - length b) in
     omega arith
 
--- what stands behind the boundaries of a row
+-- what follows the boundaries of a row
 abbrev pub behind_boundaries : CatRow → List ℕ
 behind_boundaries row = length row.name ∷ length row.def ∷ (padded 46 row.name ++ padded 256 row.def)
 
@@ -128,7 +128,7 @@ module _ (row : CatRow) (b : List ℕ) (is : b ≡ row_bytes row) (h : IsSpellab
       ap (λ (l : List ℕ). number (drop (8 * k) l)) in_parts
       ∙ words_at (boundary_words row) k (behind_boundaries row) less both_fit
 
-  -- what stands behind them
+  -- what follows them
   row_behind : drop 16 b ≡ behind_boundaries row
   row_behind =
       ap (λ (l : List ℕ). drop 16 l) in_parts
@@ -141,7 +141,7 @@ module _ (row : CatRow) (b : List ℕ) (is : b ≡ row_bytes row) (h : IsSpellab
   pub text_length : get_or b 17 0 ≡ length row.def
   text_length = sym (get_or-drop 16 b 1 0) ∙ ap (λ (l : List ℕ). get_or l 1 0) row_behind
 
-  -- the name, and what stands behind
+  -- the name, and what follows
   name_behind : drop 18 b ≡ padded 46 row.name ++ padded 256 row.def
   name_behind = sym (drop-drop 2 16 b) ∙ ap (λ (l : List ℕ). drop 2 l) row_behind
 
@@ -164,7 +164,7 @@ gone o some none = absurd (cc (subst IsSome none some))
 
 -- ---- several rows
 
--- a list in front of a position, what stands there, and the rest
+-- a list before a position, what stands there, and the rest
 pub parted : {A : Type 0} (xs : List A) (n : ℕ) → n < length xs →
     (x : A) × (slice_get xs n ≡ Some x) × (drop n xs ≡ x ∷ drop (n + 1) xs) × (take (n + 1) xs ≡ take n xs ++ x ∷ [])
 parted [] n less = absurd (omega arith)
@@ -244,7 +244,7 @@ module _ (c : Commit) (b : List ℕ) (h : IsBodyOf c b) where
         texts = subst HasTexts is (h.commit.texts k row less);
       }
 
-  -- the rows stand behind the head
+  -- the rows come after the head
   pub told_rows : AreRowsOf c.rows (zeros (bytes_behind (length c.rows))) (take (length b - 64) (drop 64 b))
   told_rows = record {
     spellable = told_row;

@@ -28,7 +28,7 @@ pub record IsChecker (checker : Checker) : Type 0 where
   pub words : List ℕ
   pub seen : HasSeen commit checker words
 
--- what a piece of words comes to: they were seen; or they were, and so many entries agree, whatever comes behind; or memory
+-- what a piece of words comes to: they were seen; or they were, and so many entries agree, whatever comes after; or memory
 -- ran out, and it is as if they had not come
 abbrev pub Fed : Result (Unit {0}) ImageRefusal → Commit → List ℕ → List ℕ → Checker → Type 0
 Fed (Ok _) c w piece new = HasSeen c new (w ++ piece)
@@ -43,7 +43,7 @@ pub record HasChecked (c : Commit) (w : List ℕ) (checked : Checked) : Type 0 w
   pub heads : AreHeads (2 ^ c.bucket_bits) end.places checked.heads
   pub starts : checked.starts ≡ end.starts
 
--- words are refused for want of memory, or since they stand for no log, with the count of leading entries that agree
+-- words are refused where memory runs out, or since they stand for no log, with the count of leading entries that agree
 abbrev pub IsCause : Commit → List ℕ → ImageRefusal → Type 0
 IsCause c w (Damaged n) = IsDamaged c w n
 IsCause c w OutOfMemory = Unit {0}

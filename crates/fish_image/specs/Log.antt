@@ -80,7 +80,7 @@ pub record IsRecordAt (c : Commit) (s : Reached) (lines : ℕ) (r : List ℕ) (p
   pub number : p.number ≡ s.number
   pub kept : IsKeptAt c s lines p
 
--- behind a record with these parts
+-- after a record with these parts
 abbrev pub behind_record : Commit → Reached → ℕ → BodyParts → Reached
 behind_record c s lines p =
     behind s lines (with_keys (2 ^ c.bucket_bits) s.line 0 p.keys s.places) (Stored p.lane p.form p.payload)

@@ -36,7 +36,7 @@ with_keys buckets line c [] places = places
 with_keys buckets line c (k ∷ ks) places =
     with_keys buckets line (c + 1) ks ((bucket_of_key buckets k, place_of line c) ∷ places)
 
--- each previous node of the record at a line is the newest key entry of its bucket in front of it, or 0
+-- each previous node of the record at a line is the newest key entry of its bucket before it, or 0
 abbrev pub AreLinked : ℕ → ℕ → ℕ → List KeyPart → List (ℕ × ℕ) → Type 0
 AreLinked buckets line c [] places = Unit {0}
 AreLinked buckets line c (k ∷ ks) places =
@@ -47,7 +47,7 @@ AreLinked buckets line c (k ∷ ks) places =
 abbrev pub starts_behind : Reached → List PageStart
 starts_behind s = starts_after s.page s.number s.line s.starts
 
--- behind a region of so many lines that holds an entry, with these key entries
+-- after a region of so many lines that holds an entry, with these key entries
 abbrev pub behind : Reached → ℕ → List (ℕ × ℕ) → Entry → Reached
 behind s lines places entry =
     record {

@@ -24,7 +24,7 @@ pub record IsRowOf (id : ℕ) (row : CatRow) (b : List ℕ) : Type 0 where
   pub id_is : row.id ≡ id
   pub bytes : b ≡ row_bytes row
 
--- the bytes begin with those of these rows, whose ids are their positions, and others stand behind
+-- the bytes begin with those of these rows, whose ids are their positions, and others come after
 pub record AreRowsOf (rows : List CatRow) (more b : List ℕ) : Type 0 where
   pub spellable : (k : ℕ) (row : CatRow) → slice_get rows k ≡ Some row → IsSpellable row
   pub ids : (k : ℕ) (row : CatRow) → slice_get rows k ≡ Some row → row.id ≡ k

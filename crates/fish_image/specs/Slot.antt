@@ -17,7 +17,7 @@ number b = little_number 8 b
 unfoldable pub zeros : ℕ → List ℕ
 zeros n = replicate n 0
 
--- bytes with zero bytes behind them, so many together
+-- bytes with zero bytes after them, so many together
 abbrev pub padded : ℕ → List ℕ → List ℕ
 padded n b = b ++ zeros (n - length b)
 
@@ -45,7 +45,7 @@ abbrev pub head_words : Commit → List ℕ
 head_words c =
     sign_of c.format ∷ c.turn ∷ c.pages ∷ c.bucket_bits ∷ c.count ∷ c.lines ∷ length c.rows ∷ 0 ∷ []
 
--- how many zero bytes stand behind the rows: those of the rows that 256 leave, and the rest
+-- how many zero bytes come after the rows: those of the rows that 256 leave, and the rest
 abbrev pub bytes_behind : ℕ → ℕ
 bytes_behind rows = 320 * (256 - rows) + 4032
 

@@ -19,7 +19,7 @@ pub record IsReading (terms : Terms) (at : Progress) : Type 0 where
   pub wanted : come.number < commit.count
 
 -- what a step does: it reads the region at the front of what is left, which takes so many words; or no region is there as
--- yet; or none will be, whatever comes behind
+-- yet; or none will be, whatever comes after
 abbrev pub Stepped : Step → Commit → Reached → List ℕ → Progress → Type 0
 Stepped (Took n) c s rest new =
     (m : Reached) × FollowsAt c s rest m × IsAt c m new × (n ≡ 4 * region_lines rest) × (n ≤ length rest)
@@ -32,7 +32,7 @@ pub record HasCome (c : Commit) (w : List ℕ) (s : Reached) (at : Progress) : T
   pub few : s.number ≤ c.count
   pub is_at : IsAt c s at
 
--- the first n entries agree, and no other will agree behind them, whatever comes behind the words
+-- the first n entries agree, and no other will agree after them, whatever comes after the words
 pub record Breaks (c : Commit) (w : List ℕ) (n : ℕ) : Type 0 where
   pub end : Reached
   pub agrees : Agrees c w n end

@@ -20,7 +20,7 @@ use std::alloc::{AllocError, Global};
 pub(crate) struct Advanced {
     /// How many of them the regions take that were read.
     pub used: usize,
-    /// How many leading entries agree, where what stands behind them is no region of the log.
+    /// How many leading entries agree, where what follows them is no region of the log.
     pub damaged: Option<u32>,
 }
 

@@ -77,7 +77,7 @@ fn has_values<R: Parsed>(
     Ok(fits)
 }
 
-/// Whether no key entry is of the definition with this id. Entries behind a greater id aren't looked at.
+/// Whether no key entry is of the definition with this id. Entries after a greater id aren't looked at.
 fn has_none(keys: &[KeyPart], id: usize) -> bool
     requires { AreProperKeys 0 keys.now }
     ensures { IsTrue result ↔ (values_under id keys.now ≡ []) }

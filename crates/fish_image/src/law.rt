@@ -27,7 +27,7 @@ pub fn log_is_of_any_format()
         → StandsFor (record c { format = format }) w log }
 {}
 
-/// They are damaged behind one number of entries alone.
+/// They are damaged after one number of entries alone.
 pub fn damage_is_one()
     ensures { (c : Commit) (w : List ℕ) (k n : ℕ) → IsDamaged c w k → IsDamaged c w n → k ≡ n }
 {}

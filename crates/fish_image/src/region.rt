@@ -78,7 +78,7 @@ fn take_void(at: &mut Progress, lines: u64) -> Result<bool, AllocError>
     Ok(true)
 }
 
-/// Goes on behind a region of so many lines.
+/// Goes on after a region of so many lines.
 fn pass(at: &mut Progress, lines: u64) -> Result<(), AllocError>
     requires some { 1 ≤ lines }
     requires few { at.old.number < 2 ^ 28 }
@@ -219,7 +219,7 @@ fn is_kept_counted<L: Ledger>(
     }
 }
 
-/// A payload that is no record is not kept; want of memory says nothing of it.
+/// A payload that is no record is not kept; where memory runs out, that says nothing of it.
 fn refused(refusal: PsfRefusal) -> Result<bool, AllocError>
     ensures { IfOk result (λ yes. (yes ≡ false) × (refusal ≢ PsfRefusal.OutOfMemory)) }
 {

@@ -25,7 +25,7 @@ pub(crate) struct Resumed {
     pub damaged: Option<u32>,
 }
 
-/// Goes on with more words behind those that were left.
+/// Goes on with more words after those that were left.
 pub(crate) fn resume(
     alloc: Global,
     terms: &Terms,
@@ -50,7 +50,7 @@ pub(crate) fn resume(
     })
 }
 
-/// Words and others behind them.
+/// Words and others after them.
 fn joined(alloc: Global, left: &[u64], words: &[u64]) -> Result<Vec<u64>, AllocError>
     ensures { IfOk result (λ all. all.items ≡ left.now ++ words.now) }
 {

@@ -25,7 +25,7 @@ pub(crate) const SLOT_BYTES: usize = 86_016;
 /// The bytes of a row.
 pub(crate) const ROW_BYTES: usize = 320;
 
-/// The zero bytes behind 256 rows.
+/// The zero bytes after 256 rows.
 const BEHIND: usize = 4_032;
 
 /// From the name's first byte to the text's.
@@ -61,7 +61,7 @@ fn spell(alloc: Global, c: &Commit) -> Result<Bytes, AllocError>
     Ok(body)
 }
 
-/// Puts the first eight words behind the others.
+/// Puts the first eight words after the others.
 fn push_head(body: &mut Bytes, c: &Commit) -> Result<(), AllocError>
     requires { c.now.format ≤ newest_format }
     ensures { OnOk result (body.new ≡ body.old ++ flat_map word (head_words c.now)) }
@@ -80,7 +80,7 @@ fn push_head(body: &mut Bytes, c: &Commit) -> Result<(), AllocError>
     push_words(body, &words)
 }
 
-/// Puts words behind the others, each lowest byte first.
+/// Puts words after the others, each lowest byte first.
 #[tactic(auto, unfolding(crate::specs::Slot::word))]
 fn push_words(body: &mut Bytes, words: &[u64]) -> Result<(), AllocError>
     ensures { OnOk result (body.new ≡ body.old ++ flat_map word words.now) }
@@ -91,7 +91,7 @@ fn push_words(body: &mut Bytes, words: &[u64]) -> Result<(), AllocError>
     Ok(())
 }
 
-/// Puts the rows of a catalogue behind the others.
+/// Puts the rows of a catalogue after the others.
 fn push_rows(alloc: Global, body: &mut Bytes, rows: &[CatRow]) -> Result<(), AllocError>
     requires { IsCatalog rows.now }
     ensures rows { OnOk result (body.new ≡ body.old ++ flat_map row_bytes rows.now) }
@@ -103,7 +103,7 @@ fn push_rows(alloc: Global, body: &mut Bytes, rows: &[CatRow]) -> Result<(), All
     Ok(())
 }
 
-/// Puts a row behind the others.
+/// Puts a row after the others.
 #[tactic(auto, unfolding(crate::specs::Slot::row_bytes))]
 fn push_row(alloc: Global, body: &mut Bytes, row: &CatRow) -> Result<(), AllocError>
     requires name { length row.now.name ≤ 32 }
@@ -128,7 +128,7 @@ fn word_of(boundary: Option<u32>) -> u64
     }
 }
 
-/// Puts bytes behind the others, and zero bytes up to so many.
+/// Puts bytes after the others, and zero bytes up to so many.
 fn push_padded(alloc: Global, body: &mut Bytes, b: &[u8], size: usize) -> Result<(), AllocError>
     requires { length b.now ≤ size }
     ensures { OnOk result (body.new ≡ body.old ++ padded size b.now) }
@@ -137,7 +137,7 @@ fn push_padded(alloc: Global, body: &mut Bytes, b: &[u8], size: usize) -> Result
     push_zeros(alloc, body, size - b.len())
 }
 
-/// Puts so many zero bytes behind the others.
+/// Puts so many zero bytes after the others.
 #[tactic(auto, unfolding(crate::specs::Slot::zeros))]
 fn push_zeros(alloc: Global, body: &mut Bytes, count: usize) -> Result<(), AllocError>
     ensures { OnOk result (body.new ≡ body.old ++ zeros count) }

@@ -10,7 +10,7 @@ use Rattle.fish_ingest.specs.declared.refusal.IngestRefusal.TheVariants as refus
 use Rattle.fish_rule.specs.declared.view.View.{View}
 use Rattle.fish_value.specs.declared.field.Form.{Form}
 
--- it may start again behind a record
+-- it may start again after a record
 pub starts_again : (v u : View) (form : Form) (payload : List ℕ) (number : ℕ) → CanStart v
     → HasIngested v form payload number u → CanStart u
 starts_again v u form payload number can h = record {
@@ -18,7 +18,7 @@ starts_again v u form payload number can h = record {
   outside = h.outside;
 }
 
--- behind a refusal it has left
+-- after a refusal it has left
 pub left_refused : (v u : View) (form : Form) (payload : List ℕ) (e : IngestRefusal) → HasRefused v form payload e u
     → HasLeft v u
 left_refused v u form payload refusal.TooLong h = h.left

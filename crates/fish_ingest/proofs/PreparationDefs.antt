@@ -48,7 +48,7 @@ below least (x ∷ xs) h (suc k) d within = below (x.id + 1) xs h.2 k d (omega a
 abbrev row_id : CatRow → ℕ
 row_id row = row.id
 
--- with a row in front or not, the ids of rows behind it ascend
+-- with a row in front or not, the ids of rows after it ascend
 with_row : (n : ℕ) (row : CatRow) (kept : List CatRow) (b : Bool) → row.id ≡ n → n < 256
     → AscendFrom (n + 1) (map row_id kept) → AscendFrom n (map row_id (cond b (row ∷ kept) kept))
 with_row n row kept true is few rest =

@@ -148,7 +148,7 @@ above_lower : (m n : ℕ) (zs : List KeyValue) → m < n → AreAbove n zs → A
 above_lower m n [] less h = tt
 above_lower m n (z ∷ zs) less h = (omega (arith, h.0), above_lower m n zs less h.1)
 
--- those of definitions behind an id
+-- those of definitions after an id
 above_keys : (fields : Fields) (m : ℕ) (defs : List ActiveDef) → IsStrictlyIncreasing (m ∷ map id_of defs)
     → AreAbove m (keys_of fields defs)
 unfolding keys_of
@@ -181,7 +181,7 @@ apart_behind k m (v ∷ vs) values (x ∷ xs) own none above e =
     neither true b e = absurd cc
     neither false b e = (refl, e)
 
--- entries of one id in front of those that are proper from it on are proper
+-- entries of one id before those that are proper from it on are proper
 values_behind : (low : ℕ) (d : ActiveDef) (vs : List Value) (keys : List KeyPart) (values : List KeyValue) → low ≤ d.id
     → d.id < 256 → Differ vs → AreAbove d.id values
     → ((rest : List KeyPart) → map property rest ≡ values → All IsKey rest → AreProperKeys d.id rest)
@@ -256,7 +256,7 @@ keys_unlinked (k ∷ ks) all =
 
 -- ---- one definition more
 
--- with one definition more its entries go behind the others
+-- with one definition more its entries go after the others
 pub entries_more : (fields : Fields) (defs : List ActiveDef) (i : ℕ) (d : ActiveDef) (keys after : List KeyPart)
     → i < length defs → d ≡ get_or defs i d → AreMore d.id (values (definition_of d.def) fields) keys after
     → AreEntriesFor fields (take i defs) keys → AreEntriesFor fields (take (i + 1) defs) after

@@ -1,4 +1,4 @@
--- What an ingest asks of a pass, and what it leaves behind.
+-- What an ingest asks of a pass, and what it leaves.
 use Rattle.std.specs.Prelude.{ℕ, ◌≡◌, ◌⊎◌, ◌<◌, ◌≤◌, List, [], ◌∷◌, ◌++◌, None, true}
 use Rattle.fish_catalog.specs.declared.entry.Entry.TheVariants as entry
 use Rattle.fish_epoch.specs.Definitions.{IsDefsOf}

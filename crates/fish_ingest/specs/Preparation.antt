@@ -56,7 +56,7 @@ pub record IsKey (key : KeyPart) : Type 0 where
   pub unlinked : key.prev ≡ 0
   pub proper : IsProperValue key.value
 
--- behind the entries came one for each of these values, under the id, that may stand in a record
+-- after the entries came one for each of these values, under the id, that may stand in a record
 pub record AreMore (id : ℕ) (vs : List Value) (before after : List KeyPart) : Type 0 where
   pub more : List KeyPart
   pub behind : after ≡ before ++ more

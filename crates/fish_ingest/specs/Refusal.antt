@@ -1,4 +1,4 @@
--- Why a payload is refused, and what a refusal leaves behind.
+-- Why a payload is refused, and what a refusal leaves.
 use Rattle.fish_ingest.specs.Passing.{OnlyIngests, HasMark, FoundSince}
 use Rattle.fish_ingest.specs.Preparation.{IsRecordFor}
 use Rattle.fish_ingest.specs.declared.refusal.IngestRefusal.TheVariants as refusal
@@ -40,7 +40,7 @@ abbrev pub IsEarly : IngestRefusal → Type 0
 IsEarly (refusal.Full line lines end) = ⊥
 IsEarly e = ⊤
 
--- it comes behind the parse
+-- it comes after the parse
 abbrev pub IsLate : IngestRefusal → Type 0
 IsLate refusal.OutOfMemory = ⊤
 IsLate (refusal.Full line lines end) = ⊤

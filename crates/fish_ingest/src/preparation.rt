@@ -131,7 +131,7 @@ fn entries_of<R: Parsed>(
     Ok(keys)
 }
 
-/// Puts a key entry for each value that a definition gives behind the others.
+/// Puts a key entry for each value that a definition gives after the others.
 #[inline(always)] // or what is given is moved once more for each definition
 #[tactic(auto, using(crate::proofs::PreparationKeys::none_more))]
 fn push_given(id: u16, given: Given, keys: &mut KeyParts) -> Result<(), AllocError>
@@ -145,7 +145,7 @@ fn push_given(id: u16, given: Given, keys: &mut KeyParts) -> Result<(), AllocErr
     }
 }
 
-/// Puts a key entry for each of several values behind the others.
+/// Puts a key entry for each of several values after the others.
 fn push_values(id: u16, values: Values, keys: &mut KeyParts) -> Result<(), AllocError>
     requires { All IsShort values }
     ensures { OnOk result (AreMore id values keys.old keys.new) }
@@ -156,7 +156,7 @@ fn push_values(id: u16, values: Values, keys: &mut KeyParts) -> Result<(), Alloc
     Ok(())
 }
 
-/// Puts a key entry behind the others.
+/// Puts a key entry after the others.
 #[inline(always)]
 fn push_entry(id: u16, value: Value, keys: &mut KeyParts) -> Result<(), AllocError>
     requires { IsShort value }

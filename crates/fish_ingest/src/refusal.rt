@@ -21,7 +21,7 @@ pub enum IngestRefusal {
         line: u64,
         /// How many lines it asked for.
         lines: u64,
-        /// The first line behind the log.
+        /// The first line after the log.
         end: u64,
     },
 }

@@ -16,7 +16,7 @@ use Rattle.fish_value.specs.declared.field.Field.{Field}
 use Rattle.fish_json.specs.Reading.{at_path, field_in, field_of, kind_of}
 use Rattle.fish_json.specs.Tape.{FindsData, Stands}
 
--- the members go in behind those that were found, and o is the last with the name: then r is what the data has there
+-- the members go in after those that were found, and o is the last with the name: then r is what the data has there
 abbrev After : List ℕ → Members → Option json.Json → Option Data → Type 0
 After name found None r = r ≡ get_member name found
 After name found (Some j) r = (e : Data) × (of_json j ≡ Some e) × (r ≡ Some e)
@@ -99,7 +99,7 @@ walk_none steps i name d e h is on none =
     on ∙ ap (λ l. at_path l e) (drop-cons steps i name h)
     ∙ ap (option_and_then (at_path (drop (suc i) steps))) (ap (λ k. get k e) (sym is) ∙ none)
 
--- a name that leads on leaves the names behind it
+-- a name that leads on leaves the names after it
 pub walk_some : (steps : List (List ℕ)) (i : ℕ) (name : List ℕ) (d e x : Data) → i < length steps
     → name ≡ get_or steps i name → at_path steps d ≡ at_path (drop i steps) e
     → get name e ≡ Some x → at_path steps d ≡ at_path (drop (i + 1) steps) x

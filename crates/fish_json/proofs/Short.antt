@@ -23,7 +23,7 @@ told (c ∷ cs) = ap (λ b. is_ascii_digit c && b) (told cs)
 all_digits : (s : List ℕ) → list_all is_ascii_digit s ≡ true → AllDigits 10 s
 all_digits s h = (numerals_by_value _ tells_all_ascii_digits).to s (sym (told s) ∙ h)
 
--- behind the end of a list stands nothing
+-- past the end of a list stands nothing
 at_end : (s : List ℕ) → get_or s (length s) 0 ≡ 0
 at_end [] = refl
 at_end (c ∷ cs) = at_end cs

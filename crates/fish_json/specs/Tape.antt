@@ -23,8 +23,8 @@ StandItems ts ds = (js : json.Items) × InItems ts js × (of_items js ≡ Some d
 abbrev pub FindsData : Option (List Token) → Option Data → Type 0
 FindsData r o = MatchOption r (o ≡ None) (λ ts. (e : Data) × (o ≡ Some e) × Stands ts e)
 
--- of n open objects and arrays, those that are open behind a token: none where 127 were open and one more would be,
--- and none behind a number that is out of range
+-- of n open objects and arrays, those that are open after a token: none where 127 were open and one more would be,
+-- and none after a number that is out of range
 abbrev pub open_behind : ℕ → Token → Option ℕ
 open_behind n begin_object = if nat_lt n max_depth then Some (n + 1) else None
 open_behind n end_object = Some (n - 1)
@@ -37,7 +37,7 @@ open_behind n (boolean b) = Some n
 open_behind n null = Some n
 open_behind n bad = Some n
 
--- the same behind all tokens
+-- the same after all tokens
 abbrev pub open_after : ℕ → List Token → Option ℕ
 open_after n [] = Some n
 open_after n (t ∷ ts) = option_and_then (λ m. open_after m ts) (open_behind n t)

@@ -25,7 +25,7 @@ pub(crate) fn fits(nodes: &[Node<'_>]) -> bool
     true
 }
 
-/// How many are open behind a node.
+/// How many are open after a node.
 fn behind(depth: usize, node: &Node<'_>) -> Option<usize>
     ensures { result ≡ open_behind depth (node_token node.now) }
 {

@@ -56,7 +56,7 @@ pub(crate) fn as_int(text: &str) -> Option<i64>
     }
 }
 
-/// Whether a number's text has a minus, and what is behind it.
+/// Whether a number's text has a minus, and what is after it.
 fn parts(text: &str) -> (bool, Numeral<'_>)
     ensures { number_of text.now ≡ number_from result.0 result.1 }
 {
@@ -83,7 +83,7 @@ fn positive_int(numeral: &Numeral<'_>) -> Option<u64>
     numeral.to_u64()
 }
 
-/// The number behind a minus, with it. `-0` is no whole number, but a double.
+/// The number after a minus, with it. `-0` is no whole number, but a double.
 fn negative_int(numeral: &Numeral<'_>) -> Option<i64>
     ensures { MatchOption result (number_from true numeral.now ≡ float_of true numeral.now)
         (λ n. number_from true numeral.now ≡ Some (negative n)) }

@@ -88,7 +88,7 @@ fn tape_of<'a>(
             }
         }
         Err(json::Error::Invalid) => Ok(None),
-        // A record is no longer than a tape's text may be, so what is left is want of memory.
+        // A record is no longer than a tape's text may be, so what is left is that memory ran out.
         Err(_) => Err(AllocError),
     }
 }

@@ -172,7 +172,7 @@ fn walk<'a>(value: &'a serde_json::Value, steps: &[Text]) -> Option<&'a serde_js
     Some(found)
 }
 
-/// A value as a field. Its text is lent.
+/// A value as a field. Its text is borrowed.
 fn field(value: &serde_json::Value) -> FieldView<'_>
     ensures { field_seen result ≡ kind_of (view value.now) }
 {

@@ -34,7 +34,7 @@ impl<'a> JsonRow<'a> {
         JsonRow { tape }
     }
 
-    /// What the record has at a path, its text lent. An object, an array, and a number that is no
+    /// What the record has at a path, its text borrowed. An object, an array, and a number that is no
     /// whole number of 64 bits are [`FieldView::Other`]. It takes no memory, and time in the length
     /// of the objects on the path.
     pub fn look(&self, path: &Path) -> FieldView<'_>
@@ -102,7 +102,7 @@ fn step<'t, 'a>(value: &Element<'t, 'a>, name: &Text) -> Option<Element<'t, 'a>>
     value.get(name.as_str())
 }
 
-/// A value as a field. Its text is lent.
+/// A value as a field. Its text is borrowed.
 fn field<'a>(value: &Element<'_, 'a>) -> FieldView<'a>
     ensures { (d : Data) → Stands value.now d → field_seen result ≡ kind_of d }
 {

@@ -190,7 +190,7 @@ run_cut v u t works items w later rows count why named h g first =
 
 -- ---- fewer pasts
 
--- what is told behind some pasts is told behind each of these
+-- what is told after some pasts is told after each of these
 pub told_fewer : (P Q : Whole → Type 0) (v u : View) (works : List Work) (items : List Item) → ((past : Whole) → Q past → P past)
     → HasAnswered P v u works items → HasAnswered Q v u works items
 told_fewer P Q v u works items fewer h = record {

@@ -51,7 +51,7 @@ use Rattle.fish_value.specs.declared.field.Form.{Form}
 use Rattle.fish_value.specs.declared.row.Row.{Row}
 use Rattle.fish_whole.proofs.Entries.{entry_here, entry_there, sure_settled, word_there}
 use Rattle.fish_whole.proofs.Wholes.{sure_rows}
-use Rattle.fish_whole.specs.Whole.{MayHold, Sure, SureUpTo, Whole}
+use Rattle.fish_whole.specs.Whole.{MayHold, MustHold, MustHoldUpTo, Whole}
 
 -- ---- lists
 
@@ -262,7 +262,7 @@ range_published v u ask from to opens n range low above below closed = record {
 
 -- the rows of a version are those of the whole
 pub has_rows : (past : Whole) (v u : View) (known : Known) (ask : Ask) (position version : ℕ) (k : Span) → IsWithinSpan v u k
-    → version ≡ version_of known → IsNamed v u known ask position → Sure past u (λ w. HasRows w k version (rows_of known))
+    → version ≡ version_of known → IsNamed v u known ask position → MustHold past u (λ w. HasRows w k version (rows_of known))
 has_rows past v u known ask position version k inside is named w m = record {
   least = (let least = named.least in let first = inside.first in omega arith);
   most = (let most = named.read.rows.reached in let last = inside.last in omega arith);
@@ -320,7 +320,7 @@ module _ (v u : View) (ask : Ask) (on : Learns v u) (seen : ℕ → Type 0)
 
   -- a scan
   pub scan_told : (Past : Whole → Type 0) → Past past → (from to : ℕ) (opens : List ℕ) (rows : List Row) (version : ℕ)
-      → IsScanned Past v u ask from to opens rows version → SureUpTo past u k.to (λ w. SaysScan w k seen ask from to opens rows version)
+      → IsScanned Past v u ask from to opens rows version → MustHoldUpTo past u k.to (λ w. SaysScan w k seen ask from to opens rows version)
   scan_told Past behind from to opens rows version s w m far =
       let a = s.answer past behind in
       let e = a.planned in
@@ -343,7 +343,7 @@ module _ (v u : View) (ask : Ask) (on : Learns v u) (seen : ℕ → Type 0)
 
   -- a plan
   pub plan_told : (from to : ℕ) (plan : List Piece) (version : ℕ) → IsPlannedAt v u ask from to plan version
-      → Sure past u (λ w. SaysPlan w k seen ask from to plan version)
+      → MustHold past u (λ w. SaysPlan w k seen ask from to plan version)
   plan_told from to plan version s w m =
       let e = s.explained.planned in
       record {
@@ -364,7 +364,7 @@ module _ (v u : View) (ask : Ask) (on : Learns v u) (seen : ℕ → Type 0)
 
   -- a gap below what was settled
   gap_told : (from to : ℕ) (known : Known) → IsUncovered v u known ask from to
-      → Sure past u (λ w. (from < to) × (to ≤ length w.log) × (first_asked ask ≤ from) × ((end : ℕ) → ask.to ≡ Some end → to ≤ end))
+      → MustHold past u (λ w. (from < to) × (to ≤ length w.log) × (first_asked ask ≤ from) × ((end : ℕ) → ask.to ≡ Some end → to ≤ end))
   gap_told from to known h w m =
       let p = piece_within h.plan h.first h.last h.gap.position (Full from to) h.covered.cover.fill h.gap.gap.there in
       let some_ = p.1 in
@@ -381,7 +381,7 @@ module _ (v u : View) (ask : Ask) (on : Learns v u) (seen : ℕ → Type 0)
 
   -- a refusal
   pub refused_told : (version : ℕ) (why : ScanCause) → IsRefusedAt v u ask version why
-      → Sure past u (λ w. IsRefusedFor w k ask version why)
+      → MustHold past u (λ w. IsRefusedFor w k ask version why)
   refused_told version cause.UnknownName s w m =
       let r = s.refused in (
         rows_of s.known,

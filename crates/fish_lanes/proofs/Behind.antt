@@ -14,14 +14,14 @@ use Rattle.fish_lanes.proofs.Pages.{here_same}
 use Rattle.fish_lanes.proofs.Single.{only_fewer}
 use Rattle.fish_lanes.proofs.Stepping.{rows_self, stays_pass}
 use Rattle.fish_lanes.specs.within.Advancing.{HasFinished, HasGone}
-use Rattle.fish_lanes.specs.Blocks.{Both}
+use Rattle.fish_lanes.specs.Blocks.{EachLanePair}
 use Rattle.fish_lanes.specs.within.Blocks.{AreDone, AreGone, AreSeated, CanGive, HasGiven, HasRunFirst}
 use Rattle.fish_lanes.specs.within.Course.{AllRan}
 use Rattle.fish_lanes.specs.within.Pasts.{IsHere, WasHere}
 use Rattle.fish_lanes.specs.Running.{IsShared}
 use Rattle.fish_lanes.specs.within.Running.{IsReady}
 use Rattle.fish_lanes.specs.declared.lane.Lane.{Lane}
-use Rattle.fish_lanes.specs.declared.lane.Seated.{Seated}
+use Rattle.fish_lanes.specs.declared.lane.LanePass.{LanePass}
 use Rattle.fish_lanes.specs.declared.work.Work.{Work}
 use Rattle.fish_registry.specs.Knowing.{Knows}
 use Rattle.fish_registry.specs.declared.registrar.Registrar.{Registrar}
@@ -54,7 +54,7 @@ gone_ready log x y ready h = record {
   nothing_left = h.left ∙ ready.nothing_left;
 }
 
--- what the first lane did behind some pasts, it did behind each of these
+-- what the first lane did after some pasts, it did after each of these
 first_fewer : (P Q : Whole → Type 0) (v u : View) (r s : Registrar) (x y : Lane) → ((past : Whole) → Q past → P past)
     → HasRunFirst P v u r s x y → HasRunFirst Q v u r s x y
 first_fewer P Q v u r s x y fewer h =
@@ -76,11 +76,11 @@ first_fewer P Q v u r s x y fewer h =
       seat = h.seat;
     }
 
--- the lanes behind the first went on, and were finished
+-- the lanes after the first went on, and were finished
 others_done : (Past P : Whole → Type 0) (full : Bool) (log : Log) (v : View) (before given gone last : List Lane)
     → ((past : Whole) → Past past → P past) → full ≡ is_some v.shut → CanGive v before → length given ≡ length before
     → AreSeated log v before given → length gone ≡ length given → AreGone log given gone
-    → Both (λ i x y. HasFinished P full log x y) gone last → AreDone Past log given last
+    → EachLanePair (λ i x y. HasFinished P full log x y) gone last → AreDone Past log given last
 others_done Past P full log v before given gone last fewer told can given_size seated gone_size went finished i x z at_x at_z =
     let less = slice_get_within given i x at_x in
     let o = get_there before i (omega arith) in
@@ -92,7 +92,7 @@ others_done Past P full log v before given gone last fewer told can given_size s
     (sym (ap (λ (l : Lane). l.seat) {y = record o.0 { seat = Some seat.seat }} seat.is) ∙ step.before_is) in
     done_both Past P full log x y.0 z fewer (ap (λ (l : Lane). l.items) seat.is ∙ (can.new i o.0 o.1).empty) step
     (ready_seat log x step.before ready step.before_is)
-    (told ∙ ap is_some (sym seat.shut ∙ ap (λ (s : Seated). (view s.pass).shut) seat_is)) (finished i y.0 z y.1 at_z)
+    (told ∙ ap is_some (sym seat.shut ∙ ap (λ (s : LanePass). (view s.pass).shut) seat_is)) (finished i y.0 z y.1 at_z)
 
 module _
     {D : Type 0}
@@ -153,17 +153,17 @@ module _
           told = s.told;
         }
 
-    -- so all lanes did their statements behind it
+    -- so all lanes did their statements after it
     pub all_ran : (full : Bool) (log : Log) (r s : Registrar) (first first' : Lane) (before given gone last : List Lane)
         → n.view.about ≡ log.key → full ≡ is_some p.view.shut → HasGiven p.view m.view (length before) → CanGive p.view before
         → length given ≡ length before → AreSeated log p.view before given
         → HasRunFirst (IsSoundBehind content images m (content n.disk)) m.view n.view r s first first' → Stands n.view → Knows n.view s
         → length gone ≡ length given → AreGone log given gone → length last ≡ length gone
-        → Both (λ i x y. HasFinished (WasHere (content n.disk) log.key n.cold (content q.disk)) full log x y) gone last
+        → EachLanePair (λ i x y. HasFinished (WasHere (content n.disk) log.key n.cold (content q.disk)) full log x y) gone last
         → AllRan Before log p.view n.view r s first first' before last
     all_ran full log r s first first' before given gone last about told gives can given_size seated did stands knows gone_size went
         last_size finished = record {
-          main = m.view;
+          control = m.view;
           given = given;
           gives = gives;
           seated = seated;

@@ -38,7 +38,7 @@ reads_control log p q r can of reads =
         outside = ap (λ (z : View). z.epoch) frame ∙ can.start.outside;
       };
       knows = knows_on (view p) (view q) r (ap (λ (z : View). z.lane) frame) (ap (λ (z : View). z.rows) frame)
-          (ap (λ (z : View). z.main_words) frame) (ap (λ (z : View). z.round) frame) reads.learns can.knows;
+          (ap (λ (z : View). z.control_words) frame) (ap (λ (z : View). z.round) frame) reads.learns can.knows;
     }
 
 -- what was settled and counted is what the item tells
@@ -57,7 +57,7 @@ commit_fits v u n x is h counted = record {
 pub keeps_reads : (v u : View) → Reads v u → KeepsRegistry v u
 keeps_reads v u h = record {
   rows = ap (λ (z : View). z.rows) h.frame;
-  main_words = ap (λ (z : View). z.main_words) h.frame;
+  control_words = ap (λ (z : View). z.control_words) h.frame;
   round = ap (λ (z : View). z.round) h.frame;
 }
 

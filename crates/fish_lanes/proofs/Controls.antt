@@ -20,9 +20,9 @@ use Rattle.fish_lanes.specs.Ending.{HasEnd}
 use Rattle.fish_lanes.specs.within.Gains.{Gains}
 use Rattle.fish_lanes.specs.Pending.{AreFound}
 use Rattle.fish_lanes.specs.Plans.{KnowsRows, SaysPlans}
-use Rattle.fish_lanes.specs.within.Plans.{AreBoundsIn, PlansAreSoBy}
+use Rattle.fish_lanes.specs.within.Plans.{AreBoundsIn, PlansHoldFor}
 use Rattle.fish_lanes.specs.Records.{LaneRow, contents}
-use Rattle.fish_lanes.specs.Registering.{AreSo, InEach, IsSo, KnowsEach, KnowsRegistry, Registry, after, after_all, registry_of, waiting_id}
+use Rattle.fish_lanes.specs.Registering.{ItemsFit, InEach, ItemFits, KnowsEach, KnowsRegistry, Registry, after, after_all, registry_of, waiting_id}
 use Rattle.fish_lanes.specs.within.Running.{IsFree}
 use Rattle.fish_lanes.specs.Single.{NamesNone, SaysOnly, SaysSingle}
 use Rattle.fish_lanes.specs.Spans.{answers, made_by}
@@ -47,8 +47,8 @@ use Rattle.fish_whole.specs.Whole.{Whole}
 
 -- ---- items that are so
 
-pub so_wide : (low high low' high' : ℕ) (r : Registry) (x : Item) → low' ≤ low → high ≤ high' → IsSo low high r x
-    → IsSo low' high' r x
+pub so_wide : (low high low' high' : ℕ) (r : Registry) (x : Item) → low' ≤ low → high ≤ high' → ItemFits low high r x
+    → ItemFits low' high' r x
 so_wide low high low' high' r (item.Registered name id from def) a b h =
     (let l = h.2.0 in let u = h.2.1 in (h.0, h.1, (omega arith, omega arith)))
 so_wide low high low' high' r (item.Rolling name id def seat version) a b h = h
@@ -59,13 +59,13 @@ so_wide low high low' high' r x a b h = h
 
 -- so they are between numbers that lie further apart
 pub are_so_wide : (low high low' high' : ℕ) (r : Registry) (items : List Item) → low' ≤ low → high ≤ high'
-    → AreSo low high r items → AreSo low' high' r items
+    → ItemsFit low high r items → ItemsFit low' high' r items
 are_so_wide low high low' high' r [] a b h = tt
 are_so_wide low high low' high' r (x ∷ items) a b h =
     (so_wide low high low' high' r x a b h.0, are_so_wide low high low' high' (after r x) items a b h.1)
 
-pub so_more : (low high : ℕ) (r : Registry) (items : List Item) (x : Item) → AreSo low high r items
-    → IsSo low high (after_all r items) x → AreSo low high r (items ++ x ∷ [])
+pub so_more : (low high : ℕ) (r : Registry) (items : List Item) (x : Item) → ItemsFit low high r items
+    → ItemFits low high (after_all r items) x → ItemsFit low high r (items ++ x ∷ [])
 so_more low high r [] x h one = (one, tt)
 so_more low high r (y ∷ items) x h one = (h.0, so_more low high (after r y) items x h.1 one)
 
@@ -78,7 +78,7 @@ after_load_version r x = omega arith
 
 -- ---- definitions that are known
 
--- what holds of each registry in front of items does so if another thing does
+-- what holds of each registry before items does so if another thing does
 pub each_so : (P Q : Registry → Type 0) → ((r : Registry) → P r → Q r) → (r : Registry) (items : List Item) → InEach P r items
     → InEach Q r items
 each_so P Q so r [] h = so r h
@@ -114,8 +114,8 @@ free_after Past u t work.Checkpoint x r free f = ap (after r) f.is
 -- ---- plans
 
 -- what was said of plans stays so
-pub plans_on : (v u t : View) (r : Registry) (works : List Work) (items : List Item) → Learns u t → PlansAreSoBy v u r works items
-    → PlansAreSoBy v t r works items
+pub plans_on : (v u t : View) (r : Registry) (works : List Work) (items : List Item) → Learns u t → PlansHoldFor v u r works items
+    → PlansHoldFor v t r works items
 plans_on v u t r works items learns h rows from bounds low =
     plans_later u t r rows from works items learns (h rows from (bounds_before u t rows learns bounds) low)
 
@@ -126,13 +126,13 @@ plans_on v u t r works items learns h rows from bounds low =
 pub record Held (Past : Whole → Type 0) (v : View) (r : Registrar) (u : View) (s : Registrar) (works : List Work) (items : List Item)
     : Type 0 where
   pub told : HasAnswered Past v u works (answers items)
-  pub so : AreSo v.learned.count u.learned.count (registry_of v r) items
+  pub so : ItemsFit v.learned.count u.learned.count (registry_of v r) items
   pub is : registry_of u s ≡ after_all (registry_of v r) items
   pub each : KnowsEach u (registry_of v r) items
   pub closed : IsAlone v → AllOf NamesNone items
   pub still : works ≡ [] → r.waiting ≡ None → (u ≡ v) × (s.waiting ≡ None) × (items ≡ [])
   pub only : (end : ℕ) → HasEnd v end → r.waiting ≡ None → SaysOnly Past v u r.catalog end works items
-  pub plans : PlansAreSoBy v u (registry_of v r) works items
+  pub plans : PlansHoldFor v u (registry_of v r) works items
 
 -- none yet
 pub held_self : {Past : Whole → Type 0} (v : View) (r : Registrar) → v.epoch ≡ Out → v.flight ≡ None → KnowsRegistry v (registry_of v r)
@@ -155,7 +155,7 @@ held_item : {Past : Whole → Type 0} (v : View) (r : Registrar) (u : View) (s :
     → HasAnswered Past v t works' (answers (items ++ x ∷ [])) → (IsAlone v → NamesNone x)
     → (works' ≡ [] → r.waiting ≡ None → (t ≡ v) × (q.waiting ≡ None) × (items ++ x ∷ [] ≡ []))
     → ((end : ℕ) → HasEnd v end → r.waiting ≡ None → SaysOnly Past v t r.catalog end works' (items ++ x ∷ []))
-    → PlansAreSoBy v t (registry_of v r) works' (items ++ x ∷ []) → Held Past v r t q works' (items ++ x ∷ [])
+    → PlansHoldFor v t (registry_of v r) works' (items ++ x ∷ []) → Held Past v r t q works' (items ++ x ∷ [])
 held_item v r u s t q works works' items x h before learns does told none still only plans =
     let start = registry_of v r in
     let more = before.count in
@@ -165,7 +165,7 @@ held_item v r u s t q works works' items x h before learns does told none still 
       so = so_more v.learned.count t.learned.count start items x
           (are_so_wide v.learned.count u.learned.count v.learned.count t.learned.count start items (omega arith) (omega arith) h.so)
           (so_wide u.learned.count t.learned.count v.learned.count t.learned.count (after_all start items) x (omega arith)
-          (omega arith) (subst (λ (z : Registry). IsSo u.learned.count t.learned.count z x) h.is does.so));
+          (omega arith) (subst (λ (z : Registry). ItemFits u.learned.count t.learned.count z x) h.is does.so));
       is = does.is ∙ ap (λ (z : Registry). after z x) h.is ∙ sym (after_more start items x);
       each = each_more (KnowsRegistry t) start items x (each_later u t start items learns h.each)
           (subst (λ (z : Registry). KnowsRegistry t (after z x)) h.is
@@ -314,25 +314,25 @@ only_version : (u t : View) (r : Registry) (version : ℕ) → r.version ≡ u.l
 only_version u t r version is same known = (let least = known.0 in let most = known.1 in omega arith)
 
 free_so : (Past : Whole → Type 0) (u t : View) (w : Work) (x : Item) (low high : ℕ) (r : Registry) → r.version ≡ u.learned.version
-    → t.learned.version ≡ u.learned.version → IsFree w → IsFit Past u t w x → IsSo low high r x
+    → t.learned.version ≡ u.learned.version → IsFree w → IsFit Past u t w x → ItemFits low high r x
 free_so Past u t (work.Register name def) x low high r is same free f = elim free [ ]
 free_so Past u t (work.Deregister name) x low high r is same free f = elim free [ ]
-free_so Past u t (work.Ingest form begin name file) x low high r is same free (inl f) = subst (IsSo low high r) (sym f.is) tt
-free_so Past u t (work.Ingest form begin name file) x low high r is same free (inr (inl f)) = subst (IsSo low high r) (sym f.is) tt
-free_so Past u t (work.Ingest form begin name file) x low high r is same free (inr (inr f)) = subst (IsSo low high r) (sym f.is) tt
+free_so Past u t (work.Ingest form begin name file) x low high r is same free (inl f) = subst (ItemFits low high r) (sym f.is) tt
+free_so Past u t (work.Ingest form begin name file) x low high r is same free (inr (inl f)) = subst (ItemFits low high r) (sym f.is) tt
+free_so Past u t (work.Ingest form begin name file) x low high r is same free (inr (inr f)) = subst (ItemFits low high r) (sym f.is) tt
 free_so Past u t (work.Scan ask) x low high r is same free (inl f) =
     let e = f.fits.planned in
-    subst (IsSo low high r) (sym f.is) (only_version u t r f.version is same
+    subst (ItemFits low high r) (sym f.is) (only_version u t r f.version is same
     (named_version u t f.fits.known ask f.version e.position f.fits.version_is e.asked.named))
-free_so Past u t (work.Scan ask) x low high r is same free (inr f) = subst (IsSo low high r) (sym f.is)
+free_so Past u t (work.Scan ask) x low high r is same free (inr f) = subst (ItemFits low high r) (sym f.is)
     (only_version u t r f.version is same (refused_version u t ask f.version f.why f.fits))
 free_so Past u t (work.Explain ask) x low high r is same free (inl f) =
     let e = f.fits.explained.planned in
-    subst (IsSo low high r) (sym f.is) (only_version u t r f.version is same
+    subst (ItemFits low high r) (sym f.is) (only_version u t r f.version is same
     (named_version u t f.fits.known ask f.version e.position f.fits.version_is e.asked.named))
-free_so Past u t (work.Explain ask) x low high r is same free (inr f) = subst (IsSo low high r) (sym f.is)
+free_so Past u t (work.Explain ask) x low high r is same free (inr f) = subst (ItemFits low high r) (sym f.is)
     (only_version u t r f.version is same (refused_version u t ask f.version f.why f.fits))
-free_so Past u t work.Checkpoint x low high r is same free f = subst (IsSo low high r) (sym f.is) tt
+free_so Past u t work.Checkpoint x low high r is same free f = subst (ItemFits low high r) (sym f.is) tt
 
 -- and none of them tells of a registration that waits
 free_rolls : (Past : Whole → Type 0) (u t : View) (w : Work) (x : Item) → IsFree w → IsFit Past u t w x → RollsBy u t x
@@ -429,7 +429,7 @@ free_part v t w (Ok x) part = tt
 free_part v t w (Err e) part =
     record { rows = part.1.rows; count = part.0; gains = part.1.gains; first = part.1.first }
 
--- what is held behind some pasts is held behind each of these
+-- what is held after some pasts is held after each of these
 pub held_fewer : (P Q : Whole → Type 0) (v : View) (r : Registrar) (u : View) (s : Registrar) (works : List Work) (items : List Item)
     → ((past : Whole) → Q past → P past) → Held P v r u s works items → Held Q v r u s works items
 held_fewer P Q v r u s works items fewer h = record {

@@ -26,7 +26,7 @@ use Rattle.fish_lanes.specs.within.Spans.{IsWithinSpan}
 use Rattle.fish_lanes.specs.Telling.{SaysLane}
 use Rattle.fish_lanes.specs.declared.block.BlockEnd.{BlockEnd}
 use Rattle.fish_lanes.specs.declared.lane.Lane.{Lane}
-use Rattle.fish_lanes.specs.declared.lane.Seated.{Seated}
+use Rattle.fish_lanes.specs.declared.lane.LanePass.{LanePass}
 use Rattle.fish_report.specs.declared.item.Item.{Item}
 use Rattle.fish_lanes.specs.declared.work.LaneFault.{LaneFault}
 use Rattle.fish_lanes.specs.declared.work.Work.{Work}
@@ -51,7 +51,7 @@ use Rattle.fish_rule.specs.declared.view.Own.{Own}
 use Rattle.fish_rule.specs.declared.view.View.{View}
 use Rattle.fish_whole.proofs.Entries.{sure_settled, up_to_will}
 use Rattle.fish_whole.proofs.Wholes.{may_hold, up_to_later}
-use Rattle.fish_whole.specs.Whole.{Later, SureUpTo, Whole, Will}
+use Rattle.fish_whole.specs.Whole.{Later, MustHoldUpTo, Whole, WillHold}
 
 module _ {Past : Whole → Type 0} {log : Log} {v w : View} {r q : Registrar} {first first' : Lane} {before done : List Lane}
     (run : AllRan Past log v w r q first first' before done) where
@@ -94,36 +94,36 @@ module _ {Past : Whole → Type 0} {log : Log} {v w : View} {r q : Registrar} {f
 
   -- what the lane's pass knew and had at its start
   pub way_learned : (i : ℕ) (z : Lane) (p : Way i z) → (view p.run_of.before.pass).learned ≡ v.learned
-  way_learned i z p = ap (λ (s : Seated). (view s.pass).learned) (sym p.same) ∙ p.seat.learned
+  way_learned i z p = ap (λ (s : LanePass). (view s.pass).learned) (sym p.same) ∙ p.seat.learned
 
   way_lane : (i : ℕ) (z : Lane) (p : Way i z) → (view p.run_of.before.pass).lane ≡ i + 2
-  way_lane i z p = ap (λ (s : Seated). (view s.pass).lane) (sym p.same) ∙ p.seat.lane
+  way_lane i z p = ap (λ (s : LanePass). (view s.pass).lane) (sym p.same) ∙ p.seat.lane
 
   way_own : (i : ℕ) (z : Lane) (p : Way i z) (o : Own) → Among o (view p.run_of.before.pass).own
       → Among o v.own × (o.lane ≡ i + 2)
-  way_own i z p o n = p.seat.own o (subst (λ (s : Seated). Among o (view s.pass).own) (sym p.same) n)
+  way_own i z p o n = p.seat.own o (subst (λ (s : LanePass). Among o (view s.pass).own) (sym p.same) n)
 
   pub way_shut : (i : ℕ) (z : Lane) (p : Way i z) → (view p.run_of.before.pass).shut ≡ v.shut
-  way_shut i z p = ap (λ (s : Seated). (view s.pass).shut) (sym p.same) ∙ p.seat.shut
+  way_shut i z p = ap (λ (s : LanePass). (view s.pass).shut) (sym p.same) ∙ p.seat.shut
 
   pub way_about : (i : ℕ) (z : Lane) (p : Way i z) → (view p.run_of.before.pass).about ≡ v.about
-  way_about i z p = ap (λ (s : Seated). (view s.pass).about) (sym p.same) ∙ p.seat.about
+  way_about i z p = ap (λ (s : LanePass). (view s.pass).about) (sym p.same) ∙ p.seat.about
 
   -- what shut a lane is known for good, where it was at the start
   way_marks : (i : ℕ) (z : Lane) (p : Way i z) → IsShutSaid v → IsShutSaid (view p.run_of.after.pass)
   way_marks i z p t = p.run_of.run.gains.marks (marks_same v (view p.run_of.before.pass)
       (learns_same v (view p.run_of.before.pass) (way_about i z p) (way_learned i z p)) (way_shut i z p) t)
 
-  main_marks : IsShutSaid v → IsShutSaid w
-  main_marks t = run.first_did.controlled.run.gains.marks
-      (marks_same v run.main (learns_same v run.main run.gives.about run.gives.learned) run.gives.shut t)
+  control_marks : IsShutSaid v → IsShutSaid w
+  control_marks t = run.first_did.controlled.run.gains.marks
+      (marks_same v run.control (learns_same v run.control run.gives.about run.gives.learned) run.gives.shut t)
 
   -- the passes may come back
   pub may_join : AreJoined log w done
   may_join =
       let g = run.first_did.controlled.run.gains in
       record {
-        main = g.on.lane ∙ run.gives.main;
+        control = g.on.lane ∙ run.gives.control;
         idle = g.idle;
         outside = g.outside;
         out_of = λ l n. let b = run.gives.out_of l (subst (Among l) g.on.out n) in let q = b.1 in
@@ -167,7 +167,7 @@ module _ {Past : Whole → Type 0} {log : Log} {v w : View} {r q : Registrar} {f
         let z = ran_at i y at_y in
         (returned.taken i z.0 y z.1 at_y).seat
 
-    -- the statements have items, but for those behind a fault, and the others' items answer them
+    -- the statements have items, but for those after a fault, and the others' items answer them
     pub all_ended : AreEnded (first' ∷ after)
     all_ended = at_places IsEndedLane first' after
         (record {
@@ -195,10 +195,10 @@ module _ {Past : Whole → Type 0} {log : Log} {v w : View} {r q : Registrar} {f
     closes = closes_end u ended.bound t ended.changes ended.settles
 
     alone : IsAlone u
-    alone = record { main = returned.takes.main; all = none_out w u done returned.takes; idle = returned.takes.idle }
+    alone = record { control = returned.takes.control; all = none_out w u done returned.takes; idle = returned.takes.idle }
 
     start_learns : Learns v w
-    start_learns = learns_both v run.main w (learns_same v run.main run.gives.about run.gives.learned)
+    start_learns = learns_both v run.control w (learns_same v run.control run.gives.about run.gives.learned)
         run.first_did.controlled.run.gains.on.learns
 
     pub end_learns : Learns w t
@@ -211,7 +211,7 @@ module _ {Past : Whole → Type 0} {log : Log} {v w : View} {r q : Registrar} {f
     pub has_end : HasEnd t last.to
     has_end = record {
       alone = record {
-        main = closes.lane ∙ alone.main;
+        control = closes.lane ∙ alone.control;
         all = closes.out ∙ alone.all;
         idle = closes.idle ∙ alone.idle;
       };
@@ -239,14 +239,14 @@ module _ {Past : Whole → Type 0} {log : Log} {v w : View} {r q : Registrar} {f
             omega arith
 
         shut_told : (s : Shut) → (w.shut ≡ Some s) ⊎ IsShutOfLane done (length done) s → Always t (IsMarkAt s.line s.lines)
-        shut_told s (inl same) = always_later w t (IsMarkAt s.line s.lines) end_learns (main_marks known s same)
+        shut_told s (inl same) = always_later w t (IsMarkAt s.line s.lines) end_learns (control_marks known s same)
         shut_told s (inr q) =
             let p = way q.position q.lane q.lane_is in
             let same : q.seat ≡ p.run_of.after = some_once q.seat p.run_of.after (sym q.seat_is ∙ p.run_of.after_is) in
             let learns : Learns (view q.seat.pass) t = learns_both (view q.seat.pass) u t
             (returned.takes.learned q.position q.lane q.seat q.below q.lane_is q.seat_is) closes.learns in
             always_later (view q.seat.pass) t (IsMarkAt s.line s.lines) learns
-            (subst (λ (z : Seated). IsShutSaid (view z.pass)) (sym same) (way_marks q.position q.lane p known) s q.shut_is)
+            (subst (λ (z : LanePass). IsShutSaid (view z.pass)) (sym same) (way_marks q.position q.lane p known) s q.shut_is)
 
     -- the refused items name marks
     marks_items : (s : View) (items : List Item) → Learns s t → IsShutSaid s → AllOf (IsFullItem s) items
@@ -262,7 +262,7 @@ module _ {Past : Whole → Type 0} {log : Log} {v w : View} {r q : Registrar} {f
     )
 
     first_marks : AllOf (IsMarkItem t) first'.items
-    first_marks = marks_items w first'.items end_learns (main_marks start.1.marks) run.first_did.controlled.run.full
+    first_marks = marks_items w first'.items end_learns (control_marks start.1.marks) run.first_did.controlled.run.full
 
     others_marks : NameMarks t after
     others_marks i y at =
@@ -285,14 +285,14 @@ module _ {Past : Whole → Type 0} {log : Log} {v w : View} {r q : Registrar} {f
     own_cases o n =
         let g = run.first_did.controlled.run.gains in
         ⊎_elim (λ (k : Among o w.own).
-        ⊎_elim (λ (k : Among o run.main.own). inl (run.gives.own o k))
-        (λ (k : Among o (owned run.main.lane run.first_did.controlled.run.rows)).
-        let q = owned_number run.main.lane o run.first_did.controlled.run.rows k in inr (inl (q.0, q.1 ∙ run.gives.main)))
-        (among_either o run.main.own (owned run.main.lane run.first_did.controlled.run.rows) (subst (Among o) g.own k)))
+        ⊎_elim (λ (k : Among o run.control.own). inl (run.gives.own o k))
+        (λ (k : Among o (owned run.control.lane run.first_did.controlled.run.rows)).
+        let q = owned_number run.control.lane o run.first_did.controlled.run.rows k in inr (inl (q.0, q.1 ∙ run.gives.control)))
+        (among_either o run.control.own (owned run.control.lane run.first_did.controlled.run.rows) (subst (Among o) g.own k)))
         (λ (k : IsOfLane done (length done) o). inr (inr k)) (returned.takes.own o (subst (Among o) closes.own n))
 
     -- of another lane it is one of before, or one of the lane's rows
-    lane_cases : (i : ℕ) (z : Lane) (p : Way i z) (seat : Seated) (o : Own) → z.seat ≡ Some seat
+    lane_cases : (i : ℕ) (z : Lane) (p : Way i z) (seat : LanePass) (o : Own) → z.seat ≡ Some seat
         → Among o (view seat.pass).own → (Among o v.own × (o.lane ≡ i + 2)) ⊎ (HasNumber o.number p.run_of.run.rows × (o.lane ≡ i + 2))
     lane_cases i z p seat o is n =
         let same : seat ≡ p.run_of.after = some_once seat p.run_of.after (sym is ∙ p.run_of.after_is) in
@@ -302,7 +302,7 @@ module _ {Past : Whole → Type 0} {log : Log} {v w : View} {r q : Registrar} {f
         (λ (k : Among o (owned (view p.run_of.before.pass).lane p.run_of.run.rows)).
         let q = owned_number (view p.run_of.before.pass).lane o p.run_of.run.rows k in inr (q.0, q.1 ∙ lane))
         (among_either o (view p.run_of.before.pass).own (owned (view p.run_of.before.pass).lane p.run_of.run.rows)
-        (subst (Among o) g.own (subst (λ (s : Seated). Among o (view s.pass).own) same n)))
+        (subst (Among o) g.own (subst (λ (s : LanePass). Among o (view s.pass).own) same n)))
 
     -- what came to its own records since is new
     pub is_later : Later v t
@@ -312,8 +312,8 @@ module _ {Past : Whole → Type 0} {log : Log} {v w : View} {r q : Registrar} {f
           (λ (k : (HasNumber o.number run.first_did.controlled.run.rows × (o.lane ≡ 1)) ⊎ IsOfLane done (length done) o).
           ⊎_elim (λ (q : HasNumber o.number run.first_did.controlled.run.rows × (o.lane ≡ 1)).
           let did = run.first_did.controlled.run in
-          let up = has_above o.number run.main.learned.count w.learned.count did.rows did.gains.ascends q.0 in
-          let same : run.main.learned.count ≡ v.learned.count = ap (λ (z : Learned). z.count) run.gives.learned in
+          let up = has_above o.number run.control.learned.count w.learned.count did.rows did.gains.ascends q.0 in
+          let same : run.control.learned.count ≡ v.learned.count = ap (λ (z : Learned). z.count) run.gives.learned in
           inr (omega arith)) (λ (q : IsOfLane done (length done) o). of_lane o q) k) (own_cases o n);
     }
       where
@@ -332,8 +332,8 @@ module _ {Past : Whole → Type 0} {log : Log} {v w : View} {r q : Registrar} {f
         → Learns s t → v.about.number ≤ k.from → k.to ≡ last.to → k.from ≤ k.to → k.from ≤ v.learned.count
         → Ascends v.learned.count rows s.learned.count → AreKnown s number rows
         → ((o : Own) → Among o t.own → o.lane ≡ number → (o.number < k.from) ⊎ HasNumber o.number rows)
-        → SureUpTo past s k.to (λ y. SaysLane y k rows works items)
-        → Will past t (λ y. SaysLane y k (rows_of_lane y.log k.from k.to number) works items)
+        → MustHoldUpTo past s k.to (λ y. SaysLane y k rows works items)
+        → WillHold past t (λ y. SaysLane y k (rows_of_lane y.log k.from k.to number) works items)
     says_rows past k s number rows works items learns based is within counted up told all sure y m =
         let same : t.about.number ≡ v.about.number = ap (λ (z : Key). z.number) all_learns.about in
         let settled = ended.settled in
@@ -346,7 +346,7 @@ module _ {Past : Whole → Type 0} {log : Log} {v w : View} {r q : Registrar} {f
 
     module _ (past : Whole) (behind : Past past) (k : Span) (span : IsBlockSpan v t last.to k) (many : k.lanes ≡ length before + 1)
         (stood : Stands v) where
-      version_given : run.main.learned.version ≡ v.learned.version
+      version_given : run.control.learned.version ≡ v.learned.version
       version_given = ap (λ (z : Learned). z.version) run.gives.learned
 
       pub within : k.from ≤ k.to
@@ -390,17 +390,17 @@ module _ {Past : Whole → Type 0} {log : Log} {v w : View} {r q : Registrar} {f
           }
 
       -- the control pass is alone where there is no other lane
-      main_alone : k.lanes ≡ 1 → IsAlone run.main
-      main_alone one = subst IsAlone (sym (run.gives.none (omega arith))) span.begins.alone
+      control_alone : k.lanes ≡ 1 → IsAlone run.control
+      control_alone one = subst IsAlone (sym (run.gives.none (omega arith))) span.begins.alone
 
-      says_first : Will past t (SaysFirst k first')
+      says_first : WillHold past t (SaysFirst k first')
       says_first =
           let run_first = run.first_did.controlled.run in
           let g = run_first.gains in
-          let same : run.main.learned.count ≡ v.learned.count = ap (λ (z : Learned). z.count) run.gives.learned in
+          let same : run.control.learned.count ≡ v.learned.count = ap (λ (z : Learned). z.count) run.gives.learned in
           says_rows past k w 1 run_first.rows first'.works first'.items end_learns span.begins.above span.ends within counted
           (subst (λ (z : ℕ). Ascends z run_first.rows w.learned.count) same g.ascends)
-          (subst (λ (z : ℕ). AreKnown w z run_first.rows) run.gives.main g.told)
+          (subst (λ (z : ℕ). AreKnown w z run_first.rows) run.gives.control g.told)
           (λ o n lane. ⊎_elim (λ (h : Among o v.own). inl (own_before v k.from o stood span.begins h))
           (λ (h : (HasNumber o.number run_first.rows × (o.lane ≡ 1)) ⊎ IsOfLane done (length done) o).
           ⊎_elim (λ (i : HasNumber o.number run_first.rows × (o.lane ≡ 1)). inr i.0)
@@ -409,7 +409,7 @@ module _ {Past : Whole → Type 0} {log : Log} {v w : View} {r q : Registrar} {f
           ⊎_elim (λ (j : Among o v.own × (o.lane ≡ i.position + 2)). let e = j.1 in omega arith)
           (λ (j : HasNumber o.number p.run_of.run.rows × (o.lane ≡ i.position + 2)). let e = j.1 in omega arith)
           (lane_cases i.position i.lane p i.seat o i.seat_is i.among))) h) (own_cases o n))
-          (run_first.tells past behind k (lane_within run.main w run.gives.about run.gives.learned end_learns main_alone)
+          (run_first.tells past behind k (lane_within run.control w run.gives.about run.gives.learned end_learns control_alone)
           (span.full ∙ sym run.gives.shut))
 
       -- what another lane has among the records of its number
@@ -434,7 +434,7 @@ module _ {Past : Whole → Type 0} {log : Log} {v w : View} {r q : Registrar} {f
               (λ (h : HasNumber o.number r.run_of.run.rows × (o.lane ≡ q.position + 2)). let e = h.1 in ne (omega arith))
               (lane_cases q.position q.lane r q.seat o q.seat_is q.among))
 
-      says_others : length before < 16 → Will past t (SaysOthers k after)
+      says_others : length before < 16 → WillHold past t (SaysOthers k after)
       says_others few x m i y at =
           let size = sizes in
           let z = ran_at returned i y at in
@@ -476,7 +476,7 @@ module _ {Past : Whole → Type 0} {log : Log} {v w : View} {r q : Registrar} {f
               (lane_cases q.position q.lane p q.seat o q.seat_is q.among)
 
       -- all that the block tells of the whole
-      pub says_all : length before < 16 → Will past t (λ y. SaysBlock y k (first' ∷ after))
+      pub says_all : length before < 16 → WillHold past t (λ y. SaysBlock y k (first' ∷ after))
       says_all few x m =
           let size = sizes in
           let back = returned.size in

@@ -30,7 +30,7 @@ use Rattle.fish_registry.specs.declared.registrar.Registrar.{Registrar}
 use Rattle.fish_rule.proofs.laws.Lists.{all_among}
 use Rattle.fish_rule.proofs.laws.Versions.{texts_law}
 use Rattle.fish_rule.specs.Logs.{Learns}
-use Rattle.fish_rule.specs.Registry.{IsRegistered, definitions_at, main_word, row_at, version_in}
+use Rattle.fish_rule.specs.Registry.{IsRegistered, definitions_at, control_word, row_at, version_in}
 use Rattle.fish_rule.specs.Table.{Stands}
 use Rattle.fish_rule.specs.Views.{Among}
 use Rattle.fish_rule.specs.declared.view.View.{View}
@@ -254,16 +254,16 @@ module _ (v u : View) (rows : List CatRow) (definitions : List Listed) (text : L
 -- a boundary word that the control pass knows is that of a row that the registrar keeps
 module _ (t : View) (s : Registrar) (stands : Stands t) (knows : Knows t s) where
   row_with : (id i n : ℕ) → id < 256 → i < 2 → Among (record { index = row_at id i; value = suc n }) t.learned.words
-      → (row : CatRow) × (slice_get s.catalog id ≡ Some row) × (main_word t.main_words (row_at id i) ≡ suc n)
+      → (row : CatRow) × (slice_get s.catalog id ≡ Some row) × (control_word t.control_words (row_at id i) ≡ suc n)
   row_with id i n few bound among =
       let g = stands.moment.registry in
       let stays = stands.rule.registry.each stands.seat t stands.at in
-      let main = stays.main knows.main in
+      let control = stays.control knows.control in
       let word : g (row_at id i) ≡ suc n =
       (all_among (IsRegistered t.about g) (record { index = row_at id i; value = suc n }) t.learned.words stays.read among).word in
-      let stored : g (row_at id i) ≡ main_word t.main_words (row_at id i) = main.owned (row_at id i) (inr (id, i, few, bound, refl)) in
+      let stored : g (row_at id i) ≡ control_word t.control_words (row_at id i) = control.owned (row_at id i) (inr (id, i, few, bound, refl)) in
       let rows : length t.rows ≡ length s.catalog = ap length (sym knows.listed) ∙ length-map s.catalog listed_of in
-      let made : length (definitions_at t.about g (version_in g)) ≡ length t.rows = ap length main.definitions in
+      let made : length (definitions_at t.about g (version_in g)) ≡ length t.rows = ap length control.definitions in
       let less : id < length s.catalog = there (dec_lt id (length s.catalog)) word rows made in
       let row = get_some s.catalog id less in
       (row.0, row.1, sym stored ∙ word)

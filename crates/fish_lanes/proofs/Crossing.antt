@@ -5,7 +5,7 @@ use Rattle.fish_lang.proofs.definition.Cond.TheLaws.TheKnot.{send-Cond}
 use Rattle.fish_rule.proofs.table.Pass.TheSendSync.{the_field_send as pass_field_send}
 use Rattle.fish_report.proofs.item.Item.TheSendSync.{the_send as item_send}
 use Rattle.fish_lanes.specs.contracts.lane.Lane.{the_row as lane_row}
-use Rattle.fish_lanes.specs.contracts.lane.Seated.{the_row as seated_row}
+use Rattle.fish_lanes.specs.contracts.lane.LanePass.{the_row as seated_row}
 use Rattle.fish_lanes.specs.contracts.work.Work.{the_row as work_row}
 use Rattle.fish_scan.proofs.ask.Ask.TheSendSync.{the_send as ask_send}
 use Rattle.fish_value.proofs.path.Path.TheSendSync.{the_send as path_send}

@@ -1,4 +1,4 @@
--- What the statements so far tell, and what one item more tells behind them.
+-- What the statements so far tell, and what one item more tells after them.
 use Rattle.std.proofs.Common.{◌≡◌, ℕ, ◌+◌, ◌<◌, ◌≤◌, suc, List, [], ◌∷◌, refl}
 use Rattle.std.proofs.Common.{ap, ◌∙◌, subst, inl, inr, ◌⊎◌, ⊎_elim, arith, None, Some}
 use Rattle.fish_lanes.proofs.Answered.{plan_told, refused_told, scan_told}
@@ -41,7 +41,7 @@ use Rattle.fish_rule.specs.declared.view.View.{View}
 use Rattle.fish_scan.specs.declared.ask.Ask.{Ask}
 use Rattle.fish_value.specs.declared.field.Form.{Form}
 use Rattle.fish_whole.proofs.Wholes.{sure_rows}
-use Rattle.fish_whole.specs.Whole.{Sure, SureUpTo, Whole}
+use Rattle.fish_whole.specs.Whole.{MustHold, MustHoldUpTo, Whole}
 
 -- none
 pub told_self : (Past : Whole → Type 0) (v : View) → v.epoch ≡ Out → v.flight ≡ None → HasAnswered Past v v [] []
@@ -95,7 +95,7 @@ module _ (Past : Whole → Type 0) (v u t : View) (works : List Work) (items : L
   number_is : u.about.number ≡ v.about.number
   number_is = ap (λ (z : Key). z.number) h.gains.on.learns.about
 
-  -- behind the items so far
+  -- after the items so far
   abbrev pub now : Span
   now = record s { first = s.first + made items }
 
@@ -135,7 +135,7 @@ module _ (Past : Whole → Type 0) (v u t : View) (works : List Work) (items : L
 
   -- what a refusal tells
   refusal_told : (ask : Ask) (refused : List ℕ → ℕ → ScanCause → Item) (x : Item) → FitsRefused u t ask refused x
-      → Sure past t (λ w. SaysRefused w now ask refused x)
+      → MustHold past t (λ w. SaysRefused w now ask refused x)
   refusal_told ask refused x f w m =
       let at = version_now f.version (refused_version u t ask f.version f.why f.fits) in
       record {
@@ -150,7 +150,7 @@ module _ (Past : Whole → Type 0) (v u t : View) (works : List Work) (items : L
   -- the lines are those of an earlier claim, or of the record
   size_told : (form : Form) (payload : List ℕ) (line lines end : ℕ)
       → (u.shut ≡ Some (claim_of line lines end)) ⊎ IsSizeBetween u t form payload lines
-      → Sure past t (λ w. IsEarlier now (shown_in items) line lines end ⊎ IsSizeOf w now form payload lines)
+      → MustHold past t (λ w. IsEarlier now (shown_in items) line lines end ⊎ IsSizeOf w now form payload lines)
   size_told form payload line lines end (inl same) w m = inl
       (⊎_elim (λ (first : v.shut ≡ Some (claim_of line lines end)). inl (was ∙ first))
       (λ (told : SaysClaim (claim_of line lines end) items). inr (claim_shown (claim_of line lines end) items told))
@@ -165,7 +165,7 @@ module _ (Past : Whole → Type 0) (v u t : View) (works : List Work) (items : L
       })
 
   -- what the lane stored before a checkpoint of a pass that is alone lies below it
-  below_count : (x : Item) (f : FitsCheckpoint u t x) → IsAlone u → Sure past t (λ w. (n : ℕ) → HasNumber n h.rows → n < f.count)
+  below_count : (x : Item) (f : FitsCheckpoint u t x) → IsAlone u → MustHold past t (λ w. (n : ℕ) → HasNumber n h.rows → n < f.count)
   below_count x f alone w m n has =
       let e = f.exact alone in
       let claimed = e.3 in
@@ -185,7 +185,7 @@ module _ (Past : Whole → Type 0) (v u t : View) (works : List Work) (items : L
 
   -- what fits is told
   pub item_told : Past past → (w : Work) (x : Item) → IsFit Past u t w x
-      → SureUpTo past t s.to (λ z. SaysItem z now h.rows (shown_in items) w x)
+      → MustHoldUpTo past t s.to (λ z. SaysItem z now h.rows (shown_in items) w x)
   item_told behind (work.Register name def) x f w m far = f
   item_told behind (work.Deregister name) x f w m far = f
   item_told behind (work.Ingest form begin name file) x (inl s) w m far = inl s

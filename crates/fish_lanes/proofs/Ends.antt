@@ -14,7 +14,7 @@ use Rattle.fish_lanes.specs.within.Blocks.{HasGiven, HasTakenAll}
 use Rattle.fish_lanes.specs.within.Controlling.{HasControlled, IsFound}
 use Rattle.fish_lanes.specs.within.Course.{HasFoundEnd, HasRunLanes}
 use Rattle.fish_lanes.specs.Pending.{AreFound}
-use Rattle.fish_lanes.specs.Registering.{AreSo, IsSo, KnowsEach, KnowsRegistry, Registry, after, after_all, registry_of, waiting_id}
+use Rattle.fish_lanes.specs.Registering.{ItemsFit, ItemFits, KnowsEach, KnowsRegistry, Registry, after, after_all, registry_of, waiting_id}
 use Rattle.fish_lanes.specs.Spans.{Span}
 use Rattle.fish_lanes.specs.declared.block.BlockEnd.{BlockEnd}
 use Rattle.fish_lanes.specs.declared.block.Boundary.{Boundary}
@@ -53,20 +53,20 @@ given_known v m r about same h = subst (λ (z : Key × Learned). KnowsOf z.0 z.1
         (map listed_of r.catalog)
 
 pub given_knows : (v m : View) (r : Registrar) (many : ℕ) → HasGiven v m many → v.lane ≡ 1 → Knows v r → Knows m r
-given_knows v m r many h main k =
-    knows_kept v m r (h.main ∙ sym main) (learns_same v m h.about h.learned) h.registry k
+given_knows v m r many h control k =
+    knows_kept v m r (h.control ∙ sym control) (learns_same v m h.about h.learned) h.registry k
 
 -- ---- and come back
 
 -- the control pass is alone
 pub taken_alone : (w u : View) (lanes : List Lane) → HasTakenAll w u lanes (length lanes) → IsAlone u
-taken_alone w u lanes h = record { main = h.main; all = none_out w u lanes h; idle = h.idle }
+taken_alone w u lanes h = record { control = h.control; all = none_out w u lanes h; idle = h.idle }
 
 pub taken_start : (w u : View) (lanes : List Lane) (many : ℕ) → HasTakenAll w u lanes many → CanStart u
-taken_start w u lanes many h = record { live = (let e = h.main in omega arith); outside = h.outside }
+taken_start w u lanes many h = record { live = (let e = h.control in omega arith); outside = h.outside }
 
 pub taken_knows : (w u : View) (q : Registrar) (lanes : List Lane) (many : ℕ) → HasTakenAll w u lanes many → Knows w q → Knows u q
-taken_knows w u q lanes many h k = knows_kept w u q (h.main ∙ sym k.main) h.learns h.registry k
+taken_knows w u q lanes many h k = knows_kept w u q (h.control ∙ sym k.control) h.learns h.registry k
 
 -- ---- a boundary, and the end
 
@@ -97,14 +97,14 @@ module _ {Past : Whole → Type 0} {log : Log} {v u t : View} {r q s : Registrar
     {end : BlockEnd} (lanes : HasRunLanes Past log v u r q first first' others others') (ended : HasFoundEnd u t q s end)
     (su : Stands u) (ku : Knows u q) (st : Stands t)
     (near : (k : Span) → IsBlockSpan v t end.to k → (k.from ≤ v.learned.count) × (t.learned.count ≤ k.to + 16)) where
-  controlled : HasControlled Past lanes.run.main lanes.ran r q first'.works first'.items first'.fault
+  controlled : HasControlled Past lanes.run.control lanes.ran r q first'.works first'.items first'.fault
   controlled = lanes.run.first_did.controlled
 
   -- the pass that did the first lane's statements knew what the block began with, and what it knew then it knows at the end
-  same_start : registry_of lanes.run.main r ≡ registry_of v r
-  same_start = given_registry v lanes.run.main r lanes.run.gives.learned
+  same_start : registry_of lanes.run.control r ≡ registry_of v r
+  same_start = given_registry v lanes.run.control r lanes.run.gives.learned
 
-  same_count : lanes.run.main.learned.count ≡ v.learned.count
+  same_count : lanes.run.control.learned.count ≡ v.learned.count
   same_count = ap (λ (z : Learned). z.count) lanes.run.gives.learned
 
   same_taken : registry_of u q ≡ registry_of lanes.ran q
@@ -118,18 +118,18 @@ module _ {Past : Whole → Type 0} {log : Log} {v u t : View} {r q s : Registrar
   learns_ran = learns_both lanes.ran u t lanes.back.takes.learns
       (learns_both u ended.bound t (learns_changes u ended.bound ended.changes) ended.settles.learns)
 
-  so_items : (k : Span) → IsBlockSpan v t end.to k → AreSo k.from (k.to + 16) (registry_of v r) first'.items
+  so_items : (k : Span) → IsBlockSpan v t end.to k → ItemsFit k.from (k.to + 16) (registry_of v r) first'.items
   so_items k span =
       let n = near k span in
       let low = n.0 in
       let high = n.1 in
       let more = learns_ran.count in
       let same = same_count in
-      are_so_wide lanes.run.main.learned.count lanes.ran.learned.count k.from (k.to + 16) (registry_of v r) first'.items
+      are_so_wide lanes.run.control.learned.count lanes.ran.learned.count k.from (k.to + 16) (registry_of v r) first'.items
       (omega arith) (omega arith)
-      (subst (λ (z : Registry). AreSo lanes.run.main.learned.count lanes.ran.learned.count z first'.items) same_start controlled.so)
+      (subst (λ (z : Registry). ItemsFit lanes.run.control.learned.count lanes.ran.learned.count z first'.items) same_start controlled.so)
 
-  -- behind the items
+  -- after the items
   behind_items : first'.fault ≡ cause.None → registry_of u q ≡ after_all (registry_of v r) first'.items
   behind_items none = same_taken ∙ controlled.is none ∙ ap (λ (z : Registry). after_all z first'.items) same_start
 
@@ -141,9 +141,9 @@ module _ {Past : Whole → Type 0} {log : Log} {v u t : View} {r q s : Registrar
 
   -- the looks of the first lane were made in the block
   found_end : AreFound v.clock t.clock (registry_of v r) first'.items
-  found_end = found_within v.clock lanes.run.main.clock lanes.ran.clock t.clock (registry_of v r) first'.items
+  found_end = found_within v.clock lanes.run.control.clock lanes.ran.clock t.clock (registry_of v r) first'.items
       lanes.run.gives.clock
-      (subst (λ (z : Registry). AreFound lanes.run.main.clock lanes.ran.clock z first'.items) same_start controlled.found)
+      (subst (λ (z : Registry). AreFound lanes.run.control.clock lanes.ran.clock z first'.items) same_start controlled.found)
       (later_both lanes.ran.clock u.clock t.clock lanes.back.takes.clock
       (later_both u.clock ended.bound.clock t.clock ended.changes.clock ended.settles.clock))
 
@@ -154,7 +154,7 @@ module _ {Past : Whole → Type 0} {log : Log} {v u t : View} {r q s : Registrar
     found = found_end;
     known = known_end;
     so = so_items;
-    whole = λ none k span. subst (AreSo k.from (k.to + 16) (registry_of v r)) (sym (append-nil first'.items)) (so_items k span);
+    whole = λ none k span. subst (ItemsFit k.from (k.to + 16) (registry_of v r)) (sym (append-nil first'.items)) (so_items k span);
     is = λ none. same_end ∙ found ∙ behind_items none ∙ ap (after_all (registry_of v r)) (sym (append-nil first'.items));
     each = λ none. subst (KnowsEach t (registry_of v r)) (sym (append-nil first'.items)) known_end;
     settled = ended.unset;
@@ -174,7 +174,7 @@ module _ {Past : Whole → Type 0} {log : Log} {v u t : View} {r q s : Registrar
         so_more k.from (k.to + 16) (registry_of v r) first'.items (item.Bound b.id b.from) (so_items k span)
         (so_wide u.learned.count ended.bound.learned.count k.from (k.to + 16) (after_all (registry_of v r) first'.items)
         (item.Bound b.id b.from) (omega arith) (omega arith)
-        (subst (λ (z : Registry). IsSo u.learned.count ended.bound.learned.count z (item.Bound b.id b.from)) (behind_items none)
+        (subst (λ (z : Registry). ItemFits u.learned.count ended.bound.learned.count z (item.Bound b.id b.from)) (behind_items none)
         found.so));
     is = λ none. same_end ∙ found.is ∙ ap (λ (z : Registry). after z (item.Bound b.id b.from)) (behind_items none)
         ∙ sym (after_more (registry_of v r) first'.items (item.Bound b.id b.from));

@@ -54,7 +54,7 @@ behind_one lane at to x entries (r ∷ rows) up stand =
     lower low from to [] le h = omega arith
     lower low from to (r ∷ rows) le h = (let a = h.0 in omega arith, h.1)
 
--- where the first number isn't there, the rows begin behind it
+-- where the first number isn't there, the rows begin after it
 begins_behind : (at to : ℕ) (rows : List LaneRow) → at < to → ¬ HasNumber at rows → Ascends at rows to
     → Ascends (suc at) rows to
 begins_behind at to [] less none up = omega arith
@@ -95,7 +95,7 @@ first_row lane at to form payload entries (r ∷ rows) (inl e) up stand =
       stand.1,
     )
 
--- all of the lane are among the rows behind the first
+-- all of the lane are among the rows after the first
 all_behind : (lane at to : ℕ) (x : Entry) (entries : List Entry) (rows : List LaneRow)
     → AllOfLane lane at (x ∷ entries) rows → AllOfLane lane (suc at) entries rows
 all_behind lane at to x entries rows all i form payload is =

@@ -20,7 +20,7 @@ use Rattle.fish_scan.specs.declared.refusal.ScanRefusal.TheVariants as refusal
 
 -- ---- without memory
 
--- what holds of an answer holds where want of memory stops the lane
+-- what holds of an answer holds where the lane stops since memory ran out
 pub memory_ok : {T E : Type 0} (r : Result T E) (P : T → Type 0) → IfOk r P → IfOk (or_memory r) P
 memory_ok (Ok x) P h = h
 memory_ok (Err e) P h = tt

@@ -1,4 +1,4 @@
--- The statements of a lane behind the first, from their start to their end.
+-- The statements of a lane after the first, from their start to their end.
 use Rattle.std.proofs.Common.{◌≡◌, ◌≢◌, ℕ, ◌≤◌, List, [], ⊎_elim, sym, ap, ◌∙◌, subst, refl, arith, Bool}
 use Rattle.std.specs.Prelude.{is_some}
 use Rattle.fish_ingest.proofs.IngestionStart.{idle_law}
@@ -15,7 +15,7 @@ use Rattle.fish_lanes.specs.within.Pasts.{WasHere}
 use Rattle.fish_lanes.specs.within.Running.{CanBegin, HasDone, HasRun, SayPlans}
 use Rattle.fish_lanes.specs.Spans.{IsAnswer}
 use Rattle.fish_lanes.specs.declared.lane.Lane.{Lane}
-use Rattle.fish_lanes.specs.declared.lane.Seated.{Seated}
+use Rattle.fish_lanes.specs.declared.lane.LanePass.{LanePass}
 use Rattle.fish_lanes.specs.declared.work.LaneFault.{LaneFault}
 use Rattle.fish_lanes.specs.declared.work.LaneFault.TheVariants as fault
 use Rattle.fish_lanes.specs.declared.work.Work.{Work}
@@ -48,7 +48,7 @@ pub on_far : (Past : Whole → Type 0) (v u : View) (works : List Work) (items :
     → IsOn Past v u works items why → IsSoFar Past v u works items
 on_far Past v u works items why none h = subst (IsOn Past v u works items) none h
 
--- what is finished behind some pasts is finished behind each of these
+-- what is finished after some pasts is finished after each of these
 pub finished_fewer : (P Q : Whole → Type 0) (full : Bool) (log : Log) (x y : Lane) → ((past : Whole) → Q past → P past)
     → HasFinished P full log x y → HasFinished Q full log x y
 finished_fewer P Q full log x y fewer h = record {
@@ -75,7 +75,7 @@ done_both Past P full log x y z fewer empty gone can told fin =
     let start : View = view gone.before.pass in
     let seat : gone.after ≡ fin.before = some_once gone.after fin.before (sym gone.after_is ∙ fin.before_is) in
     let on : IsOnAnyhow start (view fin.before.pass) y.works y.items y.fault =
-    subst (λ (p : Seated × List Work). IsOnAnyhow start (view p.0.pass) p.1 y.items y.fault) (λ i. (seat i, sym gone.works i))
+    subst (λ (p : LanePass × List Work). IsOnAnyhow start (view p.0.pass) p.1 y.items y.fault) (λ i. (seat i, sym gone.works i))
     (λ content k cold later. gone.on start content k cold later
     (subst (IsSoFar (WasHere content k cold later) start start x.works) (sym empty)
     (far_self (WasHere content k cold later) start x.works can.start.outside (idle_law start can.of.stands can.start)
@@ -92,7 +92,7 @@ done_both Past P full log x y z fewer empty gone can told fin =
       stops = record {
         cut = λ some. let cut = fin.cut (gone.answers (subst (AllOf IsAnswer) (sym empty) tt)) some in
             record { fault = cut.0; unshut = unshut_test start.shut (sym told ∙ cut.1); shut = cut.2 };
-        last = λ unshut. fin.last (told ∙ ap is_some unshut) (subst (λ (s : Seated). SaysLast (view s.pass) y.items y.fault) seat
+        last = λ unshut. fin.last (told ∙ ap is_some unshut) (subst (λ (s : LanePass). SaysLast (view s.pass) y.items y.fault) seat
             (gone.last unshut (subst (AllOf IsNotFull) (sym empty) tt)));
       };
       answers = fin.answers (gone.answers (subst (AllOf IsAnswer) (sym empty) tt));

@@ -31,7 +31,7 @@ first_there P x (y ∷ lanes) others h p z at = subst P (some_once x z at) p
 pub others_new : (v : View) (from : ℕ) (lanes : List Lane) → HasEnd v from → AreLanes lanes → CanGive v (drop 1 lanes)
 others_new v from [] e h = (let some_ = h.some in absurd (omega arith))
 others_new v from (x ∷ lanes) e h = record {
-  main = e.alone.main;
+  control = e.alone.control;
   all = e.alone.all;
   idle = e.alone.idle;
   outside = e.outside;

@@ -88,7 +88,7 @@ refused_older v u known ask refusal.OutOfMemory version why h is at = absurd cc
 
 -- ---- items
 
--- an answer of the table alone is one behind every past
+-- an answer of the table alone is one after every past
 answer_anywhere : (v u : View) (known : Known) (ask : Ask) (answer : Answer) (past : Whole) → IsAnswer v u known ask answer
     → IsAnswerBehind past v u known ask answer
 answer_anywhere v u known ask answer past h = record {
@@ -173,7 +173,7 @@ planned_fits v u known ask explained version (Ok x) h at made = inl (record {
   fits = record { known = known; version_is = at; opens = h.0; explained = h.1 };
 })
 
--- a scan on both sides of the base answered behind what the disk has before the table
+-- a scan on both sides of the base answered after what the disk has before the table
 pub here_ok : {E : Type 0} (content : Option (List ℕ)) (k : Key) (cold : Cold) (v u : View) (known : Known) (ask : Ask)
     (parsed parses loaded loads : ℕ) (r : Result Answer E) → u.about ≡ k
     → IfOk r (λ a. (h : CarriesTable content k cold) → IsAnswerWith h v u known ask a parsed parses loaded loads)

@@ -161,7 +161,7 @@ gains_reads v u outside idle h = record {
   marks = marks_same v u h.learns (ap (λ (z : View). z.shut) h.frame);
 }
 
--- a pass may start again behind what it gained
+-- a pass may start again after what it gained
 pub gains_start : (v u : View) (rows : List LaneRow) → CanStart v → Gains v u rows → CanStart u
 gains_start v u rows can h = record {
   live = subst (λ (z : ℕ). 1 ≤ z) (sym h.on.lane) can.live;
@@ -258,6 +258,6 @@ full_later u t line lines end about keeps h = record {
 
 -- ---- a pass that is alone
 
--- it is so behind its statements
+-- it is so after its statements
 pub alone_gains : (v u : View) (rows : List LaneRow) → Gains v u rows → IsAlone v → IsAlone u
-alone_gains v u rows g a = record { main = g.on.lane ∙ a.main; all = g.on.out ∙ a.all; idle = g.idle }
+alone_gains v u rows g a = record { control = g.on.lane ∙ a.control; all = g.on.out ∙ a.all; idle = g.idle }

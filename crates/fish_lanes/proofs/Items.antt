@@ -10,7 +10,7 @@ use Rattle.fish_lanes.specs.declared.work.Work.{Work}
 use Rattle.fish_report.specs.declared.item.Item.{Item}
 use Rattle.fish_whole.specs.Whole.{Whole}
 
--- the block behind items, by the versions that they made
+-- the block after items, by the versions that they made
 abbrev pub behind_all : List Item → Span → Span
 behind_all [] s = s
 behind_all (x ∷ items) s = behind_all items (behind x s)
@@ -26,7 +26,7 @@ behind_is (x ∷ items) s = behind_is items (behind x s)
     ∙ ap (λ (n : ℕ). record s { first = n })
     (let e : s.first + made_by x + made items ≡ s.first + (made_by x + made items) = omega arith in e)
 
--- one more behind them
+-- one more after them
 pub says_more : (z : Whole) (s : Span) (before : List LaneRow) (shown : List Shown) (rows more : List LaneRow)
     (works : List Work) (items : List Item) (w : Work) (x : Item)
     → SaysAll z s before shown rows works items
@@ -58,7 +58,7 @@ says_more z s before shown rows more (w2 ∷ works) (y ∷ items) w x (mine, res
       )) tells),
 )
 
--- with nothing behind them the lane ended
+-- with nothing after them the lane ended
 pub says_ended : (z : Whole) (s : Span) (before : List LaneRow) (shown : List Shown) (rows : List LaneRow)
     (works : List Work) (items : List Item) → SaysAll z s before shown rows works items
     → SaysItems z s before shown rows works items

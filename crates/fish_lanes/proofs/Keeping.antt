@@ -7,28 +7,28 @@ use Rattle.fish_scan.specs.Scans.{OnlyScans}
 use Rattle.fish_walk.specs.Settling.{OnlySettles}
 
 pub keeps_self : (v : View) → KeepsRegistry v v
-keeps_self v = record { rows = refl; main_words = refl; round = refl }
+keeps_self v = record { rows = refl; control_words = refl; round = refl }
 
 pub keeps_both : (v u t : View) → KeepsRegistry v u → KeepsRegistry u t → KeepsRegistry v t
-keeps_both v u t p q = record { rows = q.rows ∙ p.rows; main_words = q.main_words ∙ p.main_words; round = q.round ∙ p.round }
+keeps_both v u t p q = record { rows = q.rows ∙ p.rows; control_words = q.control_words ∙ p.control_words; round = q.round ∙ p.round }
 
 pub keeps_ingests : (v u : View) → OnlyIngests v u → KeepsRegistry v u
 keeps_ingests v u h = record {
   rows = ap (λ (z : View). z.rows) h.frame;
-  main_words = ap (λ (z : View). z.main_words) h.frame;
+  control_words = ap (λ (z : View). z.control_words) h.frame;
   round = ap (λ (z : View). z.round) h.frame;
 }
 
 pub keeps_scans : (v u : View) → OnlyScans v u → KeepsRegistry v u
 keeps_scans v u h = record {
   rows = ap (λ (z : View). z.rows) h.frame;
-  main_words = ap (λ (z : View). z.main_words) h.frame;
+  control_words = ap (λ (z : View). z.control_words) h.frame;
   round = ap (λ (z : View). z.round) h.frame;
 }
 
 pub keeps_settles : (v u : View) → OnlySettles v u → KeepsRegistry v u
 keeps_settles v u h = record {
   rows = ap (λ (z : View). z.rows) h.frame;
-  main_words = ap (λ (z : View). z.main_words) h.frame;
+  control_words = ap (λ (z : View). z.control_words) h.frame;
   round = ap (λ (z : View). z.round) h.frame;
 }

@@ -11,7 +11,7 @@ use Rattle.fish_lanes.specs.within.Blocks.{IsOfLane, IsSeated, IsShutOfLane}
 use Rattle.fish_lanes.specs.Running.{IsShared}
 use Rattle.fish_lanes.specs.within.Running.{CanBegin, HasDone, IsReady}
 use Rattle.fish_lanes.specs.declared.lane.Lane.{Lane}
-use Rattle.fish_lanes.specs.declared.lane.Seated.{Seated}
+use Rattle.fish_lanes.specs.declared.lane.LanePass.{LanePass}
 use Rattle.fish_rule.proofs.laws.Clocks.{later_both, later_noted, later_self, later_ticked}
 use Rattle.fish_rule.proofs.laws.Lists.{among_either}
 use Rattle.fish_rule.proofs.laws.Learning.{learns_both, learns_self}
@@ -32,7 +32,7 @@ use Rattle.fish_whole.specs.Whole.{Whole}
 
 pub given_none : (v : View) (lanes : List Lane) → CanGive v lanes → HasGiven v v 0
 given_none v lanes h = record {
-  main = h.main;
+  control = h.control;
   idle = h.idle;
   outside = h.outside;
   about = refl;
@@ -48,7 +48,7 @@ given_none v lanes h = record {
 
 pub can_split : (v m : View) (i : ℕ) → HasGiven v m i → i + 2 ≤ 16 → CanSplitPass m (i + 2)
 can_split v m i h few = record {
-  main = h.main;
+  control = h.control;
   above = omega arith;
   below = few;
   here = λ bad. let b = (h.out_of (i + 2) bad).1 in omega arith;
@@ -57,14 +57,14 @@ can_split v m i h few = record {
 
 pub given_more : (v m u : View) (i l : ℕ) → l ≡ i + 2 → HasGiven v m i → u ≡ split_left l m → HasGiven v u (i + 1)
 given_more v m u i l at h e = subst (λ (z : View). HasGiven v z (i + 1)) (sym e) (record {
-  main = h.main;
+  control = h.control;
   idle = h.idle;
   outside = h.outside;
   about = h.about;
   learned = h.learned;
   clock = later_both v.clock m.clock (ticked m.clock) h.clock (later_ticked m.clock);
   shut = h.shut;
-  registry = record { rows = h.registry.rows; main_words = h.registry.main_words; round = h.registry.round };
+  registry = record { rows = h.registry.rows; control_words = h.registry.control_words; round = h.registry.round };
   own = λ o n. h.own o (off_lane_sound l o m.own n).0;
   out_of = λ x n. ⊎_elim (λ (s : l ≡ x). (omega arith, omega arith))
       (λ (s : Among x m.out). let b = h.out_of x s in let p = b.0 in let q = b.1 in (p, omega arith)) n;
@@ -108,9 +108,9 @@ seated_ready log v i x y new shared s = record {
 }
 
 -- the pass of a lane that is ready
-pub ready_seat : (log : Log) (x : Lane) (seat : Seated) → IsReady log x → x.seat ≡ Some seat → CanBegin log seat.pass
+pub ready_seat : (log : Log) (x : Lane) (seat : LanePass) → IsReady log x → x.seat ≡ Some seat → CanBegin log seat.pass
 ready_seat log x seat h is =
-    subst (λ (z : Seated). CanBegin log z.pass) (some_once h.seat seat (sym h.seat_is ∙ is)) h.can
+    subst (λ (z : LanePass). CanBegin log z.pass) (some_once h.seat seat (sym h.seat_is ∙ is)) h.can
 
 -- after its statements it may come back
 pub done_back : {Past : Whole → Type 0} (log : Log) (v : View) (i : ℕ) (x y z : Lane) → IsSeated log v i x y → HasDone Past log y z
@@ -121,7 +121,7 @@ done_back log v i x y z s d =
       seat = d.after;
       seat_is = d.after_is;
       of = d.can.of;
-      lane = d.run.gains.on.lane ∙ ap (λ (w : Seated). (view w.pass).lane) (sym same) ∙ s.lane;
+      lane = d.run.gains.on.lane ∙ ap (λ (w : LanePass). (view w.pass).lane) (sym same) ∙ s.lane;
       idle = d.run.gains.idle;
       outside = d.run.gains.outside;
     }
@@ -130,7 +130,7 @@ done_back log v i x y z s d =
 
 pub taken_none : (log : Log) (m : View) (lanes : List Lane) → AreJoined log m lanes → HasTakenAll m m lanes 0
 taken_none log m lanes h = record {
-  main = h.main;
+  control = h.control;
   idle = h.idle;
   outside = h.outside;
   learns = learns_self m;
@@ -156,7 +156,7 @@ can_take log m u lanes i x h t less at =
       seat_is = b.seat_is;
       of = b.of;
       can = record {
-        main = t.main;
+        control = t.control;
         above = omega arith;
         out = subst (λ (z : ℕ). Among z u.out) (sym b.lane) (t.all_out (i + 2) (omega arith) (omega arith));
         idle = b.idle;
@@ -165,7 +165,7 @@ can_take log m u lanes i x h t less at =
     }
 
 pub taken_more : (log : Log) (m u t : View) (lanes : List Lane) (i : ℕ) (x : Lane) → AreJoined log m lanes
-    → (h : HasTakenAll m u lanes i) → (at : slice_get lanes i ≡ Some x) → ((seat : Seated) → x.seat ≡ Some seat → HasTakenSeat u t seat)
+    → (h : HasTakenAll m u lanes i) → (at : slice_get lanes i ≡ Some x) → ((seat : LanePass) → x.seat ≡ Some seat → HasTakenSeat u t seat)
     → HasTakenAll m t lanes (i + 1)
 taken_more log m u t lanes i x joined h at by =
     let b = joined.back i x at in
@@ -175,13 +175,13 @@ taken_more log m u t lanes i x joined h at by =
     let out : t.out ≡ without (view b.seat.pass).lane u.out = ap (λ (z : View). z.out) e in
     let own : t.own ≡ u.own ++ (view b.seat.pass).own = ap (λ (z : View). z.own) e in
     record {
-      main = ap (λ (z : View). z.lane) e ∙ h.main;
+      control = ap (λ (z : View). z.lane) e ∙ h.control;
       idle = ap (λ (z : View). z.flight) e ∙ h.idle;
       outside = ap (λ (z : View). z.epoch) e ∙ h.outside;
       learns = learns_both m u t h.learns s.learns;
       registry = record {
         rows = ap (λ (z : View). z.rows) e ∙ h.registry.rows;
-        main_words = ap (λ (z : View). z.main_words) e ∙ h.registry.main_words;
+        control_words = ap (λ (z : View). z.control_words) e ∙ h.registry.control_words;
         round = ap (λ (z : View). z.round) e ∙ h.registry.round;
       };
       learned = λ j y seat below at_y seat_y. pick j y seat below at_y seat_y (dec_lt j i);
@@ -244,7 +244,7 @@ taken_more log m u t lanes i x joined h at by =
     first_some None c (inr k) = k
     first_some (Some y) c k = (y, refl)
 
-    shut_here : (j : ℕ) (y : Lane) (seat : Seated) (z : Shut) → j < i + 1 → slice_get lanes j ≡ Some y → y.seat ≡ Some seat
+    shut_here : (j : ℕ) (y : Lane) (seat : LanePass) (z : Shut) → j < i + 1 → slice_get lanes j ≡ Some y → y.seat ≡ Some seat
         → (view seat.pass).shut ≡ Some z → Dec (j < i) → IsClaim (first_shut u.shut (view (joined.back i x at).seat.pass).shut)
     shut_here j y seat z below at_y seat_y n (yes less) =
         first_some u.shut (view (joined.back i x at).seat.pass).shut (inl (h.shuts j y seat z less at_y seat_y n))
@@ -253,7 +253,7 @@ taken_more log m u t lanes i x joined h at by =
         let same : j ≡ i = omega arith in
         let here : y ≡ x = some_once y x (sym at_y ∙ ap (slice_get lanes) same ∙ at) in
         let seat_is : seat ≡ b.seat = some_once seat b.seat (sym seat_y ∙ ap (λ (w : Lane). w.seat) here ∙ b.seat_is) in
-        first_some u.shut (view b.seat.pass).shut (inr (z, ap (λ (w : Seated). (view w.pass).shut) (sym seat_is) ∙ n))
+        first_some u.shut (view b.seat.pass).shut (inr (z, ap (λ (w : LanePass). (view w.pass).shut) (sym seat_is) ∙ n))
 
     shut_cases : (z : Shut) (a c : Option Shut) → (a ≡ Some z → (m.shut ≡ Some z) ⊎ IsShutOfLane lanes i z)
         → (c ≡ Some z → IsShutOfLane lanes (i + 1) z) → first_shut a c ≡ Some z
@@ -270,7 +270,7 @@ taken_more log m u t lanes i x joined h at by =
           shut_is = k.shut_is;
         })) (mine e)
 
-    pick : (j : ℕ) (y : Lane) (seat : Seated) → j < i + 1 → slice_get lanes j ≡ Some y → y.seat ≡ Some seat → Dec (j < i)
+    pick : (j : ℕ) (y : Lane) (seat : LanePass) → j < i + 1 → slice_get lanes j ≡ Some y → y.seat ≡ Some seat → Dec (j < i)
         → Learns (view seat.pass) t
     pick j y seat below at_y seat_y (yes less) =
         let b = joined.back i x at in

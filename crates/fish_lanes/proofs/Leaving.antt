@@ -12,7 +12,7 @@ use Rattle.fish_lanes.proofs.Lists.{at_places, some_once}
 use Rattle.fish_lanes.proofs.Moments.{Closes, get_there, learns_same}
 use Rattle.fish_lanes.proofs.Plans.{plans_later}
 use Rattle.fish_lanes.proofs.Registrations.{registry_later}
-use Rattle.fish_lanes.specs.Blocks.{At}
+use Rattle.fish_lanes.specs.Blocks.{EachLane}
 use Rattle.fish_lanes.specs.within.Blocks.{IsShutOfLane}
 use Rattle.fish_lanes.specs.within.Course.{AllBack, AllRan, HasFoundEnd}
 use Rattle.fish_lanes.specs.Ending.{HasEnd}
@@ -20,12 +20,12 @@ use Rattle.fish_lanes.specs.Full.{AreFullLast}
 use Rattle.fish_lanes.specs.within.Full.{StopsFull}
 use Rattle.fish_lanes.specs.Gains.{WasShut}
 use Rattle.fish_lanes.specs.Outcome.{HandsBack, IsCutShort, IsFullIn, LanesSayPlans, SayFullLast, SaysShutBy}
-use Rattle.fish_lanes.specs.Plans.{AreSoPlans, KnowsRows}
+use Rattle.fish_lanes.specs.Plans.{PlansHold, KnowsRows}
 use Rattle.fish_lanes.specs.Registering.{KnowsRegistry, Registry, registry_of}
 use Rattle.fish_lanes.specs.Sizes.{NamesOneClaim, SaysClaim, claim_of}
 use Rattle.fish_lanes.specs.declared.block.BlockEnd.{BlockEnd}
 use Rattle.fish_lanes.specs.declared.lane.Lane.{Lane}
-use Rattle.fish_lanes.specs.declared.lane.Seated.{Seated}
+use Rattle.fish_lanes.specs.declared.lane.LanePass.{LanePass}
 use Rattle.fish_lanes.specs.declared.work.LaneFault.TheVariants as cause
 use Rattle.fish_lanes.specs.declared.work.Work.{Work}
 use Rattle.fish_registry.specs.Knowing.{Knows}
@@ -60,15 +60,15 @@ module _ {Past : Whole → Type 0} {log : Log} {v w u t : View} {r q kept : Regi
 
   -- what the items say of plans, by the rows that the registrar keeps
   first_plans : (from : ℕ) → HasEnd v from
-      → AreSoPlans (KnowsRows t) (registry_of v r) kept.catalog from first'.works first'.items
+      → PlansHold (KnowsRows t) (registry_of v r) kept.catalog from first'.works first'.items
   first_plans from end =
       let low = end.settled in
-      let same : run.main.learned.settled ≡ v.learned.settled = ap (λ (z : Learned). z.settled) run.gives.learned in
+      let same : run.control.learned.settled ≡ v.learned.settled = ap (λ (z : Learned). z.settled) run.gives.learned in
       let said = run.first_did.controlled.plans kept.catalog from
       (bounds_before w t kept.catalog end_learns (bounds_in t kept stands knows)) (omega arith) in
-      subst (λ (z : Registry). AreSoPlans (KnowsRows t) z kept.catalog from first'.works first'.items)
-      (given_registry v run.main r run.gives.learned)
-      (plans_later w t (registry_of run.main r) kept.catalog from first'.works first'.items end_learns said)
+      subst (λ (z : Registry). PlansHold (KnowsRows t) z kept.catalog from first'.works first'.items)
+      (given_registry v run.control r run.gives.learned)
+      (plans_later w t (registry_of run.control r) kept.catalog from first'.works first'.items end_learns said)
 
   others_plans : Knows v r → KnowsRegistry v (registry_of v r) → (from : ℕ) → HasEnd v from
       → LanesSayPlans (KnowsRows t) (registry_of v r) kept.catalog from after
@@ -89,22 +89,22 @@ module _ {Past : Whole → Type 0} {log : Log} {v w u t : View} {r q kept : Regi
       let said = p.run_of.plans (registry_of v r) (read_later v (view start.pass) r.catalog learns (bounds_read v r before_))
       (registry_later v (view start.pass) (registry_of v r) learns registry) kept.catalog from
       (bounds_before (view e.pass) t kept.catalog back (bounds_in t kept stands knows)) (omega arith) in
-      subst (λ (q : List Work × List Item). AreSoPlans (KnowsRows t) (registry_of v r) kept.catalog from q.0 q.1)
+      subst (λ (q : List Work × List Item). PlansHold (KnowsRows t) (registry_of v r) kept.catalog from q.0 q.1)
       (λ j. (sym w'.works j, sym w'.items j))
       (plans_later (view e.pass) t (registry_of v r) kept.catalog from z.0.works z.0.items back said)
 
   pub all_plans : Knows v r → KnowsRegistry v (registry_of v r) → (from : ℕ) → HasEnd v from
       → LanesSayPlans (KnowsRows t) (registry_of v r) kept.catalog from (first' ∷ after)
   all_plans before_ registry from end =
-      at_places (λ i x. AreSoPlans (KnowsRows t) (registry_of v r) kept.catalog from x.works x.items) first' after (first_plans from end)
+      at_places (λ i x. PlansHold (KnowsRows t) (registry_of v r) kept.catalog from x.works x.items) first' after (first_plans from end)
       (others_plans before_ registry from end)
 
   -- what shuts the pass did so before, or an item tells of it
-  shut_by : At (λ i x. x.fault ≡ cause.None) (first' ∷ after) → (c : Shut) → t.shut ≡ Some c
+  shut_by : EachLane (λ i x. x.fault ≡ cause.None) (first' ∷ after) → (c : Shut) → t.shut ≡ Some c
       → (v.shut ≡ Some c) ⊎ IsFullIn (first' ∷ after) c.line c.lines c.end
   shut_by nones c e =
       ⊎_elim (λ (k : w.shut ≡ Some c).
-      ⊎_elim (λ (same : run.main.shut ≡ Some c). inl (sym run.gives.shut ∙ same))
+      ⊎_elim (λ (same : run.control.shut ≡ Some c). inl (sym run.gives.shut ∙ same))
       (λ (k : SaysClaim c first'.items). inr (record {
         at = 0;
         lane = first';
@@ -136,7 +136,7 @@ module _ {Past : Whole → Type 0} {log : Log} {v w u t : View} {r q kept : Regi
             among = subst (Among (item.IngestFull k.0 c.line c.lines c.end k.1 k.2)) (sym w'.items) k.3;
           }))
           (p.run_of.run.shuts (sym w'.fault ∙ nones (suc q.position) y.0 y.1) c
-          (subst (λ (z : Seated). (view z.pass).shut ≡ Some c) same q.shut_is))
+          (subst (λ (z : LanePass). (view z.pass).shut ≡ Some c) same q.shut_is))
 
   -- where an item tells of a claim, the pass is shut
   full_shuts : (c : Shut) (at : ℕ) (x : Lane) → slice_get (first' ∷ after) at ≡ Some x → SaysClaim c x.items → WasShut t
@@ -213,8 +213,8 @@ module _ {Past : Whole → Type 0} {log : Log} {v w u t : View} {r q kept : Regi
 
   -- each that hands statements back does so since it found the log full
   pub all_left : HandsBack v t (first' ∷ after)
-  all_left zero x at some = cut_short run.main w zero x at run.gives.shut
-      (subst (StopsFull run.main w) (some_once first' x at) run.first_did.stops) some
+  all_left zero x at some = cut_short run.control w zero x at run.gives.shut
+      (subst (StopsFull run.control w) (some_once first' x at) run.first_did.stops) some
   all_left (suc i) y at some = (let s = stops_at i y at in cut_short s.0 s.1 (suc i) y at s.2 s.3 some)
 
   -- and none but its last item tells so

@@ -44,7 +44,7 @@ ends_behind t to from s h less =
     let within = r.settling.within in
     let tail = h.tail in
     let rests : Rests w.count w.line (Some (record { number = high tail.0; line = low tail.0 })) =
-    subst (Rests w.count w.line) tail.1 (r.tails s.seat t s.at h.alone.main h.alone.all) in
+    subst (Rests w.count w.line) tail.1 (r.tails s.seat t s.at h.alone.control h.alone.all) in
     let count : high tail.0 ≡ w.count = rests.0 in
     let same : high tail.0 ≡ h.count = tail.2 in
     let above = h.above in
@@ -65,7 +65,7 @@ counted_from v from h =
     ⊎_elim (λ (e : from ≡ h.count). omega arith)
     (λ (n : (from < h.count) × KnowsMark v from). let b = n.0 in omega arith) h.ends
 
--- at most 16 numbers are claimed behind the end
+-- at most 16 numbers are claimed past the end
 pub few_behind : (t : View) (to : ℕ) → Stands t → HasEnd t to → t.learned.count ≤ to + 16
 few_behind t to s h =
     let w : World = s.moment in
@@ -73,7 +73,7 @@ few_behind t to s h =
     let counted = (r.facts s.seat t s.at).counted in
     let tail = h.tail in
     let rests : Rests w.count w.line (Some (record { number = high tail.0; line = low tail.0 })) =
-    subst (Rests w.count w.line) tail.1 (r.tails s.seat t s.at h.alone.main h.alone.all) in
+    subst (Rests w.count w.line) tail.1 (r.tails s.seat t s.at h.alone.control h.alone.all) in
     let count : high tail.0 ≡ w.count = rests.0 in
     let same : high tail.0 ≡ h.count = tail.2 in
     ⊎_elim (λ (e : to ≡ h.count). omega arith)

@@ -1,9 +1,9 @@
--- The looks at lanes that items of pending registrations have behind them, with one step or one item more.
+-- The looks at lanes that items of pending registrations have after them, with one step or one item more.
 use Rattle.std.proofs.Common.{◌≡◌, ◌⊎◌, ℕ, List, [], ◌∷◌, ◌++◌, refl, sym, ap, ◌∙◌, subst, inl, inr, ⊎_elim, Option, None, Some}
 use Rattle.fish_lanes.proofs.Registrations.{after_more}
 use Rattle.fish_lanes.specs.within.Controlling.{HasLooked, HasPolled, RollsBy}
 use Rattle.fish_lanes.specs.Pending.{AreFound, HasFoundOlder, IsFoundBy}
-use Rattle.fish_lanes.specs.Registering.{IsSo, Registry, after, after_all, registry_of, waiting_id}
+use Rattle.fish_lanes.specs.Registering.{ItemFits, Registry, after, after_all, registry_of, waiting_id}
 use Rattle.fish_registry.specs.declared.registrar.Registrar.{Registrar}
 use Rattle.fish_registry.specs.declared.registrar.Waiting.{Waiting}
 use Rattle.fish_report.specs.declared.item.DeregisterCause.TheVariants as deregister
@@ -52,9 +52,9 @@ none_there : (w : Option Waiting) → waiting_id w ≡ None → w ≡ None
 none_there None h = refl
 none_there (Some w) h = absurd (let bad : Some w.id ≡ None = h in cc)
 
--- a statement's item has behind it what the look in front of the statement found, and what the statement itself did
+-- a statement's item has after it what the look before the statement found, and what the statement itself did
 found_by : (a : Clock) (u t : View) (s : Registrar) (low high : ℕ) (x : Item) → IsLater a u.clock → IsLater u.clock t.clock
-    → (s.waiting ≡ None) ⊎ HasFoundOlder a u.clock u.learned.version → RollsBy u t x → IsSo low high (registry_of u s) x
+    → (s.waiting ≡ None) ⊎ HasFoundOlder a u.clock u.learned.version → RollsBy u t x → ItemFits low high (registry_of u s) x
     → IsFoundBy a t.clock (registry_of u s) x
 found_by a u t s low high (item.Rolling name id def lane older) p q looked rolls so =
     loaded_within a u.clock t.clock t.clock _ _ p rolls (later_self t.clock)
@@ -66,7 +66,7 @@ found_by a u t s low high (item.DeregisterRefused name (deregister.Rolling id)) 
     (λ (h : HasFoundOlder a u.clock u.learned.version). older_within a a u.clock t.clock u.learned.version (later_self a) h q) looked
 found_by a u t s low high x p q looked rolls so = tt
 
--- ---- a look at the lanes, and a statement behind it
+-- ---- a look at the lanes, and a statement after it
 
 module _ (c : Clock) (r : Registry) (v u : View) (q s : Registrar) (items items' : List Item)
     (h : AreFound c v.clock r items) (is : registry_of v q ≡ after_all r items) (on : IsLater v.clock u.clock)
@@ -81,7 +81,7 @@ module _ (c : Clock) (r : Registry) (v u : View) (q s : Registrar) (items items'
           (found_more c v.clock u.clock r items (item.Bound p.0 p.1) h on tt)
 
   pub found_next : (t : View) (low high : ℕ) (x : Item) → HasLooked v u s → IsLater u.clock t.clock → RollsBy u t x
-      → IsSo low high (registry_of u s) x → AreFound c t.clock r (items' ++ x ∷ [])
+      → ItemFits low high (registry_of u s) x → AreFound c t.clock r (items' ++ x ∷ [])
   found_next t low high x looked later rolls so = by polled
     where
       by : HasPolled v q u s items items' → AreFound c t.clock r (items' ++ x ∷ [])

@@ -9,7 +9,7 @@ use Rattle.fish_epoch.specs.declared.definitions.Known.{Known}
 use Rattle.fish_lanes.proofs.Covering.{are_listed, gap_so, plan_so}
 use Rattle.fish_lanes.proofs.Lists.{filter_first, filter_skip}
 use Rattle.fish_lanes.specs.within.Doing.{IsFit, IsRefusedAt}
-use Rattle.fish_lanes.specs.Plans.{AreSoPlans, IsNamedAt, SaysFirstPlans, SaysPlans, SaysPlansOf}
+use Rattle.fish_lanes.specs.Plans.{PlansHold, IsNamedAt, SaysFirstPlans, SaysPlans, SaysPlansOf}
 use Rattle.fish_lanes.specs.within.Plans.{AreBoundsIn, AreReadBounds}
 use Rattle.fish_lanes.specs.Plans.{KnowsRows, SaysUncovered, works_behind}
 use Rattle.fish_lanes.specs.Registering.{KnowsRegistry, Registry, after, after_all}
@@ -118,14 +118,14 @@ module _ {A B : ℕ → List Listed → Type 0} (so : (n : ℕ) (ls : List Liste
 
   -- by all items
   pub plans_so : (r : Registry) (rows : List CatRow) (start : ℕ) (works : List Work) (items : List Item)
-      → AreSoPlans A r rows start works items → AreSoPlans B r rows start works items
+      → PlansHold A r rows start works items → PlansHold B r rows start works items
   plans_so r rows start works [] h = tt
   plans_so r rows start works (x ∷ items) h =
       (first_so r.rows rows start works x h.0, plans_so (after r x) rows start (works_behind x works) items h.1)
 
 -- by the words of a pass that knows more they are the same
 pub plans_later : (u t : View) (r : Registry) (rows : List CatRow) (start : ℕ) (works : List Work) (items : List Item) → Learns u t
-    → AreSoPlans (KnowsRows u) r rows start works items → AreSoPlans (KnowsRows t) r rows start works items
+    → PlansHold (KnowsRows u) r rows start works items → PlansHold (KnowsRows t) r rows start works items
 plans_later u t r rows start works items learns = plans_so (λ n ls. knows_later u t n ls learns) r rows start works items
 
 -- ---- one item more
@@ -149,36 +149,36 @@ module _ (A : ℕ → List Listed → Type 0) where
   first_other told rows start (work.Ingest form begin name file ∷ works) x e = tt
   first_other told rows start (work.Checkpoint ∷ works) x e = tt
 
-  -- what is so of the items behind one is so of all, where more statements follow
+  -- what is so of the items after one is so of all, where more statements follow
   behind_one : (r : Registry) (rows : List CatRow) (start : ℕ) (later : List Work) (y : Item) (items longer : List Item)
-      → ((works : List Work) → length (answers items) ≡ length works → AreSoPlans A (after r y) rows start works items
-      → AreSoPlans A (after r y) rows start (works ++ later) longer)
-      → (works : List Work) → length (answers (y ∷ items)) ≡ length works → AreSoPlans A r rows start works (y ∷ items)
-      → AreSoPlans A r rows start (works ++ later) (y ∷ longer)
+      → ((works : List Work) → length (answers items) ≡ length works → PlansHold A (after r y) rows start works items
+      → PlansHold A (after r y) rows start (works ++ later) longer)
+      → (works : List Work) → length (answers (y ∷ items)) ≡ length works → PlansHold A r rows start works (y ∷ items)
+      → PlansHold A r rows start (works ++ later) (y ∷ longer)
   behind_one r rows start later y items longer rest works size h = by (is_answer y) refl works size h
     where
       by : (b : Bool) → is_answer y ≡ b → (works : List Work) → length (answers (y ∷ items)) ≡ length works
-          → AreSoPlans A r rows start works (y ∷ items) → AreSoPlans A r rows start (works ++ later) (y ∷ longer)
+          → PlansHold A r rows start works (y ∷ items) → PlansHold A r rows start (works ++ later) (y ∷ longer)
       by true e [] size h = (let z = ap length (filter_first is_answer y items e) in absurd (omega arith))
       by true e (w ∷ works) size h =
           let z = ap length (filter_first is_answer y items e) in (
             h.0,
-            subst (λ (b : Bool). AreSoPlans A (after r y) rows start (cond b (works ++ later) (w ∷ (works ++ later))) longer) (sym e)
+            subst (λ (b : Bool). PlansHold A (after r y) rows start (cond b (works ++ later) (w ∷ (works ++ later))) longer) (sym e)
                 (rest works (omega arith)
-                (subst (λ (b : Bool). AreSoPlans A (after r y) rows start (cond b works (w ∷ works)) items) e h.1)),
+                (subst (λ (b : Bool). PlansHold A (after r y) rows start (cond b works (w ∷ works)) items) e h.1)),
           )
       by false e works size h =
           let z = ap length (filter_skip is_answer y items e) in (
             first_other r.rows rows start (works ++ later) y e,
-            subst (λ (b : Bool). AreSoPlans A (after r y) rows start (cond b (drop 1 (works ++ later)) (works ++ later)) longer) (sym e)
+            subst (λ (b : Bool). PlansHold A (after r y) rows start (cond b (drop 1 (works ++ later)) (works ++ later)) longer) (sym e)
                 (rest works (omega arith)
-                (subst (λ (b : Bool). AreSoPlans A (after r y) rows start (cond b (drop 1 works) works) items) e h.1)),
+                (subst (λ (b : Bool). PlansHold A (after r y) rows start (cond b (drop 1 works) works) items) e h.1)),
           )
 
-  -- behind the items that answer some statements stands one of those that follow
+  -- after the items that answer some statements stands one of those that follow
   pub plans_more : (r : Registry) (rows : List CatRow) (start : ℕ) (works later : List Work) (items : List Item) (x : Item)
-      → length (answers items) ≡ length works → AreSoPlans A r rows start works items
-      → SaysFirstPlans A (after_all r items).rows rows start later x → AreSoPlans A r rows start (works ++ later) (items ++ x ∷ [])
+      → length (answers items) ≡ length works → PlansHold A r rows start works items
+      → SaysFirstPlans A (after_all r items).rows rows start later x → PlansHold A r rows start (works ++ later) (items ++ x ∷ [])
   plans_more r rows start [] later [] x size h one = (one, tt)
   plans_more r rows start (w ∷ works) later [] x size h one = absurd (omega arith)
   plans_more r rows start works later (y ∷ items) x size h one =
@@ -187,8 +187,8 @@ module _ (A : ℕ → List Listed → Type 0) where
 
   -- or nothing
   pub plans_longer : (r : Registry) (rows : List CatRow) (start : ℕ) (works later : List Work) (items : List Item)
-      → length (answers items) ≡ length works → AreSoPlans A r rows start works items
-      → AreSoPlans A r rows start (works ++ later) items
+      → length (answers items) ≡ length works → PlansHold A r rows start works items
+      → PlansHold A r rows start (works ++ later) items
   plans_longer r rows start works later [] size h = tt
   plans_longer r rows start works later (y ∷ items) size h =
       behind_one r rows start later y items items
@@ -196,8 +196,8 @@ module _ (A : ℕ → List Listed → Type 0) where
 
   -- an item more that answers nothing
   pub plans_beside : (r : Registry) (rows : List CatRow) (start : ℕ) (works : List Work) (items : List Item) (x : Item)
-      → length (answers items) ≡ length works → AreSoPlans A r rows start works items
-      → AreSoPlans A r rows start works (items ++ x ∷ [])
+      → length (answers items) ≡ length works → PlansHold A r rows start works items
+      → PlansHold A r rows start works (items ++ x ∷ [])
   plans_beside r rows start works items x size h =
-      subst (λ (z : List Work). AreSoPlans A r rows start z (items ++ x ∷ [])) (append-nil works)
+      subst (λ (z : List Work). PlansHold A r rows start z (items ++ x ∷ [])) (append-nil works)
       (plans_more r rows start works [] items x size h tt)

@@ -67,7 +67,7 @@ gains_changes v u outside idle h = record {
 
 -- what a registrar keeps is still known where the definitions are the same
 pub knows_kept : (v u : View) (r : Registrar) → u.lane ≡ v.lane → Learns v u → KeepsRegistry v u → Knows v r → Knows u r
-knows_kept v u r lane learns keeps h = knows_on v u r lane keeps.rows keeps.main_words keeps.round learns h
+knows_kept v u r lane learns keeps h = knows_on v u r lane keeps.rows keeps.control_words keeps.round learns h
 
 -- definitions that are known at a version stay known
 pub registry_later : (v u : View) (r : Registry) → Learns v u → KnowsRegistry v r → KnowsRegistry u r
@@ -78,12 +78,12 @@ pub all_known : (t : View) (known : Known) → Stands t → AreRead t known → 
 all_known t known s read version r h =
     let w = s.moment in
     let stays = s.rule.registry.each s.seat t s.at in
-    let main = stays.main h.main in
-    let same : version_of known ≡ version_in w.registry = version ∙ main.version in
+    let control = stays.control h.control in
+    let same : version_of known ≡ version_in w.registry = version ∙ control.version in
     let found : definitions_at t.about w.registry (version_of known) ≡ rows_of known =
     read.rows.are w.registry (has_read t.about w.registry t.learned.words stays.read) in
     let rows : rows_of known ≡ map listed_of r.catalog =
-    sym found ∙ ap (definitions_at t.about w.registry) same ∙ main.definitions ∙ sym h.listed in
+    sym found ∙ ap (definitions_at t.about w.registry) same ∙ control.definitions ∙ sym h.listed in
     subst (λ (z : ℕ × List Listed). KnowsDefinitions t.about t.learned z.0 z.1) (λ i. (version i, rows i)) read.rows
 
 -- ---- the registry
@@ -91,7 +91,7 @@ all_known t known s read version r h =
 -- the definitions are listed the same
 module _ (u t : View) (r s : Registrar) (su : Stands u) (st : Stands t) (learns : Learns u t) (ku : Knows u r) (kt : Knows t s) where
   version_kept : map listed_of s.catalog ≡ map listed_of r.catalog → t.learned.version ≡ u.learned.version
-  version_kept listed = same_version u t su st ku.main kt.main learns.about (sym kt.listed ∙ listed ∙ ku.listed)
+  version_kept listed = same_version u t su st ku.control kt.control learns.about (sym kt.listed ∙ listed ∙ ku.listed)
 
   -- the rows and what waits are the same
   pub registry_same : (rows : List CatRow) → s.catalog ≡ rows → rows ≡ r.catalog → waiting_id s.waiting ≡ waiting_id r.waiting
@@ -127,7 +127,7 @@ begun_is u t r s name def id h =
     h.rows ∙ ap (λ (n : ℕ). r.catalog ++ new_row n name text ∷ []) (sym h.is_id) in
     λ i. record { rows = rows i; waiting = waiting_id (h.waits i); version = version i }
 
--- the registry behind one item more
+-- the registry after one item more
 pub after_more : (r : Registry) (items : List Item) (x : Item) → after_all r (items ++ x ∷ []) ≡ after (after_all r items) x
 after_more r [] x = refl
 after_more r (y ∷ items) x = after_more (after r y) items x
@@ -137,7 +137,7 @@ pub waiting_made : (v : View) (r : Registrar) (w : Waiting) → Stands v → Kno
 waiting_made v r w s k is =
     let m = s.moment in
     let stays = s.rule.registry.each s.seat v s.at in
-    let main = (stays.main k.main).version in
+    let control = (stays.control k.control).version in
     let a : IsAwaited v w = subst (Awaits v) is k.awaits in
     let round : IsRound v.about m.count m.registry s.rule.state s.rule.version_of v.lane a.round =
     subst (Waits v.about m.count m.registry s.rule.state s.rule.version_of v.lane) a.waits stays.waits in

@@ -1,4 +1,4 @@
--- Rows behind other rows.
+-- Rows after other rows.
 use Rattle.std.proofs.Common.{◌≡◌, ℕ, ◌<◌, ◌≤◌, suc, List, [], ◌∷◌, ◌++◌, refl, sym, ap, inl, inr, ◌⊎◌, ⊎_elim, arith}
 use Rattle.fish_rule.proofs.laws.Alone.{knows_as_later}
 use Rattle.fish_lanes.specs.within.Gains.{AreKnown}
@@ -19,7 +19,7 @@ pub ascends_le : (from to : ℕ) (rows : List LaneRow) → Ascends from rows to 
 ascends_le from to [] h = h
 ascends_le from to (r ∷ rows) h = (let a = h.0 in let b = ascends_le (suc r.number) to rows h.1 in omega arith)
 
--- and others behind them ascend with them
+-- and others after them ascend with them
 pub ascends_append : (from mid to : ℕ) (xs ys : List LaneRow) → Ascends from xs mid → Ascends mid ys to
     → Ascends from (xs ++ ys) to
 ascends_append from mid to [] ys h t = ascends_lower from mid to ys h t

@@ -68,7 +68,7 @@ pub loads_own : {E : Type 0} (v u : View) (value : Value) (old new : ℕ) (r : R
 loads_own v u value old new (Ok a) h = record { most = h.most; allowed = h.allowed; few = h.rises.own }
 loads_own v u value old new (Err e) h = tt
 
--- behind the scan nothing more was loaded
+-- after the scan nothing more was loaded
 table_later : (v u t : View) (value : Value) (answer : Answer) → Learns u t → t.clock.loads ≡ u.clock.loads
     → LoadsInTable v u value answer → LoadsInTable v t value answer
 table_later v u t value answer after still h =
@@ -326,7 +326,7 @@ module _ (v u t : View) (rows : List CatRow) (end : ℕ) (learns : Learns u t) (
 -- ---- fewer pasts
 
 module _ (P Q : Whole → Type 0) (v u : View) (rows : List CatRow) (end : ℕ) (fewer : (past : Whole) → Q past → P past) where
-  -- what is told behind some pasts is told behind each of these
+  -- what is told after some pasts is told after each of these
   single_fewer : (w : Work) (x : Item) → SaysSingle P v u rows end w x → SaysSingle Q v u rows end w x
   single_fewer (work.Scan ask) x (inl h) = inl (record {
     answer = h.answer;
@@ -354,10 +354,10 @@ module _ (P Q : Whole → Type 0) (v u : View) (rows : List CatRow) (end : ℕ) 
 
 -- ---- open numbers
 
--- a pass that is alone is so behind a step on the definitions
+-- a pass that is alone is so after a step on the definitions
 pub alone_changes : (u p : View) → Changes u p → IsAlone u → IsAlone p
 alone_changes u p changes alone = record {
-  main = ap (λ (z : View). z.lane) changes.frame ∙ alone.main;
+  control = ap (λ (z : View). z.lane) changes.frame ∙ alone.control;
   all = ap (λ (z : View). z.out) changes.frame ∙ alone.all;
   idle = ap (λ (z : View). z.flight) changes.frame ∙ alone.idle;
 }
@@ -395,7 +395,7 @@ pub some_there : (works : List Work) (w : Work) (later : List Work) → ¬ (work
 some_there [] w later e = cc
 some_there (x ∷ works) w later e = cc
 
--- nothing stands in front of the only statement, which is the last
+-- nothing stands before the only statement, which is the last
 pub only_last : (works : List Work) (w : Work) (later : List Work) (one : Work) → works ++ w ∷ later ≡ one ∷ []
     → (works ≡ []) × (w ≡ one)
 only_last [] w later one e = (refl, cc)

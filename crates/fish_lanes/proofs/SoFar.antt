@@ -1,4 +1,4 @@
--- How far the statements of a lane behind the first are done: one more, none, a part of one, or all.
+-- How far the statements of a lane after the first are done: one more, none, a part of one, or all.
 use Rattle.std.proofs.Common.{◌≡◌, ◌≢◌, ℕ, ◌+◌, ◌<◌, ◌≤◌, List, [], ◌∷◌, ◌++◌, length, take, drop, get_or, refl, sym, ap, ◌∙◌, subst}
 use Rattle.std.proofs.Common.{Ok, Err, Result, inl, inr, arith, length-append, None}
 use Rattle.std.proofs.lemmas.List.{take_more}
@@ -44,13 +44,13 @@ use Rattle.fish_whole.specs.Whole.{Whole}
 
 -- ---- fewer pasts
 
--- the loads of an answer are few behind each of these
+-- the loads of an answer are few after each of these
 loads_fewer : (P Q : Whole → Type 0) (u t : View) (value : Value) (answer : Answer) → ((past : Whole) → Q past → P past)
     → LoadsWithin P u t value answer → LoadsWithin Q u t value answer
 loads_fewer P Q u t value answer fewer (inl one) = inl one
 loads_fewer P Q u t value answer fewer (inr each) = inr (λ past behind. each past (fewer past behind))
 
--- what fits behind some pasts fits behind each of these
+-- what fits after some pasts fits after each of these
 fit_fewer : (P Q : Whole → Type 0) (u t : View) (w : Work) (x : Item) → ((past : Whole) → Q past → P past) → IsFit P u t w x
     → IsFit Q u t w x
 fit_fewer P Q u t (work.Register name def) x fewer f = f
@@ -107,7 +107,7 @@ controlled_fewer P Q u r t s w x fewer h = record {
   does = h.does;
 }
 
--- so far as it is behind some pasts, it is behind each of these
+-- so far as it is after some pasts, it is after each of these
 pub far_fewer : (P Q : Whole → Type 0) (v u : View) (works : List Work) (items : List Item) → ((past : Whole) → Q past → P past)
     → IsSoFar P v u works items → IsSoFar Q v u works items
 far_fewer P Q v u works items fewer h = record {
@@ -195,7 +195,7 @@ module _ {Past : Whole → Type 0} (v u t : View) (works : List Work) (items : L
               (said_cut v u t (take (length items) works) items (w ∷ drop (length items + 1) works) h.said g.on.learns),
         )
 
--- what a statement without an item leaves, where it was stopped for want of memory
+-- what a statement without an item leaves, where it was stopped since memory ran out
 pub far_part : {Past : Whole → Type 0} (v u t : View) (works : List Work) (items : List Item) (w : Work) (why : LaneFault)
     → IsSoFar Past v u works items → length items < length works → w ≡ get_or works (length items) w → why ≢ fault.None
     → IsPart u t w → HasRun Past v t works items why × SayPlans v t works items
@@ -227,7 +227,7 @@ next_answers u t w old new (Ok done) n h =
 next_answers u t w old new (Err stop.Memory) n h = subst (AllOf IsAnswer) (sym n.0) h
 next_answers u t w old new (Err stop.Older) n h = subst (AllOf IsAnswer) (sym n.0) h
 
--- a lane stops so for want of memory alone
+-- a lane stops so where memory runs out, and only then
 pub stopped_short : (why : Stop) → IsShort (fault_at why)
 stopped_short stop.Memory = inr refl
 stopped_short stop.Older = inl refl

@@ -105,7 +105,7 @@ stored_none v form outs tally outside idle none = record {
   };
 }
 
--- the pass may start again behind them
+-- the pass may start again after them
 pub stored_starts : (v u : View) (form : Form) (outs behind : List (Option (List ℕ))) (tally : Tally) → CanStart v
     → IsStoredUpTo v u form outs behind tally → CanStart u
 stored_starts v u form outs behind tally can h = record {

@@ -30,7 +30,7 @@ use Rattle.fish_rule.specs.declared.view.View.{View}
 use Rattle.fish_value.specs.declared.field.Form.{Form}
 use Rattle.fish_whole.proofs.Entries.{entry_there, settled_there, sure_entry, sure_settled}
 use Rattle.fish_whole.proofs.Wholes.{may_hold}
-use Rattle.fish_whole.specs.Whole.{MayEnd, MayHold, Whole, Will}
+use Rattle.fish_whole.specs.Whole.{MayEnd, MayHold, Whole, WillHold}
 
 -- ---- the end of a table
 
@@ -87,7 +87,7 @@ own_before v to o s h m =
     let below = by.below in
     let t = h.tail in
     let rests : Rests w.count w.line (Some (record { number = high t.0; line = low t.0 })) =
-    subst (Rests w.count w.line) t.1 (r.tails s.seat v s.at h.alone.main h.alone.all) in
+    subst (Rests w.count w.line) t.1 (r.tails s.seat v s.at h.alone.control h.alone.all) in
     let count : high t.0 ≡ w.count = rests.0 in
     let same : high t.0 ≡ h.count = t.2 in
     let above = h.above in
@@ -108,7 +108,7 @@ entry_before v to n s h known =
     let below = claimed r n word.published in
     let t = h.tail in
     let rests : Rests w.count w.line (Some (record { number = high t.0; line = low t.0 })) =
-    subst (Rests w.count w.line) t.1 (r.tails s.seat v s.at h.alone.main h.alone.all) in
+    subst (Rests w.count w.line) t.1 (r.tails s.seat v s.at h.alone.control h.alone.all) in
     let count : high t.0 ≡ w.count = rests.0 in
     let same : high t.0 ≡ h.count = t.2 in
     let above = h.above in
@@ -144,7 +144,7 @@ stored_own past u to w m end n lane form payload above below is =
     let few : lane ≤ 16 = (let a = proper.lane in omega arith) in
     let by = stored_by c.rule n lane form payload (omega arith) e in
     let o : Own = record { lane = lane; number = n } in
-    let has : Has m.last.lane m.last.out lane = (some_, few, inr (m.main, λ x. elim (subst (Among lane) m.all x) [ ])) in
+    let has : Has m.last.lane m.last.out lane = (some_, few, inr (m.control, λ x. elim (subst (Among lane) m.all x) [ ])) in
     let own : Among o m.last.own = c.owns.complete o has by in
     let counted = end.counted in
     let ends = end_counted u to end in (
@@ -152,10 +152,10 @@ stored_own past u to w m end n lane form payload above below is =
       ⊎_elim (λ (x : Among o u.own). x) (λ (late : u.learned.count ≤ n). absurd (omega arith)) (m.later.gained o own),
     )
 
--- a record between the end before a block and the end behind it is of a lane of which the control pass has a record there
+-- a record between the end before a block and the end after it is of a lane of which the control pass has a record there
 pub will_own : (past : Whole) (u : View) (from to many : ℕ) → HasEnd u to → u.about.number ≤ from
     → ((o : Own) → Among o u.own → (o.number < from) ⊎ (o.lane ≤ many))
-    → Will past u (λ w. (n lane : ℕ) (form : Form) (payload : List ℕ) → from ≤ n → n < to
+    → WillHold past u (λ w. (n lane : ℕ) (form : Form) (payload : List ℕ) → from ≤ n → n < to
     → slice_get w.log n ≡ Some (entry.Stored lane form payload) → (1 ≤ lane) × (lane ≤ many))
 will_own past u from to many end based all w m n lane form payload above below is =
     let own = stored_own past u to w m end n lane form payload (omega arith) below is in (
@@ -182,12 +182,12 @@ ascends_before v lane from high_ to (r ∷ rows) s h le told up =
     let less = told_before v to r.number (entry_of lane r) s h told.0 in
     (up.0, ascends_before v lane (suc r.number) high_ to rows s h less told.1 up.1)
 
--- from the end before a block up to the end behind it they are the rows that the lane's pass gained, where the control
+-- from the end before a block up to the end after it they are the rows that the lane's pass gained, where the control
 -- pass has no others of the lane
 pub will_rows : (past : Whole) (u : View) (lane from to low_ high_ : ℕ) (rows : List LaneRow) → Stands u → HasEnd u to
     → u.about.number ≤ from → from ≤ to → from ≤ low_ → AreKnown u lane rows → Ascends low_ rows high_
     → ((o : Own) → Among o u.own → o.lane ≡ lane → (o.number < from) ⊎ HasNumber o.number rows)
-    → Will past u (λ w. rows_of_lane w.log from to lane ≡ rows)
+    → WillHold past u (λ w. rows_of_lane w.log from to lane ≡ rows)
 will_rows past u lane from to low_ high_ rows s end based within from_ told up all w m =
     let h = may_hold past u w m in
     let base = m.base in

@@ -94,7 +94,7 @@ module _ (k : Key) (count : ℕ) (g version_of : ℕ → ℕ) (h : Versions k co
   ids_of : (v : ℕ) → v ≤ version_in g → AreFrom 0 (definitions_at k g v)
   ids_of v within i l at = (let e = (h.listings v within).ids i l at in omega arith)
 
-  -- as many as versions were made behind the start's
+  -- as many as versions were made after the start's
   counts : (d : ℕ) → k.version + d ≤ version_in g
       → tally (definitions_at k g (k.version + d)) ≡ tally (map listed_of k.rows.value) + d
   counts zero within = ap tally (definitions_first k g (k.version + 0) (omega arith)) ∙ (omega arith)
@@ -110,11 +110,11 @@ module _ (k : Key) (count : ℕ) (g version_of : ℕ → ℕ) (h : Versions k co
 -- so the version that the control pass knows follows from the definitions that it knows
 version_law : (u : View) → Stands u → u.lane ≡ 1
     → u.learned.version + tally (map listed_of u.about.rows.value) ≡ u.about.version + tally u.rows
-version_law u s main =
+version_law u s control =
     let w = s.moment in
     let g = w.registry in
     let versions = s.rule.registry.versions in
-    let known = (s.rule.registry.each s.seat u s.at).main main in
+    let known = (s.rule.registry.each s.seat u s.at).control control in
     let from = versions.from in
     let version = known.version in
     let d : ℕ = version_in g - u.about.version in
@@ -127,9 +127,9 @@ version_law u s main =
 -- the same definitions are those of the same version
 pub same_version : (u t : View) → Stands u → Stands t → u.lane ≡ 1 → t.lane ≡ 1 → t.about ≡ u.about → t.rows ≡ u.rows
     → t.learned.version ≡ u.learned.version
-same_version u t su st main_u main_t about rows =
-    let a = version_law u su main_u in
-    let b = version_law t st main_t in
+same_version u t su st control_u control_t about rows =
+    let a = version_law u su control_u in
+    let b = version_law t st control_t in
     let first : t.about.version ≡ u.about.version = ap (λ (z : Key). z.version) about in
     let start : tally (map listed_of t.about.rows.value) ≡ tally (map listed_of u.about.rows.value) =
     ap (λ (z : Key). tally (map listed_of z.rows.value)) about in

@@ -9,7 +9,7 @@ use Rattle.fish_lanes.specs.declared.work.LaneFault.TheVariants as cause
 use Rattle.fish_registry.specs.declared.registrar.Registrar.{Registrar}
 use Rattle.fish_lanes.specs.Pending.{AreFound}
 use Rattle.fish_lanes.specs.Records.{rows_of_lane}
-use Rattle.fish_lanes.specs.Registering.{AreSo, IsAcceptable, KnowsEach, after_all, registry_of}
+use Rattle.fish_lanes.specs.Registering.{ItemsFit, IsAcceptable, KnowsEach, after_all, registry_of}
 use Rattle.fish_lanes.specs.Running.{IsEnded, IsShared}
 use Rattle.fish_lanes.specs.Spans.{IsAnswer, Span}
 use Rattle.fish_lanes.specs.Telling.{SaysLane}
@@ -26,12 +26,12 @@ use Rattle.fish_whole.specs.Whole.{Whole}
 -- ---- lists of lanes
 
 -- each lane meets P at its position
-abbrev pub At : (ℕ → Lane → Type 0) → List Lane → Type 0
-At P lanes = (i : ℕ) (x : Lane) → slice_get lanes i ≡ Some x → P i x
+abbrev pub EachLane : (ℕ → Lane → Type 0) → List Lane → Type 0
+EachLane P lanes = (i : ℕ) (x : Lane) → slice_get lanes i ≡ Some x → P i x
 
 -- the lanes at each position meet P, before and after
-abbrev pub Both : (ℕ → Lane → Lane → Type 0) → List Lane → List Lane → Type 0
-Both P old new = (i : ℕ) (x y : Lane) → slice_get old i ≡ Some x → slice_get new i ≡ Some y → P i x y
+abbrev pub EachLanePair : (ℕ → Lane → Lane → Type 0) → List Lane → List Lane → Type 0
+EachLanePair P old new = (i : ℕ) (x y : Lane) → slice_get old i ≡ Some x → slice_get new i ≡ Some y → P i x y
 
 -- ---- before a block
 
@@ -45,13 +45,13 @@ pub record IsNewLane (number : ℕ) (x : Lane) : Type 0 where
 pub record AreLanes (lanes : List Lane) : Type 0 where
   pub some : 1 ≤ length lanes
   pub few : length lanes ≤ 16
-  pub new : At (λ i x. IsNewLane (i + 1) x) lanes
+  pub new : EachLane (λ i x. IsNewLane (i + 1) x) lanes
   pub acceptable : (x : Lane) → slice_get lanes 0 ≡ Some x → All IsAcceptable x.works
   pub shared : (i : ℕ) (x : Lane) → 0 < i → slice_get lanes i ≡ Some x → All IsShared x.works
 
 -- ---- afterwards
 
--- the block lies between the log's end before it and behind it, and between the versions there; and what had shut the pass
+-- the block lies between the log's end before it and after it, and between the versions there; and what had shut the pass
 pub record IsBlockSpan (v t : View) (to : ℕ) (s : Span) : Type 0 where
   pub begins : HasEnd v s.from
   pub ends : s.to ≡ to
@@ -67,7 +67,7 @@ StoresByLanes s log many = (n lane : ℕ) (form : Form) (payload : List ℕ) →
 -- what a block tells of the whole log: each lane's items, of its records between the two ends; there no other lane has stored any; and
 -- the log goes up to the block's end
 pub record SaysBlock (w : Whole) (s : Span) (lanes : List Lane) : Type 0 where
-  pub each : At (λ i x. SaysLane w s (rows_of_lane w.log s.from s.to (i + 1)) x.works x.items) lanes
+  pub each : EachLane (λ i x. SaysLane w s (rows_of_lane w.log s.from s.to (i + 1)) x.works x.items) lanes
   pub own : StoresByLanes s w.log (length lanes)
   pub within : s.to ≤ length w.log
 
@@ -75,15 +75,15 @@ pub record SaysBlock (w : Whole) (s : Span) (lanes : List Lane) : Type 0 where
 abbrev pub control_items : Lane → BlockEnd → List Item
 control_items x end = x.items ++ bound_items end.bound
 
--- its items are so where they stand, and the definitions that they tell are those of the words; of each that tells of a registration which
+-- its items fit the registry where they stand, and the definitions that they tell are those of the words; of each that tells of a registration which
 -- waits, the load that found the lane for which it does was made in the block; unless the first lane stopped at a fault, the definitions
--- behind the block are those that its items tell; and none waits for its boundary
+-- after the block are those that its items tell; and none waits for its boundary
 pub record HasRegistered (v t : View) (r s : Registrar) (x : Lane) (end : BlockEnd) : Type 0 where
   pub found : AreFound v.clock t.clock (registry_of v r) x.items
   pub known : KnowsEach t (registry_of v r) x.items
-  pub so : (k : Span) → IsBlockSpan v t end.to k → AreSo k.from (k.to + 16) (registry_of v r) x.items
+  pub so : (k : Span) → IsBlockSpan v t end.to k → ItemsFit k.from (k.to + 16) (registry_of v r) x.items
   pub whole : x.fault ≡ cause.None → (k : Span) → IsBlockSpan v t end.to k
-      → AreSo k.from (k.to + 16) (registry_of v r) (control_items x end)
+      → ItemsFit k.from (k.to + 16) (registry_of v r) (control_items x end)
   pub is : x.fault ≡ cause.None → registry_of t s ≡ after_all (registry_of v r) (control_items x end)
   pub each : x.fault ≡ cause.None → KnowsEach t (registry_of v r) (control_items x end)
   pub settled : s.waiting ≡ None
@@ -93,17 +93,17 @@ abbrev pub IsMarkItem : View → Item → Type 0
 IsMarkItem u x = (file : List ℕ) (line lines end stored refused : ℕ) → x ≡ item.IngestFull file line lines end stored refused
     → Always u (IsMarkAt line lines) × (end ≡ u.about.end)
 
--- the statements of the lane at a position have items, but for those behind a fault, and only the first lane tells besides where an index
+-- the statements of the lane at a position have items, but for those after a fault, and only the first lane tells besides where an index
 -- begins
 pub record IsEndedLane (position : ℕ) (x : Lane) : Type 0 where
   pub ended : IsEnded x.works x.items x.fault
   pub answers : 0 < position → AllOf IsAnswer x.items
 
 abbrev pub AreEnded : List Lane → Type 0
-AreEnded lanes = At IsEndedLane lanes
+AreEnded lanes = EachLane IsEndedLane lanes
 
 abbrev pub NameMarks : View → List Lane → Type 0
-NameMarks u lanes = At (λ i x. AllOf (IsMarkItem u) x.items) lanes
+NameMarks u lanes = EachLane (λ i x. AllOf (IsMarkItem u) x.items) lanes
 
 -- the lane keeps its number, and its statements but for the last ones, which it hands back
 pub record IsKept (x y : Lane) : Type 0 where
@@ -111,4 +111,4 @@ pub record IsKept (x y : Lane) : Type 0 where
   pub works : x.works ≡ y.works ++ y.left
 
 abbrev pub AreKept : List Lane → List Lane → Type 0
-AreKept old new = Both (λ i x y. IsKept x y) old new
+AreKept old new = EachLanePair (λ i x y. IsKept x y) old new

@@ -1,7 +1,7 @@
 -- What a block leaves: the store, its lanes, and what their items say. It was run from a store s over a disk, and a
 -- store t and a disk' are there after it; Past is so of what stands before the table.
 use Rattle.std.specs.Prelude.{ℕ, ◌≡◌, ◌≤◌, List, Option, Some, length, slice_get}
-use Rattle.fish_lanes.specs.Blocks.{At, AreEnded, AreKept, HasRegistered, IsBlockSpan, NameMarks, SaysBlock}
+use Rattle.fish_lanes.specs.Blocks.{EachLane, AreEnded, AreKept, HasRegistered, IsBlockSpan, NameMarks, SaysBlock}
 use Rattle.fish_lanes.specs.Controlling.{CanControl, IsCommitted}
 use Rattle.fish_lanes.specs.Ending.{HasEnd}
 use Rattle.fish_lanes.specs.Gains.{WasShut}
@@ -21,7 +21,7 @@ use Rattle.fish_scan.specs.Colder.{IsBelow}
 use Rattle.fish_store.specs.Points.{point_at}
 use Rattle.fish_store.specs.Sound.{GoesOnHere, MayGoOn}
 use Rattle.fish_store.specs.declared.store.Store.{Store}
-use Rattle.fish_whole.specs.Whole.{Later, Whole, Will}
+use Rattle.fish_whole.specs.Whole.{Later, Whole, WillHold}
 
 -- its log is the same one, and ends where the block does; at each moment since, a crash left a part of it that has the
 -- last commit's entries; a checkpoint may follow, unless the first lane met a fault of the disk; and what that lane
@@ -49,7 +49,7 @@ pub record LeavesLanes (Past : Whole → Type 0) (low high : ℕ) (v u : View) (
   pub kept : AreKept old new
   pub vacant : AreVacant old → AreVacant new
   pub ended : AreEnded new
-  pub stops : At (λ i x. Stops Past low high x) new
+  pub stops : EachLane (λ i x. Stops Past low high x) new
   pub left : HandsBack v u new
   pub last : SayFullLast v new
   pub goes_on : WasShut v → LeaveNone new
@@ -61,7 +61,7 @@ pub record LeavesLanes (Past : Whole → Type 0) (low high : ℕ) (v u : View) (
 pub record ItemsHold
     (Past : Whole → Type 0) (v u : View) (r t : Registrar) (old new : List Lane) (end : BlockEnd) : Type 0 where
   pub sound : (past : Whole) → Past past → (s : Span) → IsBlockSpan v u end.to s → s.lanes ≡ length old
-      → (s.from ≤ s.to) × Will past u (λ w. SaysBlock w s new)
+      → (s.from ≤ s.to) × WillHold past u (λ w. SaysBlock w s new)
   pub registered : (x : Lane) → slice_get new 0 ≡ Some x → HasRegistered v u r t x end
   pub alone : SaysAlone Past v u r new
   pub plans : (from : ℕ) → HasEnd v from

@@ -2,14 +2,14 @@
 use Rattle.std.specs.Prelude.{ℕ, ◌≡◌, ◌≢◌, ◌≤◌, ◌⊎◌, List, [], ◌∷◌, slice_get, Some, None}
 use Rattle.fish_catalog.specs.declared.listed.Listed.{Listed}
 use Rattle.fish_catalog.specs.declared.row.CatRow.{CatRow}
-use Rattle.fish_lanes.specs.Blocks.{At}
+use Rattle.fish_lanes.specs.Blocks.{EachLane}
 use Rattle.fish_lanes.specs.Causes.{HasCause, IsUndamaged}
 use Rattle.fish_lanes.specs.Ending.{HasEnd}
 use Rattle.fish_lanes.specs.Full.{AreFullLast, EndsFull}
 use Rattle.fish_lanes.specs.Gains.{WasShut, KeepsShut}
 use Rattle.fish_lanes.specs.declared.work.LaneFault.TheVariants as cause
 use Rattle.fish_registry.specs.declared.registrar.Registrar.{Registrar}
-use Rattle.fish_lanes.specs.Plans.{AreSoPlans}
+use Rattle.fish_lanes.specs.Plans.{PlansHold}
 use Rattle.fish_lanes.specs.Registering.{Registry}
 use Rattle.fish_lanes.specs.Single.{NamesNone, SaysOnly}
 use Rattle.fish_lanes.specs.Sizes.{NamesOneClaim}
@@ -32,14 +32,14 @@ pub record IsFullIn (lanes : List Lane) (line lines end : ℕ) : Type 0 where
   pub refused : ℕ
   pub among : Among (item.IngestFull file line lines end stored refused) lane.items
 
--- what shuts the control pass behind the block did so before, or an item of a lane tells of it, unless one stopped at a fault; what shut
+-- what shuts the control pass after the block did so before, or an item of a lane tells of it, unless one stopped at a fault; what shut
 -- it before still does, and it is shut where an item was refused; and the items of a lane that were refused name one claim
 pub record SaysShutBy (v u : View) (lanes : List Lane) : Type 0 where
-  pub by : At (λ i x. x.fault ≡ cause.None) lanes → (c : Shut) → u.shut ≡ Some c
+  pub by : EachLane (λ i x. x.fault ≡ cause.None) lanes → (c : Shut) → u.shut ≡ Some c
       → (v.shut ≡ Some c) ⊎ IsFullIn lanes c.line c.lines c.end
   pub keeps : KeepsShut v u
   pub shuts : (line lines end : ℕ) → IsFullIn lanes line lines end → WasShut u
-  pub one : At (λ i x. NamesOneClaim v.shut x.items) lanes
+  pub one : EachLane (λ i x. NamesOneClaim v.shut x.items) lanes
 
 -- ---- statements that are handed back
 
@@ -53,22 +53,22 @@ pub record IsCutShort (v u : View) (x : Lane) : Type 0 where
 
 -- so did each lane that hands statements back
 abbrev pub HandsBack : View → View → List Lane → Type 0
-HandsBack v u lanes = At (λ i x. x.left ≢ [] → IsCutShort v u x) lanes
+HandsBack v u lanes = EachLane (λ i x. x.left ≢ [] → IsCutShort v u x) lanes
 
 -- where the log wasn't full before the block, none but the last item of a lane tells that it is
 abbrev pub SayFullLast : View → List Lane → Type 0
-SayFullLast v lanes = v.shut ≡ None → At (λ i x. AreFullLast x.items) lanes
+SayFullLast v lanes = v.shut ≡ None → EachLane (λ i x. AreFullLast x.items) lanes
 
 -- no lane hands any back
 abbrev pub LeaveNone : List Lane → Type 0
-LeaveNone lanes = At (λ i x. x.left ≡ []) lanes
+LeaveNone lanes = EachLane (λ i x. x.left ≡ []) lanes
 
 -- ---- plans
 
--- what the items of each lane say of plans, where the definitions in front of the block are these, the rows behind it those, and the
+-- what the items of each lane say of plans, where the definitions before the block are these, the rows after it those, and the
 -- log ended at a number before it
 abbrev pub LanesSayPlans : (ℕ → List Listed → Type 0) → Registry → List CatRow → ℕ → List Lane → Type 0
-LanesSayPlans Are r rows from lanes = At (λ i x. AreSoPlans Are r rows from x.works x.items) lanes
+LanesSayPlans Are r rows from lanes = EachLane (λ i x. PlansHold Are r rows from x.works x.items) lanes
 
 -- ---- one lane
 
@@ -86,7 +86,7 @@ SaysAlone Past v u r lanes = (x : Lane) → lanes ≡ x ∷ [] → SaysAloneBy P
 
 -- no lane has a pass
 abbrev pub AreVacant : List Lane → Type 0
-AreVacant lanes = At (λ i x. x.seat ≡ None) lanes
+AreVacant lanes = EachLane (λ i x. x.seat ≡ None) lanes
 
 -- ---- faults
 

@@ -1,4 +1,4 @@
--- What the items of the first lane that tell of a registration which waits have behind them: a look at a lane of their own, that found it
+-- What the items of the first lane that tell of a registration which waits have after them: a look at a lane of their own, that found it
 -- at an older version.
 use Rattle.std.specs.Prelude.{ℕ, ◌<◌, suc, List, [], ◌∷◌, ⊤}
 use Rattle.fish_lanes.specs.Registering.{Registry, after}
@@ -17,8 +17,8 @@ pub record HasFoundOlder (c d : Clock) (version : ℕ) : Type 0 where
   pub loaded : HasLoaded c d (Epoch lane) (suc older)
   pub less : older < version
 
--- what an item has behind it between two clocks, where the registry is this: the lane and version of a registration that waits are those
--- that were loaded, and a change that was refused since one waits comes behind such a load too
+-- what an item has after it between two clocks, where the registry is this: the lane and version of a registration that waits are those
+-- that were loaded, and a change that was refused since one waits comes after such a load too
 abbrev pub IsFoundBy : Clock → Clock → Registry → Item → Type 0
 IsFoundBy c d r (item.Rolling name id def lane older) = HasLoaded c d (Epoch lane) (suc older)
 IsFoundBy c d r (item.RegisterRefused name (register.Rolling id)) = HasFoundOlder c d r.version

@@ -21,9 +21,9 @@ use Rattle.fish_scan.specs.declared.ask.How.{How}
 use Rattle.fish_scan.specs.declared.ask.How.TheVariants as how
 use Rattle.fish_whole.specs.Whole.{Whole}
 
--- ---- numbers and pieces, by the rows that were told before, and by those that stand behind the block
+-- ---- numbers and pieces, by the rows that were told before, and by those that follows the block
 
--- the number is covered: a row has the text whose index begins at the number or before it, as was told before, and ends behind it,
+-- the number is covered: a row has the text whose index begins at the number or before it, as was told before, and ends after it,
 -- if it has ended when the block has
 pub record IsCoveredNumber (told rows : List CatRow) (text : List ℕ) (n : ℕ) : Type 0 where
   pub id : ℕ
@@ -39,7 +39,7 @@ pub record IsCoveredNumber (told rows : List CatRow) (text : List ℕ) (n : ℕ)
 abbrev pub HoldsNone : List CatRow → List CatRow → List ℕ → ℕ → ℕ → Type 0
 HoldsNone told rows text begin end = (n : ℕ) → begin ≤ n → n < end → ¬ IsCoveredNumber told rows text n
 
--- a piece by the index of a row lies behind where the index begins, and below where it ends, if that was told before
+-- a piece by the index of a row lies after where the index begins, and below where it ends, if that was told before
 pub record IsIndexPiece (told rows : List CatRow) (id begin end : ℕ) : Type 0 where
   pub row : CatRow
   pub there : slice_get rows id ≡ Some row
@@ -98,12 +98,12 @@ abbrev pub SaysFirstPlans : (ℕ → List Listed → Type 0) → List CatRow →
 SaysFirstPlans Are told rows from [] x = ⊤
 SaysFirstPlans Are told rows from (w ∷ works) x = SaysPlans Are told rows from w x
 
--- the statements behind the item: a boundary that was found later answers none
+-- the statements after the item: a boundary that was found later answers none
 abbrev pub works_behind : Item → List Work → List Work
 works_behind x works = cond (is_answer x) (drop 1 works) works
 
--- what the items of a lane say, where the definitions in front of them are these, and the rows behind the block those
-abbrev pub AreSoPlans : (ℕ → List Listed → Type 0) → Registry → List CatRow → ℕ → List Work → List Item → Type 0
-AreSoPlans Are r rows from works [] = ⊤
-AreSoPlans Are r rows from works (x ∷ items) = SaysFirstPlans Are r.rows rows from works x
-    × AreSoPlans Are (after r x) rows from (works_behind x works) items
+-- what the items of a lane say, where the definitions before them are these, and the rows after the block those
+abbrev pub PlansHold : (ℕ → List Listed → Type 0) → Registry → List CatRow → ℕ → List Work → List Item → Type 0
+PlansHold Are r rows from works [] = ⊤
+PlansHold Are r rows from works (x ∷ items) = SaysFirstPlans Are r.rows rows from works x
+    × PlansHold Are (after r x) rows from (works_behind x works) items

@@ -40,7 +40,7 @@ bound r id from = record { rows = with_from r.rows id from; waiting = None; vers
 abbrev pub ended : Registry → ℕ → ℕ → Registry
 ended r id to = record { rows = with_to r.rows id to; waiting = r.waiting; version = r.version + 1 }
 
--- the registry behind an item
+-- the registry after an item
 abbrev pub after : Registry → Item → Registry
 after r (item.Registered name id from def) = bound (begun r id name def) id from
 after r (item.Rolling name id def seat version) = begun r id name def
@@ -48,7 +48,7 @@ after r (item.Bound id from) = bound r id from
 after r (item.Deregistered name id to) = ended r id to
 after r x = r
 
--- and behind items
+-- and after items
 abbrev pub after_all : Registry → List Item → Registry
 after_all r [] = r
 after_all r (x ∷ items) = after_all (after r x) items
@@ -87,26 +87,26 @@ IsDeregisterCause r name (deregister.Rolling id) = r.waiting ≡ Some id
 IsDeregisterCause r name deregister.TooManyVersions = (r.waiting ≡ None) × (512 ≤ r.version)
 IsDeregisterCause r name deregister.UnknownName = MayChange r × (¬ HasActive r.rows name)
 
--- the item is so where the registry is this: boundaries lie between two numbers, a boundary that waits does so for a lane at an older
+-- the item fits the registry: boundaries lie between two numbers, a boundary that waits does so for a lane at an older
 -- version, and scans and plans are at the registry's version
-abbrev pub IsSo : ℕ → ℕ → Registry → Item → Type 0
-IsSo low high r (item.Registered name id from def) =
+abbrev pub ItemFits : ℕ → ℕ → Registry → Item → Type 0
+ItemFits low high r (item.Registered name id from def) =
     MayRegister r name × (id ≡ length r.rows) × IsBetween low high from
-IsSo low high r (item.Rolling name id def seat version) = MayRegister r name × (id ≡ length r.rows) × (version ≤ r.version)
-IsSo low high r (item.Bound id from) = (r.waiting ≡ Some id) × IsBetween low high from
-IsSo low high r (item.Deregistered name id to) = MayChange r × IsActiveNamed r.rows name id × IsBetween low high to
-IsSo low high r (item.RegisterRefused name cause) = IsRegisterCause r name cause
-IsSo low high r (item.DeregisterRefused name cause) = IsDeregisterCause r name cause
-IsSo low high r (item.Scanned name value from to opens rows version) = version ≡ r.version
-IsSo low high r (item.ScanRefused name version why) = version ≡ r.version
-IsSo low high r (item.Explained name value from to plan version) = version ≡ r.version
-IsSo low high r (item.ExplainRefused name version why) = version ≡ r.version
-IsSo low high r x = ⊤
+ItemFits low high r (item.Rolling name id def seat version) = MayRegister r name × (id ≡ length r.rows) × (version ≤ r.version)
+ItemFits low high r (item.Bound id from) = (r.waiting ≡ Some id) × IsBetween low high from
+ItemFits low high r (item.Deregistered name id to) = MayChange r × IsActiveNamed r.rows name id × IsBetween low high to
+ItemFits low high r (item.RegisterRefused name cause) = IsRegisterCause r name cause
+ItemFits low high r (item.DeregisterRefused name cause) = IsDeregisterCause r name cause
+ItemFits low high r (item.Scanned name value from to opens rows version) = version ≡ r.version
+ItemFits low high r (item.ScanRefused name version why) = version ≡ r.version
+ItemFits low high r (item.Explained name value from to plan version) = version ≡ r.version
+ItemFits low high r (item.ExplainRefused name version why) = version ≡ r.version
+ItemFits low high r x = ⊤
 
--- each item is so where it stands
-abbrev pub AreSo : ℕ → ℕ → Registry → List Item → Type 0
-AreSo low high r [] = ⊤
-AreSo low high r (x ∷ items) = IsSo low high r x × AreSo low high (after r x) items
+-- each item fits the registry where it stands
+abbrev pub ItemsFit : ℕ → ℕ → Registry → List Item → Type 0
+ItemsFit low high r [] = ⊤
+ItemsFit low high r (x ∷ items) = ItemFits low high r x × ItemsFit low high (after r x) items
 
 -- ---- versions
 
@@ -118,7 +118,7 @@ KnowsRegistry v r = KnowsDefinitions v.about v.learned r.version (map listed_of 
 abbrev pub HasRegistry : Whole → Registry → Type 0
 HasRegistry w r = w.rows r.version ≡ map listed_of r.rows
 
--- P holds of the registry in front of each item, and behind them all
+-- P holds of the registry before each item, and after them all
 abbrev pub InEach : (Registry → Type 0) → Registry → List Item → Type 0
 InEach P r [] = P r
 InEach P r (x ∷ items) = P r × InEach P (after r x) items

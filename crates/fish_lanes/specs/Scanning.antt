@@ -46,7 +46,7 @@ pub record IsAskedFor (ask : Ask) (n : ℕ) : Type 0 where
   pub below : (to : ℕ) → ask.to ≡ Some to → n < to
 
 -- the range begins where it was asked to, or where it ends; it ends where it was asked to, or before, and at most 16 numbers
--- behind the block
+-- after the block
 pub record IsAskedRange (s : Span) (ask : Ask) (from to : ℕ) : Type 0 where
   pub begins : from ≡ min (first_asked ask) to
   pub ends : (end : ℕ) → ask.to ≡ Some end → to ≤ end

@@ -109,7 +109,7 @@ IsBoundaryAt full end (item.Deregistered name id to) = full ≡ None → to ≡ 
 IsBoundaryAt full end x = ⊤
 
 -- the item of the statement, where the log ended at a number before the block, the rows were these, and the pass was the first before
--- it, and is the second behind it
+-- it, and is the second after it
 abbrev pub SaysSingle : (Whole → Type 0) → View → View → List CatRow → ℕ → Work → Item → Type 0
 SaysSingle Past v u rows end (work.Scan ask) x = IsScanWork Past v u rows end ask x ⊎ IsCauseSaid rows end ask item.ScanRefused x
 SaysSingle Past v u rows end (work.Explain ask) x = IsPlanSaid rows end ask x ⊎ IsCauseSaid rows end ask item.ExplainRefused x

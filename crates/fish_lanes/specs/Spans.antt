@@ -4,7 +4,7 @@ use Rattle.fish_report.specs.declared.item.Item.{Item}
 use Rattle.fish_report.specs.declared.item.Item.TheVariants as item
 use Rattle.fish_rule.specs.declared.view.Shut.{Shut}
 
--- the log's end before the block and behind it, the versions there, how many lanes the block has, and the claim that had found the log
+-- the log's end before the block and after it, the versions there, how many lanes the block has, and the claim that had found the log
 -- full before it
 pub record Span : Type 0 where
   pub from : ℕ
@@ -21,7 +21,7 @@ made_by (item.Rolling name id def seat version) = 1
 made_by (item.Deregistered name id to) = 1
 made_by x = 0
 
--- the block behind an item of the first lane: the versions that it made are there
+-- the block after an item of the first lane: the versions that it made are there
 abbrev pub behind : Item → Span → Span
 behind x s = record s { first = s.first + made_by x }
 

@@ -40,7 +40,7 @@ pub record AreCounted (outs : List (Option (List ℕ))) (stored many : ℕ) : Ty
   pub stored_is : stored ≡ length (accepted outs)
   pub refused_is : many ≡ refused outs
 
--- the same of those in front of a record
+-- the same of those before a record
 pub record AreCountedUpTo (outs : List (Option (List ℕ))) (stored many : ℕ) : Type 0 where
   pub front : List (Option (List ℕ))
   pub payload : List ℕ
@@ -58,7 +58,7 @@ pub record SaysStored (outs : List (Option (List ℕ))) (name file : List ℕ) (
   pub within : length file ≤ longest_file
   pub counted : AreCounted outs stored many
 
--- or only those in front of a record whose region ends past the log's end; its lines are those of that record, or those of the
+-- or only those before a record whose region ends past the log's end; its lines are those of that record, or those of the
 -- claim that found the log full before
 pub record SaysFull (w : Whole) (s : Span) (shown : List Shown) (form : Form) (outs : List (Option (List ℕ))) (name file : List ℕ)
     (x : Item) : Type 0 where
@@ -88,7 +88,7 @@ pub record SaysCheckpoint (s : Span) (before : List LaneRow) (shown : List Shown
   pub within : count ≤ s.to
   pub rises : (earlier : ℕ) → Among (settled earlier) shown → earlier ≤ count
 
--- what one item tells of its block, behind these rows of its lane and what was shown
+-- what one item tells of its block, after these rows of its lane and what was shown
 abbrev pub SaysItem : Whole → Span → List LaneRow → List Shown → Work → Item → Type 0
 SaysItem w s before shown (work.Register name def) x = IsRegisterItem name (definition_text (definition_of def)) x
 SaysItem w s before shown (work.Deregister name) x = IsDeregisterItem name x

@@ -2,7 +2,7 @@
 
 ghost use Rattle.std.specs.Prelude.{◌≡◌, ◌≤◌, ◌<◌, ◌+◌, ◌∷◌, ℕ, length, slice_get, Some, [], All};
 ghost use Rattle.std.specs.Thread.{IsSync};
-ghost use Rattle.fish_lanes.specs.Blocks.{At, AreEnded, AreKept, AreLanes, HasRegistered, IsBlockSpan, IsKept, IsNewLane};
+ghost use Rattle.fish_lanes.specs.Blocks.{EachLane, AreEnded, AreKept, AreLanes, HasRegistered, IsBlockSpan, IsKept, IsNewLane};
 ghost use Rattle.fish_lanes.specs.Blocks.{NameMarks, SaysBlock};
 ghost use Rattle.fish_lanes.specs.Controlling.{CanControl, IsCommitted};
 ghost use Rattle.fish_lanes.specs.Ending.{HasEnd};
@@ -25,13 +25,13 @@ ghost use Rattle.fish_rule.specs.Views.{AllOf};
 ghost use Rattle.fish_scan.specs.Colder.{IsBelow};
 ghost use Rattle.fish_store.specs.Points.{point_at, point_of};
 ghost use Rattle.fish_store.specs.Sound.{GoesOnHere, IsSoundBehind, MayGoOn, RowsGoOn};
-ghost use Rattle.fish_whole.specs.Whole.{Later, Whole, Will};
+ghost use Rattle.fish_whole.specs.Whole.{Later, Whole, WillHold};
 
 use crate::control::run_control;
 use crate::finishing::finish_others;
 use crate::gate::Gate;
 use crate::handing::hand_back;
-use crate::lane::{Lane, Seated};
+use crate::lane::{Lane, LanePass};
 use crate::registering::find_last;
 use crate::seats::{give_all, take_all};
 use crate::statements::{is_full, run_works};
@@ -54,7 +54,7 @@ pub struct Boundary {
     pub from: u32,
 }
 
-/// What stands behind a block.
+/// What follows a block.
 #[derive(Clone, Copy, Debug, PartialEq, Eq)]
 pub struct BlockEnd {
     /// How many numbers the log has.
@@ -68,7 +68,7 @@ fn run_seated<G: Gate>(alloc: Global, log: &Log, lane: &mut Lane, gate: &G)
     requires ready { IsReady log.now lane.old }
     ensures gone { HasGone log.now lane.old lane.new }
 {
-    let Some(Seated { mut pass }) = lane.seat.take() else {
+    let Some(LanePass { mut pass }) = lane.seat.take() else {
         unreachable!()
     };
     let mut defs = Defs::new(alloc);
@@ -82,7 +82,7 @@ fn run_seated<G: Gate>(alloc: Global, log: &Log, lane: &mut Lane, gate: &G)
         gate,
     );
     drop(defs);
-    lane.seat = Some(Seated { pass });
+    lane.seat = Some(LanePass { pass });
 }
 
 /// Does the statements of lanes at once, by their own passes, each up to its first scan of older records.
@@ -110,32 +110,32 @@ fn run_others<R: Threads + Sync, G: Gate + Sync>(
 fn run_first<D: Disk, G: Gate>(
     alloc: Global,
     log: &Log,
-    main: &mut Pass,
+    control: &mut Pass,
     registrar: &mut Registrar,
     file: &mut StoreFile,
     disk: &mut D,
     lane: &mut Lane,
     gate: &G,
 )
-    requires can { CanControl log.now main.old registrar.old }
-    requires commit { MayGoOn D.images (point_of disk.old file.old log.now main.old registrar.old) }
+    requires can { CanControl log.now control.old registrar.old }
+    requires commit { MayGoOn D.images (point_of disk.old file.old log.now control.old registrar.old) }
     requires below { IsBelow log.now.key file.old.cold }
-    requires first { IsFirst (view main.old) registrar.old lane.old }
-    ensures can { CanControl log.now main.new registrar.new }
+    requires first { IsFirst (view control.old) registrar.old lane.old }
+    ensures can { CanControl log.now control.new registrar.new }
     ensures below { IsBelow log.now.key file.new.cold }
-    ensures goes { GoesOnHere D.content D.images D.since D.moment (point_of disk.old file.old log.now main.old registrar.old)
-        (point_of disk.new file.new log.now main.new registrar.new) }
-    ensures again { GoesAgain D.images (point_of disk.new file.new log.now main.new registrar.new) lane.new }
-    ensures run { HasRunFirst (IsSoundBehind D.content D.images (point_of disk.old file.old log.now main.old registrar.old)
-        (D.content disk.new)) (view main.old) (view main.new) registrar.old registrar.new lane.old lane.new }
-    ensures stops { Stops (IsSoundBehind D.content D.images (point_of disk.old file.old log.now main.old registrar.old)
+    ensures goes { GoesOnHere D.content D.images D.since D.moment (point_of disk.old file.old log.now control.old registrar.old)
+        (point_of disk.new file.new log.now control.new registrar.new) }
+    ensures again { GoesAgain D.images (point_of disk.new file.new log.now control.new registrar.new) lane.new }
+    ensures run { HasRunFirst (IsSoundBehind D.content D.images (point_of disk.old file.old log.now control.old registrar.old)
+        (D.content disk.new)) (view control.old) (view control.new) registrar.old registrar.new lane.old lane.new }
+    ensures stops { Stops (IsSoundBehind D.content D.images (point_of disk.old file.old log.now control.old registrar.old)
         (D.content disk.new)) (D.faults disk.old) (D.faults disk.new) lane.new }
     ensures committed { AllOf (IsCommitted file.new.flusher.count) lane.new.items }
 {
     let fault = run_control(
         alloc,
         log,
-        main,
+        control,
         registrar,
         file,
         disk,
@@ -152,7 +152,7 @@ fn run_all<R: Threads + Sync, D: Disk + Send, G: Gate + Sync>(
     rt: &R,
     alloc: Global,
     log: &Log,
-    main: &mut Pass,
+    control: &mut Pass,
     registrar: &mut Registrar,
     file: &mut StoreFile,
     disk: &mut D,
@@ -160,30 +160,30 @@ fn run_all<R: Threads + Sync, D: Disk + Send, G: Gate + Sync>(
     others: &mut [Lane],
     gate: &G,
 )
-    requires can { CanControl log.now main.old registrar.old }
-    requires commit { MayGoOn D.images (point_of disk.old file.old log.now main.old registrar.old) }
+    requires can { CanControl log.now control.old registrar.old }
+    requires commit { MayGoOn D.images (point_of disk.old file.old log.now control.old registrar.old) }
     requires below { IsBelow log.now.key file.old.cold }
-    requires first { IsFirst (view main.old) registrar.old first.old }
+    requires first { IsFirst (view control.old) registrar.old first.old }
     requires ready { AreReady log.now others.old }
-    ensures can { CanControl log.now main.new registrar.new }
+    ensures can { CanControl log.now control.new registrar.new }
     ensures below { IsBelow log.now.key file.new.cold }
-    ensures goes { GoesOnHere D.content D.images D.since D.moment (point_of disk.old file.old log.now main.old registrar.old)
-        (point_of disk.new file.new log.now main.new registrar.new) }
-    ensures again { GoesAgain D.images (point_of disk.new file.new log.now main.new registrar.new) first.new }
-    ensures run { HasRunFirst (IsSoundBehind D.content D.images (point_of disk.old file.old log.now main.old registrar.old)
-        (D.content disk.new)) (view main.old) (view main.new) registrar.old registrar.new first.old first.new }
-    ensures stops { Stops (IsSoundBehind D.content D.images (point_of disk.old file.old log.now main.old registrar.old)
+    ensures goes { GoesOnHere D.content D.images D.since D.moment (point_of disk.old file.old log.now control.old registrar.old)
+        (point_of disk.new file.new log.now control.new registrar.new) }
+    ensures again { GoesAgain D.images (point_of disk.new file.new log.now control.new registrar.new) first.new }
+    ensures run { HasRunFirst (IsSoundBehind D.content D.images (point_of disk.old file.old log.now control.old registrar.old)
+        (D.content disk.new)) (view control.old) (view control.new) registrar.old registrar.new first.old first.new }
+    ensures stops { Stops (IsSoundBehind D.content D.images (point_of disk.old file.old log.now control.old registrar.old)
         (D.content disk.new)) (D.faults disk.old) (D.faults disk.new) first.new }
     ensures committed { AllOf (IsCommitted file.new.flusher.count) first.new.items }
     ensures gone { AreGone log.now others.old others.new }
 {
     if others.is_empty() {
-        run_first(alloc, log, main, registrar, file, disk, first, gate);
+        run_first(alloc, log, control, registrar, file, disk, first, gate);
         return;
     }
     join_mut(
         rt,
-        &mut || run_first(alloc, log, main, registrar, file, disk, first, gate),
+        &mut || run_first(alloc, log, control, registrar, file, disk, first, gate),
         &mut ||
             requires sync { IsSync R.row }
             requires ready { AreReady log.now others.now }
@@ -198,7 +198,7 @@ fn run_by_passes<R: Threads + Sync, D: Disk + Send, G: Gate + Sync>(
     rt: &R,
     alloc: Global,
     log: &Log,
-    main: &mut Pass,
+    control: &mut Pass,
     registrar: &mut Registrar,
     file: &mut StoreFile,
     disk: &mut D,
@@ -206,43 +206,43 @@ fn run_by_passes<R: Threads + Sync, D: Disk + Send, G: Gate + Sync>(
     others: &mut [Lane],
     gate: &G,
 )
-    requires can { CanControl log.now main.old registrar.old }
-    requires commit { MayGoOn D.images (point_of disk.old file.old log.now main.old registrar.old) }
+    requires can { CanControl log.now control.old registrar.old }
+    requires commit { MayGoOn D.images (point_of disk.old file.old log.now control.old registrar.old) }
     requires below { IsBelow log.now.key file.old.cold }
-    requires first { IsFirst (view main.old) registrar.old first.old }
-    requires others { CanGive (view main.old) others.old }
-    ensures can { CanControl log.now main.new registrar.new }
+    requires first { IsFirst (view control.old) registrar.old first.old }
+    requires others { CanGive (view control.old) others.old }
+    ensures can { CanControl log.now control.new registrar.new }
     ensures below { IsBelow log.now.key file.new.cold }
-    ensures goes { GoesOnHere D.content D.images D.since D.moment (point_of disk.old file.old log.now main.old registrar.old)
-        (point_of disk.new file.new log.now main.new registrar.new) }
+    ensures goes { GoesOnHere D.content D.images D.since D.moment (point_of disk.old file.old log.now control.old registrar.old)
+        (point_of disk.new file.new log.now control.new registrar.new) }
     ensures again { (first.new.fault ≡ cause.Disk → ⊥)
-        → MayGoOn D.images (point_of disk.new file.new log.now main.new registrar.new) }
-    ensures course { HasRunLanes (IsSoundBehind D.content D.images (point_of disk.old file.old log.now main.old registrar.old)
-        (D.content disk.new)) log.now (view main.old) (view main.new) registrar.old registrar.new first.old first.new others.old
-        others.new }
-    ensures stops { At (λ i x. Stops (IsSoundBehind D.content D.images (point_of disk.old file.old log.now main.old registrar.old)
+        → MayGoOn D.images (point_of disk.new file.new log.now control.new registrar.new) }
+    ensures course { HasRunLanes (IsSoundBehind D.content D.images (point_of disk.old file.old log.now control.old registrar.old)
+        (D.content disk.new)) log.now (view control.old) (view control.new) registrar.old registrar.new first.old
+        first.new others.old others.new }
+    ensures stops { EachLane (λ i x. Stops (IsSoundBehind D.content D.images (point_of disk.old file.old log.now control.old registrar.old)
         (D.content disk.new)) (D.faults disk.old) (D.faults disk.new) x) (first.new ∷ others.new) }
     ensures committed { AllOf (IsCommitted file.new.flusher.count) first.new.items }
 {
-    let full = is_full(main);
-    give_all(log, main, others);
+    let full = is_full(control);
+    give_all(log, control, others);
     run_all(
-        rt, alloc, log, main, registrar, file, disk, first, others, gate,
+        rt, alloc, log, control, registrar, file, disk, first, others, gate,
     );
     finish_others(alloc, log, file, disk, others, full, gate);
-    take_all(log, main, others);
+    take_all(log, control, others);
 }
 
 /// Stores the boundary that waited for the lanes, if one did, and finds where the log ends.
-fn end_block(log: &Log, main: &mut Pass, registrar: &mut Registrar) -> BlockEnd
-    requires can { CanControl log.now main.old registrar.old }
-    requires alone { IsAlone (view main.old) }
-    ensures can { CanControl log.now main.new registrar.new }
-    ensures grows { RowsGoOn (view main.old) registrar.old.catalog registrar.new.catalog }
-    ensures ended { HasFoundEnd (view main.old) (view main.new) registrar.old registrar.new result }
+fn end_block(log: &Log, control: &mut Pass, registrar: &mut Registrar) -> BlockEnd
+    requires can { CanControl log.now control.old registrar.old }
+    requires alone { IsAlone (view control.old) }
+    ensures can { CanControl log.now control.new registrar.new }
+    ensures grows { RowsGoOn (view control.old) registrar.old.catalog registrar.new.catalog }
+    ensures ended { HasFoundEnd (view control.old) (view control.new) registrar.old registrar.new result }
 {
-    let bound = find_last(log, main, registrar);
-    let to = settle(log, main).settled;
+    let bound = find_last(log, control, registrar);
+    let to = settle(log, control).settled;
     BlockEnd { to, bound }
 }
 
@@ -251,7 +251,7 @@ fn run_lanes<R: Threads + Sync, D: Disk + Send, G: Gate + Sync>(
     rt: &R,
     alloc: Global,
     log: &Log,
-    main: &mut Pass,
+    control: &mut Pass,
     registrar: &mut Registrar,
     file: &mut StoreFile,
     disk: &mut D,
@@ -259,48 +259,50 @@ fn run_lanes<R: Threads + Sync, D: Disk + Send, G: Gate + Sync>(
     others: &mut [Lane],
     gate: &G,
 ) -> BlockEnd
-    requires can { CanControl log.now main.old registrar.old }
-    requires commit { MayGoOn D.images (point_of disk.old file.old log.now main.old registrar.old) }
+    requires can { CanControl log.now control.old registrar.old }
+    requires commit { MayGoOn D.images (point_of disk.old file.old log.now control.old registrar.old) }
     requires below { IsBelow log.now.key file.old.cold }
-    requires end { (from : ℕ) × HasEnd (view main.old) from }
-    requires known { KnowsRegistry (view main.old) (registry_of (view main.old) registrar.old) }
+    requires end { (from : ℕ) × HasEnd (view control.old) from }
+    requires known { KnowsRegistry (view control.old) (registry_of (view control.old) registrar.old) }
     requires first { IsNewLane 1 first.old }
     requires acceptable { All IsAcceptable first.old.works }
-    requires others { CanGive (view main.old) others.old }
-    ensures can { CanControl log.now main.new registrar.new }
+    requires others { CanGive (view control.old) others.old }
+    ensures can { CanControl log.now control.new registrar.new }
     ensures below { IsBelow log.now.key file.new.cold }
-    ensures goes { GoesOnHere D.content D.images D.since D.moment (point_of disk.old file.old log.now main.old registrar.old)
-        (point_of disk.new file.new log.now main.new registrar.new) }
+    ensures goes { GoesOnHere D.content D.images D.since D.moment (point_of disk.old file.old log.now control.old registrar.old)
+        (point_of disk.new file.new log.now control.new registrar.new) }
     ensures again { (first.new.fault ≡ cause.Disk → ⊥)
-        → MayGoOn D.images (point_of disk.new file.new log.now main.new registrar.new) }
-    ensures end { HasEnd (view main.new) result.to }
-    ensures later { Later (view main.old) (view main.new) }
+        → MayGoOn D.images (point_of disk.new file.new log.now control.new registrar.new) }
+    ensures end { HasEnd (view control.new) result.to }
+    ensures later { Later (view control.old) (view control.new) }
     ensures first { IsKept first.old first.new }
     ensures first_seat { first.new.seat ≡ first.old.seat }
     ensures kept { AreKept others.old others.new }
     ensures vacant { AreVacant others.new }
-    ensures sound { (past : Whole) → IsSoundBehind D.content D.images (point_of disk.old file.old log.now main.old registrar.old)
-        (D.content disk.new) past → (s : Span) → IsBlockSpan (view main.old) (view main.new) result.to s
-        → s.lanes ≡ length others.old + 1 → (s.from ≤ s.to) × Will past (view main.new) (λ w. SaysBlock w s (first.new ∷ others.new)) }
-    ensures registered { HasRegistered (view main.old) (view main.new) registrar.old registrar.new first.new result }
+    ensures sound { (past : Whole) → IsSoundBehind D.content D.images (point_of disk.old file.old log.now control.old registrar.old)
+        (D.content disk.new) past → (s : Span) → IsBlockSpan (view control.old) (view control.new) result.to s
+        → s.lanes ≡ length others.old + 1
+        → (s.from ≤ s.to) × WillHold past (view control.new) (λ w. SaysBlock w s (first.new ∷ others.new)) }
+    ensures registered { HasRegistered (view control.old) (view control.new) registrar.old registrar.new first.new
+        result }
     ensures alone { others.old ≡ [] → SaysAloneBy (IsSoundBehind D.content D.images
-        (point_of disk.old file.old log.now main.old registrar.old) (D.content disk.new)) (view main.old) (view main.new) registrar.old
+        (point_of disk.old file.old log.now control.old registrar.old) (D.content disk.new)) (view control.old) (view control.new) registrar.old
         first.new }
     ensures ended { AreEnded (first.new ∷ others.new) }
-    ensures shuts { SaysShutBy (view main.old) (view main.new) (first.new ∷ others.new) }
-    ensures left { HandsBack (view main.old) (view main.new) (first.new ∷ others.new) }
-    ensures last { SayFullLast (view main.old) (first.new ∷ others.new) }
-    ensures plans { (from : ℕ) → HasEnd (view main.old) from → LanesSayPlans (KnowsRows (view main.new))
-        (registry_of (view main.old) registrar.old) registrar.new.catalog from (first.new ∷ others.new) }
-    ensures marks { NameMarks (view main.new) (first.new ∷ others.new) }
-    ensures stops { At (λ i x. Stops (IsSoundBehind D.content D.images (point_of disk.old file.old log.now main.old registrar.old)
+    ensures shuts { SaysShutBy (view control.old) (view control.new) (first.new ∷ others.new) }
+    ensures left { HandsBack (view control.old) (view control.new) (first.new ∷ others.new) }
+    ensures last { SayFullLast (view control.old) (first.new ∷ others.new) }
+    ensures plans { (from : ℕ) → HasEnd (view control.old) from → LanesSayPlans (KnowsRows (view control.new))
+        (registry_of (view control.old) registrar.old) registrar.new.catalog from (first.new ∷ others.new) }
+    ensures marks { NameMarks (view control.new) (first.new ∷ others.new) }
+    ensures stops { EachLane (λ i x. Stops (IsSoundBehind D.content D.images (point_of disk.old file.old log.now control.old registrar.old)
         (D.content disk.new)) (D.faults disk.old) (D.faults disk.new) x) (first.new ∷ others.new) }
     ensures committed { AllOf (IsCommitted file.new.flusher.count) first.new.items }
 {
     run_by_passes(
-        rt, alloc, log, main, registrar, file, disk, first, others, gate,
+        rt, alloc, log, control, registrar, file, disk, first, others, gate,
     );
-    end_block(log, main, registrar)
+    end_block(log, control, registrar)
 }
 
 /// Runs a block over an open store: does the statements of its lanes at once, those of the first by the control pass and those
@@ -308,24 +310,24 @@ fn run_lanes<R: Threads + Sync, D: Disk + Send, G: Gate + Sync>(
 /// registration begins that waited until the lanes had ended.
 ///
 /// The first lane alone has the store's file while the others run: it commits beside them, and reads what is older than the
-/// table. Another lane stays in front of its first scan of older records; once all have ended or stay so, what is left of their
+/// table. Another lane stays before its first scan of older records; once all have ended or stay so, what is left of their
 /// statements is done, one lane after the other, with the file.
 ///
-/// The control pass has to know where the log ends, as it does behind a block, and what the registrar keeps, and a checkpoint may
+/// The control pass has to know where the log ends, as it does after a block, and what the registrar keeps, and a checkpoint may
 /// have to follow. There are 1 to 16 lanes, numbered from 1 on and without items, and the first alone may register definitions, end
 /// them or commit.
 ///
 /// A lane stops after the statement in which its pass finds the log full, unless it was so before the block, and hands back the
 /// statements that it hasn't begun. Without memory for that it stops at a fault, and keeps them.
 ///
-/// Afterwards each lane has an item for each statement that it keeps, or a fault and fewer of them. Behind whatever stood before the table, as the
+/// Afterwards each lane has an item for each statement that it keeps, or a fault and fewer of them. After whatever stood before the table, as the
 /// disk tells it, these items are true of each whole log that the control pass may leave later: the lane's records between the
 /// old end and the new one are those that the items say are stored, in order, and scans, plans, checkpoints and refusals are so. The
 /// definitions are those that the items of the first lane tell. Numbers stay, and the statements too, but for those that are handed
 /// back. The store goes on: at each moment since, a
 /// crash left a part of the log that has the last commit's entries.
 ///
-/// The gate is told where each lane is: in front of each statement and behind it, and behind each claim of a record.
+/// The gate is told where each lane is: before each statement and after it, and after each claim of a record.
 /// Nothing that is promised depends on how long it holds a lane.
 pub fn run_block<R: Threads + Sync, D: Disk + Send, G: Gate + Sync>(
     rt: &R,

@@ -6,7 +6,7 @@ ghost use Rattle.fish_cold.specs.Carries.{CarriesTable};
 ghost use Rattle.fish_epoch.specs.Definitions.{IsDefsOf};
 ghost use Rattle.fish_ingest.specs.Ingestion.{CanStart};
 ghost use Rattle.fish_lanes.specs.within.Advancing.{FinishesBy, HasFinished, IsShort};
-ghost use Rattle.fish_lanes.specs.Blocks.{At, Both};
+ghost use Rattle.fish_lanes.specs.Blocks.{EachLane, EachLanePair};
 ghost use Rattle.fish_lanes.specs.within.Blocks.{AreReady};
 ghost use Rattle.fish_lanes.specs.Causes.{HasCause, IsUndamaged};
 ghost use Rattle.fish_lanes.specs.within.Doing.{IsItem, IsPart};
@@ -26,7 +26,7 @@ ghost use Rattle.fish_whole.specs.Whole.{Whole};
 
 use crate::gate::{Gate, Point};
 use crate::handing::hand_back;
-use crate::lane::{Lane, Seated};
+use crate::lane::{Lane, LanePass};
 use crate::scanning::scan_older;
 use crate::statements::{finds_full, position_of, run_work};
 use crate::work::{LaneFault, Work};
@@ -62,7 +62,7 @@ fn finish_lane<D: Disk, G: Gate>(
     let LaneFault::None = lane.fault else {
         return;
     };
-    let Some(Seated { mut pass }) = lane.seat.take() else {
+    let Some(LanePass { mut pass }) = lane.seat.take() else {
         unreachable!()
     };
     let fault = finish_works(
@@ -76,7 +76,7 @@ fn finish_lane<D: Disk, G: Gate>(
         full,
         gate,
     );
-    lane.seat = Some(Seated { pass });
+    lane.seat = Some(LanePass { pass });
     lane.fault = hand_back(&mut lane.works, &mut lane.left, &lane.items, fault);
 }
 
@@ -92,14 +92,14 @@ pub(crate) fn finish_others<D: Disk, G: Gate>(
 )
     requires ready { AreReady log.now lanes.old }
     requires below { IsBelow log.now.key file.old.cold }
-    requires memory { At (λ i x. IsShort x.fault) lanes.old }
+    requires memory { EachLane (λ i x. IsShort x.fault) lanes.old }
     ensures below { IsBelow log.now.key file.new.cold }
     ensures flusher { file.new.flusher ≡ file.old.flusher }
     ensures reads { ReadsPages D.content D.images D.since D.moment D.faults log.now.key file.old.cold file.new.cold disk.old
         disk.new }
-    ensures finished { Both (λ i x y. HasFinished (WasHere (D.content disk.old) log.now.key file.old.cold (D.content disk.new)) full
+    ensures finished { EachLanePair (λ i x y. HasFinished (WasHere (D.content disk.old) log.now.key file.old.cold (D.content disk.new)) full
         log.now x y) lanes.old lanes.new }
-    ensures stops { At (λ i x. Stops (WasHere (D.content disk.old) log.now.key file.old.cold (D.content disk.new)) (D.faults disk.old)
+    ensures stops { EachLane (λ i x. Stops (WasHere (D.content disk.old) log.now.key file.old.cold (D.content disk.new)) (D.faults disk.old)
         (D.faults disk.new) x) lanes.new }
 {
     for i in 0..lanes.len() {

@@ -4,11 +4,11 @@
 /// Where a lane is. A statement is named by its position in its lane, from 0.
 #[derive(Clone, Copy, Debug, PartialEq, Eq)]
 pub enum Point {
-    /// In front of a statement.
+    /// Before a statement.
     Before(u32),
-    /// Behind the claim of a record, whose key entries are linked and which isn't published yet.
+    /// After the claim of a record, whose key entries are linked and which isn't published yet.
     Claimed,
-    /// Behind a statement that has its item.
+    /// After a statement that has its item.
     After(u32),
 }
 

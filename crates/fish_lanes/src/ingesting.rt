@@ -216,7 +216,7 @@ fn ingest_line<G: Gate>(
     Ok(None)
 }
 
-/// `ingest`, with a gate behind the claim.
+/// `ingest`, with a gate after the claim.
 fn ingest_at<G: Gate>(
     alloc: Global,
     log: &Log,

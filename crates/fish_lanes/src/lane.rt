@@ -10,7 +10,7 @@ use std::alloc::Global;
 
 /// The pass of a lane.
 #[derive(Drop)]
-pub struct Seated {
+pub struct LanePass {
     pub pass: Pass,
 }
 
@@ -25,7 +25,7 @@ pub struct Lane {
     /// The statements that it handed back, since it found the log full before it began them.
     pub left: Works,
     /// Its pass, while the block runs.
-    pub seat: Option<Seated>,
+    pub seat: Option<LanePass>,
 }
 
 impl Lane {

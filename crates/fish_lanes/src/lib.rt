@@ -16,5 +16,5 @@ mod work;
 
 pub use block::{BlockEnd, Boundary, run_block};
 pub use gate::{Gate, OpenGate, Point};
-pub use lane::{Lane, Seated};
+pub use lane::{Lane, LanePass};
 pub use work::{LaneFault, Work, Works};

@@ -191,7 +191,7 @@ pub(crate) fn deregister(
 /// Reads the definitions of the version that was made last.
 fn read_definitions(log: &Log, pass: &mut Pass, defs: &mut Defs) -> Result<(), AllocError>
     requires pass { IsPassOf log.now pass.old }
-    requires main { (view pass.old).lane ≡ 1 }
+    requires control { (view pass.old).lane ≡ 1 }
     requires outside { (view pass.old).epoch ≡ Out }
     requires defs { IsDefsOf (view pass.old) defs.old }
     ensures pass { IsPassOf log.now pass.new }

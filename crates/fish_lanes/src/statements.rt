@@ -1,4 +1,4 @@
-//! The statements of a lane behind the first, done by its pass.
+//! The statements of a lane after the first, done by its pass.
 
 ghost use Rattle.std.specs.Prelude.{◌≡◌, ◌≤◌, ◌&&◌, not, is_some, None, All, IfErr, IfOk, length};
 ghost use Rattle.fish_epoch.specs.Definitions.{IsDefsOf};
@@ -32,7 +32,7 @@ pub(crate) enum Stop {
     Older,
 }
 
-/// What a statement answered, where want of memory stops its lane.
+/// What a statement answered, where its lane stops since memory ran out.
 pub(crate) fn or_stop(item: Result<Item, AllocError>) -> Result<Item, Stop>
     ensures { result ≡ or_stop item }
 {

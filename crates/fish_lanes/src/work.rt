@@ -140,7 +140,7 @@ pub enum LaneFault {
     },
 }
 
-/// What a statement answered, where want of memory stops its lane.
+/// What a statement answered, where its lane stops since memory ran out.
 pub(crate) fn or_memory(item: Result<Item, AllocError>) -> Result<Item, LaneFault>
     ensures { result ≡ or_memory item }
 {

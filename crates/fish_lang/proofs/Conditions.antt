@@ -134,7 +134,7 @@ part_terminals n Whole a = cond_terminals n (cond_of a)
 part_terminals n OfOr a = conj_terminals n (conj_of a)
 part_terminals n OfAnd a = neg_terminals n (neg_of a)
 
--- a text is lexed to these tokens, where no word goes on behind it
+-- a text is lexed to these tokens, where no word goes on after it
 abbrev pub LexesTo : List ℕ → List Terminal → Type 0
 LexesTo text xs = (rest : List ℕ) → EndsWord rest → lexed (text ++ rest) ≡ spelled xs ++ lexed rest
 

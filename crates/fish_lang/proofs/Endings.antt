@@ -101,7 +101,7 @@ some_test = test (exist (one_step some_step))
 abbrev some_width : Terminal
 some_width = record { token = kind.Number false (Some (pos 1)); fault = None }
 
--- behind a step any part can end
+-- after a step any part can end
 path_finishes : (o : Owner) (p : Path) → Finishes (owner_before o ++ path_terminals p)
 path_finishes of_take p = record { tree = take_def p None; more = []; real = tt; spells = refl }
 path_finishes of_each p = record { tree = each_def p None; more = []; real = tt; spells = refl }
@@ -197,7 +197,7 @@ pub record Ends (tree : Tree) (d : Definition) : Type 0 where
   pub spells : terminals whole ≡ before tree
   pub means : meaning whole ≡ d
 
--- what is known behind a condition is what it means
+-- what is known after a condition is what it means
 with_cond-means : (k : Head) (c : Cond) → definition_with (head_state k) (cond_formula c)
     ≡ meaning (with_cond k c)
 with_cond-means (take_when p) c = refl

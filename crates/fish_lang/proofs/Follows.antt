@@ -24,7 +24,7 @@ Follows s [] t = s ≡ t
 Follows s (x ∷ xs) t = (u : State) × (advance s x.token ≡ Some u) × (fault_at s x.token ≡ x.fault)
     × Follows u xs t
 
--- one way behind another
+-- one way after another
 pub Follows-append : (xs ys : List Terminal) (s t u : State) → Follows s xs t → Follows t ys u
     → Follows s (xs ++ ys) u
 Follows-append [] ys s t u e h = let P : State → Type 0 = λ z. Follows z ys u in subst P (sym e) h
@@ -39,7 +39,7 @@ dot_step o p (ident s) =
 dot_step o p (string s) =
     (machine.step o p, refl, refl, (machine.behind_step o (p ++ s ∷ []), refl, refl, refl))
 
--- a path behind `take` and `bucket`
+-- a path after `take` and `bucket`
 path_follows : (o : Owner) (p : Path) → Follows (machine.step o []) (path_terminals p)
     (machine.behind_step o (path_steps p))
 path_follows o (one_step (ident s)) = (machine.behind_step o (s ∷ []), refl, refl, refl)
@@ -81,13 +81,13 @@ test_follows h k (start p s) = Follows-append (path_terminals p) _ _ _ _ (test_p
   (complete h k (begins (path_steps p) s), refl, refl, refl),
 )
 
--- what is known behind a condition
+-- what is known after a condition
 abbrev behind_cond : Head → Whole → Cond → State
 behind_cond h w (one_conj c) = machine.behind_operand h (machine.in_whole w) (conj_formula c)
 behind_cond h w (more_conjs a c) = machine.behind_operand h (machine.behind_or (cond_formula a) w)
     (conj_formula c)
 
--- `or` goes on behind it
+-- `or` goes on after it
 or_follows : (h : Head) (w : Whole) (c : Cond) → Follows (behind_cond h w c) (keyword word.Or ∷ [])
     (machine.operand h (machine.in_joint (machine.behind_or (cond_formula c) w)))
 or_follows h w (one_conj c) =

@@ -24,7 +24,7 @@ use Rattle.fish_lang.proofs.Strings.{reading-quoted, string_length-escape}
 use Rattle.fish_lang.proofs.TokenLemmas.{both}
 use Rattle.fish_lang.proofs.Words.{lexed, lexed-token, lexed-blank, lexed-word, EndsWord}
 
--- a word with a space behind
+-- a word with a space after
 spaced : (c : ℕ) (w rest : List ℕ) (t : Token) → begins_word c ≡ true → list_all is_word_byte w
     ≡ true → token_of (c ∷ w) ≡ Some t → lexed (c ∷ (w ++ 32 ∷ rest)) ≡ t ∷ lexed rest
 spaced c w rest t begins all is = lexed-word c w (32 ∷ rest) t begins all refl is

@@ -108,7 +108,7 @@ from_bucket t s (Some x) e h =
           rw named.token;
     }
 
--- behind a step
+-- after a step
 from_path : (o : Owner) (p : Path) (t : Token) (s : State)
     → moves.from_path (owner_state o) (path_steps p) t ≡ Some s → Longer (behind_step o p) t s
 from_path o p Dot s h = record { next = behind_dot o p; stands = cc; spells = simp append_assoc }
@@ -201,7 +201,7 @@ from_prefix k j p (Str x) s h = record {
 }
 from_prefix k j p _ s h = cc
 
--- behind an operand
+-- after an operand
 from_joint : (k : Head) (j : Joint) (c : Conj) (t : Token) (s : State)
     → moves.from_joint (head_state k) (joint_state j) (conj_formula c) t ≡ Some s
     → Longer (behind_operand k j c) t s

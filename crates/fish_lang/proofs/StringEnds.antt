@@ -1,4 +1,4 @@
--- Where a string ends: the lexer's bit says whether an odd run of backslashes stands right behind it.
+-- Where a string ends: the lexer's bit says whether an odd run of backslashes stands right after it.
 use Rattle.std.proofs.Common.{◌≡◌, ◌==◌, ◌+◌, ℕ, suc, List, [], ◌∷◌, ◌++◌, Bool, true, false, refl, sym, ap, subst, ◌∙◌}
 use Rattle.std.proofs.Common.{length, take, drop, arith, inl, inr, append_assoc, append-nil, length-append}
 use Rattle.std.specs.Prelude.{◌%◌, ◌&&◌, ◌⊎◌, ◌≤◌, not, reverse, if◌then◌else◌}
@@ -16,7 +16,7 @@ use Rattle.fish_lang.proofs.TokenLemmas.{both}
 abbrev odd : ℕ → Bool
 odd n = n % 2 == 1
 
--- whether an odd run stands behind a text, where `o` says whether one stands in front of it
+-- whether an odd run comes after a text, where `o` says whether one stands before it
 abbrev odd_after : Bool → List ℕ → Bool
 odd_after o [] = o
 odd_after o (c ∷ b) = odd_after ((c == 92) && not o) b
@@ -29,7 +29,7 @@ odd-turn : (slash : Bool) (n : ℕ) → (slash && not (odd n)) ≡ odd (if slash
 odd-turn true n = odd-suc n
 odd-turn false n = refl
 
--- a text read backwards, behind what was read before
+-- a text read backwards, after what was read before
 reverse-front : (c : ℕ) (front past : List ℕ) → reverse (c ∷ front) ++ past ≡ reverse front ++ c ∷ past
 reverse-front c front past =
     ap (λ t. t ++ past) (reverse_onto front c []) ∙ append_assoc (reverse front) (c ∷ []) past
@@ -108,7 +108,7 @@ open-passed o (c ∷ s) r h =
     let later = open-passed ((c == 92) && not o) s r (open-fewer o c s h) in
     rw (open-first o c s h) (omega (arith, later))
 
--- and stops behind the quote that ends it
+-- and stops after the quote that ends it
 shut-passed : (o : Bool) (s r : List ℕ) → IsShutFrom o s → string_length o (s ++ r) ≡ length s
 shut-passed o s r h =
     let whole : s ++ r ≡ h.inside ++ 34 ∷ r = ap (λ t. t ++ r) h.is ∙ append_assoc h.inside (34 ∷ []) r in

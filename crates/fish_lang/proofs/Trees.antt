@@ -145,7 +145,7 @@ before (literal h k p op) = operand_before h k ++ (path_terminals p ++ terminal 
 before (prefix h k p) = operand_before h k ++ (path_terminals p ++ keyword word.Starts ∷ [])
 before (behind_operand h j c) = joint_before h j ++ conj_terminals (joint_nesting (joint_state j)) c
 
--- behind an operand
+-- after an operand
 abbrev pub completed : Head → Operand → Neg → Tree
 completed h (in_joint j) a = behind_operand h j (one_neg a)
 completed h (behind_and c j) a = behind_operand h j (more_negs c a)
@@ -187,7 +187,7 @@ pub whole_of-state : (j : Joint) → machine.whole_of (joint_state j) ≡ whole_
 whole_of-state (in_whole w) = refl
 whole_of-state (behind_or a w) = refl
 
--- a whole derivation round a part, and the tokens behind the part
+-- a whole derivation round a part, and the tokens after the part
 abbrev pub with_cond : Head → Cond → Derivation
 with_cond (take_when p) c = take_def p (Some c)
 with_cond (each_when p) c = each_def p (Some c)

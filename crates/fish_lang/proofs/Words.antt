@@ -49,7 +49,7 @@ lexed-turn c b n e =
     ∙ ap (behind_token (token_of (c ∷ take n b)))
     (kinds-position (length (drop n b)) (0 + suc n) 0 (drop n b))
 
--- a token in front of a rest that it doesn't reach into
+-- a token before a rest that it doesn't reach into
 pub lexed-token : (c : ℕ) (w rest : List ℕ) (t : Token) → length_behind c (w ++ rest) ≡ length w
     → token_of (c ∷ w) ≡ Some t → lexed (c ∷ (w ++ rest)) ≡ t ∷ lexed rest
 lexed-token c w rest t size is =

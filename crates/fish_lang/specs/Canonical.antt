@@ -1,5 +1,5 @@
 -- The one text that a definition is printed as. Between tokens stands one space, but nothing stands
--- around a dot, behind an opening and in front of a closing parenthesis.
+-- around a dot, after an opening and before a closing parenthesis.
 use Rattle.std.specs.Prelude.{ℕ, List, [], ◌∷◌, ◌++◌, Bool, true, false, Option, Some, None, codes, if◌then◌else◌}
 use Rattle.std.specs.Fmt.{signed_decimal}
 use Rattle.fish_value.specs.Json.{quoted}

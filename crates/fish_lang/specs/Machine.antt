@@ -19,7 +19,7 @@ mutual
     behind_and : Formula → Joint → Operand
     under_not : Operand → Operand
 
--- what stands in front of a condition
+-- what stands before a condition
 pub data Head : Type 0 where
   take_when : Steps → Head
   each_when : Steps → Head
@@ -70,7 +70,7 @@ abbrev pub whole_of : Joint → Whole
 whole_of (in_whole w) = w
 whole_of (behind_or b w) = w
 
--- behind an operand, which completes a `not` and an `and` in front of it
+-- after an operand, which completes a `not` and an `and` before it
 abbrev pub complete : Head → Operand → Formula → State
 complete h (in_joint j) a = behind_operand h j a
 complete h (behind_and b j) a = behind_operand h j (both b a)

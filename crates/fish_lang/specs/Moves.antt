@@ -59,7 +59,7 @@ behind_path of_each p t = from_head (each_when p) t
 behind_path of_bucket p t = behind_bucket p t
 behind_path (of_test h k) p t = behind_test h k p t
 
--- a path goes on behind a dot
+-- a path goes on after a dot
 abbrev pub from_path : Owner → Steps → Token → Option State
 from_path owner p Dot = Some (step owner p)
 from_path owner p t = behind_path owner p t

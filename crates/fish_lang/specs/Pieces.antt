@@ -30,7 +30,7 @@ pub record IsEnded (s : List ℕ) : Type 0 where
 
 -- ---- pieces
 
--- a byte that begins a word, with bytes of words behind it
+-- a byte that begins a word, with bytes of words after it
 abbrev pub IsWord : ℕ → List ℕ → Type 0
 IsWord c t = (begins_word c ≡ true) × (list_all is_word_byte t ≡ true)
 
@@ -42,7 +42,7 @@ IsString c t rest = (c ≡ 34) × (IsEnded t ⊎ (IsUnended t × (rest ≡ [])))
 abbrev pub IsSign : ℕ → List ℕ → Type 0
 IsSign c t = (takes_equals c ≡ true) × (t ≡ 61 ∷ [])
 
--- what may stand in front of a rest: one byte of any kind, a word, a string, or a sign of two bytes
+-- what may stand before a rest: one byte of any kind, a word, a string, or a sign of two bytes
 abbrev pub IsPiece : List ℕ → List ℕ → Type 0
 IsPiece [] rest = ⊥
 IsPiece (c ∷ t) rest = (t ≡ []) ⊎ (IsWord c t ⊎ (IsString c t rest ⊎ IsSign c t))

@@ -39,11 +39,11 @@ abbrev pub string_length : Bool → List ℕ → ℕ
 string_length odd [] = 0
 string_length odd (c ∷ b) = if (c == 34) && not odd then 1 else suc (string_length ((c == 92) && not odd) b)
 
--- `!`, `<` and `>` take a `=` behind them in
+-- `!`, `<` and `>` take a `=` after them in
 abbrev pub takes_equals : ℕ → Bool
 takes_equals c = (c == 33) || (c == 60) || (c == 62)
 
--- how many bytes the next token has, or a blank, behind the byte at the front
+-- how many bytes the next token has, or a blank, after the byte at the front
 unfoldable pub length_behind : ℕ → List ℕ → ℕ
 length_behind c b =
     if begins_word c then run_length b else (
@@ -117,7 +117,7 @@ token_of t =
     if slice_index t 0 == 34 then Some (string_token (option_and_then as_str (reading t))) else
     Some (sign_token t)))
 
--- a token in front of those behind it
+-- a token before those after it
 abbrev pub listed : ℕ → Option Token → List Placed → List Placed
 listed at None behind = behind
 listed at (Some t) behind = record { token = t; at = at } ∷ behind

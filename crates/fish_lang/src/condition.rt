@@ -78,7 +78,7 @@ pub fn from_operand(
     }
 }
 
-/// Behind the first step of a test.
+/// After the first step of a test.
 fn in_test(alloc: Global, head: Head, position: Operand, step: Text) -> State
     ensures { state_view result
         ≡ machine.behind_step (machine.of_test (head_view head) (operand_view position)) (step ∷ []) }
@@ -153,7 +153,7 @@ pub fn from_prefix(
     }
 }
 
-/// Behind an operand, which completes a `not` and an `and` in front of it.
+/// After an operand, which completes a `not` and an `and` before it.
 fn complete(alloc: Global, head: Head, position: Operand, cond: Cond) -> Result<State, AllocError>
     ensures { IfOk result
         (λ next. state_view next

@@ -32,7 +32,7 @@ pub fn finish(alloc: Global, state: State) -> Result<Option<Def>, AllocError>
     }
 }
 
-/// The definition that ends behind a path, which `take` alone may.
+/// The definition that ends after a path, which `take` alone may.
 fn taken(owner: Owner, path: Path) -> Option<Def>
     ensures { option_map definition_of result
         ≡ moves.finish (machine.behind_step (owner_view owner) path) }
@@ -47,7 +47,7 @@ fn taken(owner: Owner, path: Path) -> Option<Def>
     }
 }
 
-/// The definition that ends behind a part of an `or`.
+/// The definition that ends after a part of an `or`.
 fn ended_with(
     alloc: Global,
     head: Head,

@@ -1,4 +1,4 @@
-//! Positions in a condition: what stands in front of a position, as far as it is not closed.
+//! Positions in a condition: what stands before a position, as far as it is not closed.
 
 ghost use Rattle.std.specs.Prelude.{◌≡◌, nat_lt};
 ghost use Rattle.fish_lang.specs.Machine.{nesting, joint_nesting, whole_nesting};
@@ -10,7 +10,7 @@ use crate::definition::Cond;
 #[derive(Drop)]
 #[cycle(position)]
 pub enum Whole {
-    /// Behind `when`.
+    /// After `when`.
     Top,
     /// In parentheses.
     Group(Box<Operand>),
@@ -22,7 +22,7 @@ pub enum Whole {
 pub enum Joint {
     /// At its front.
     InWhole(Whole),
-    /// Behind a condition and `or`.
+    /// After a condition and `or`.
     BehindOr(Cond, Whole),
 }
 
@@ -32,9 +32,9 @@ pub enum Joint {
 pub enum Operand {
     /// At its front.
     InJoint(Joint),
-    /// Behind a condition and `and`.
+    /// After a condition and `and`.
     BehindAnd(Cond, Joint),
-    /// Behind `not`.
+    /// After `not`.
     UnderNot(Box<Operand>),
 }
 
@@ -50,7 +50,7 @@ pub fn nests_less(position: &Operand, most: u8) -> bool
     }
 }
 
-/// The same of what stands in front of a part of an `or`.
+/// The same of what stands before a part of an `or`.
 #[cycle(nests)]
 fn joint_nests_less(joint: &Joint, most: u8) -> bool
     ensures { result ≡ nat_lt (joint_nesting (joint_view joint.now)) most }
@@ -61,7 +61,7 @@ fn joint_nests_less(joint: &Joint, most: u8) -> bool
     }
 }
 
-/// The same of what stands in front of a whole condition.
+/// The same of what stands before a whole condition.
 #[cycle(nests)]
 fn whole_nests_less(whole: &Whole, most: u8) -> bool
     ensures { result ≡ nat_lt (whole_nesting (whole_view whole.now)) most }

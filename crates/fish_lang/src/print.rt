@@ -1,6 +1,6 @@
 //! The canonical text of a definition: the one spelling that is kept and shown.
 //!
-//! Each function here puts its part behind what was written before.
+//! Each function here puts its part after what was written before.
 
 ghost use Rattle.std.specs.Prelude.{◌≡◌, ◌++◌, List, codes, string_bytes, option_map, IfOk, OnOk};
 ghost use Rattle.std.specs.Fmt.{signed_decimal};
@@ -113,7 +113,7 @@ fn write_cond(alloc: Global, out: &mut String, part: Part, cond: &Cond) -> Resul
     }
 }
 
-/// Writes a text and a condition behind it.
+/// Writes a text and a condition after it.
 #[cycle(conditions)]
 fn write_behind(
     alloc: Global,

@@ -12,7 +12,7 @@ use crate::token::{Keyword, Token};
 use fish_value::{Path, Text};
 use std::alloc::{AllocError, Global};
 
-/// What stands in front of a condition, without `when`.
+/// What stands before a condition, without `when`.
 #[derive(Drop)]
 pub enum Head {
     Take(Path),
@@ -36,13 +36,13 @@ pub enum Owner {
 pub enum State {
     /// Nothing was read.
     Start,
-    /// `when`, behind `flag`.
+    /// `when`, after `flag`.
     Flag,
-    /// A step, behind those of the path so far.
+    /// A step, after those of the path so far.
     Step(Owner, Option<Path>),
     /// What follows a step.
     BehindStep(Owner, Path),
-    /// The number behind `by`.
+    /// The number after `by`.
     Width(Path),
     /// What follows that number.
     BehindWidth(Path, i64),
@@ -50,7 +50,7 @@ pub enum State {
     Operand(Head, Operand),
     /// The literal of a comparison.
     Literal(Head, Operand, Path, Op),
-    /// The string behind `starts`.
+    /// The string after `starts`.
     Prefix(Head, Operand, Path),
     /// What follows a part of an `or`.
     BehindOperand(Head, Joint, Cond),
@@ -156,7 +156,7 @@ fn name_of(token: Token) -> Option<Text>
     }
 }
 
-/// A dot leads on to a further step, any other token behind the path.
+/// A dot leads on to a further step, any other token after the path.
 fn from_path(
     alloc: Global,
     owner: Owner,

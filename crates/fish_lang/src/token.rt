@@ -86,7 +86,7 @@ pub fn tokens_of(alloc: Global, b: &[u8]) -> Result<Vec<Placed>, AllocError>
     Ok(found)
 }
 
-/// Puts the token that these bytes are behind the others. A blank is none.
+/// Puts the token that these bytes are after the others. A blank is none.
 fn list(alloc: Global, found: &mut Vec<Placed>, piece: &[u8], at: u64) -> Result<(), AllocError>
     requires { 0 < length piece.now }
     ensures { OnOk result (found.new.items ≡ found.old.items ++ listed at (token_of piece.now) []) }
@@ -97,7 +97,7 @@ fn list(alloc: Global, found: &mut Vec<Placed>, piece: &[u8], at: u64) -> Result
     Ok(())
 }
 
-/// How many bytes of a token stand behind its first. A blank has none.
+/// How many bytes of a token come after its first. A blank has none.
 #[tactic(auto, unfolding(crate::specs::Token::length_behind))]
 fn length_behind(c: u8, b: &[u8]) -> usize
     ensures value { result ≡ length_behind c b.now }
@@ -129,7 +129,7 @@ fn begins_word(c: u8) -> bool
     is_word_byte(c) || c == b'-'
 }
 
-/// Whether a sign takes a `=` behind it in.
+/// Whether a sign takes a `=` after it in.
 fn takes_equals(c: u8) -> bool
     ensures { result ≡ takes_equals c }
 {
@@ -149,7 +149,7 @@ fn run(b: &[u8]) -> usize
     b.len()
 }
 
-/// How many bytes there are to the end of a string, behind its first `"`.
+/// How many bytes there are to the end of a string, after its first `"`.
 fn string(b: &[u8]) -> usize
     ensures value { result ≡ string_length false b.now }
     ensures bound { result ≤ length b.now }

@@ -50,7 +50,7 @@ byte_in ws o within =
     ∙ get_or-flat_map (to_le_bytes w64) ws (o / 8) (o % 8) 0 0 within (omega arith)
     ∙ byte_of (get_or ws (o / 8) 0) (o % 8) (omega arith)
 
--- a byte behind a position of words, among so many that stand there
+-- a byte after a position of words, among so many that stand there
 byte_there : (e : ℕ → ℕ) (ws : List ℕ) (at n o : ℕ) → ((i : ℕ) → e i ≡ get_or ws i 0) →
     at + words_for n ≤ length ws → o < n → byte_behind e at o ≡ get_or (bytes_in (drop at ws) n) o 0
 byte_there e ws at n o words room within =
@@ -105,7 +105,7 @@ pub entry_number-key : {p : BodyParts} {e : ℕ → ℕ} (c : ℕ) (k : KeyPart)
     slice_get p.keys c ≡ Some k → entry_number (e (entry_at c + 1)) ≡ p.number
 entry_number-key {p} {e} c k s found = (says_key c k s found).number
 
--- so many bytes behind a position are the value's
+-- so many bytes after a position are the value's
 value_there : {p : BodyParts} {e : ℕ → ℕ} (c : ℕ) (k : KeyPart) → Spells p e →
     slice_get p.keys c ≡ Some k →
     map (λ j. byte_behind e (entry_at (length p.keys)) (length (values_of (take c p.keys)) + j))

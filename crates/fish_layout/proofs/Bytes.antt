@@ -63,12 +63,12 @@ pub words_none : words_of_bytes [] ≡ []
 unfolding words_of_bytes
 words_none = refl
 
--- a number is made of its first eight bytes, and zeros behind them
+-- a number is made of its first eight bytes, and zeros after them
 pub from_le_bytes_same : (a b : List ℕ) → ((i : ℕ) → get_or a i 0 ≡ get_or b i 0) →
     from_le_bytes w64 a ≡ from_le_bytes w64 b
 from_le_bytes_same a b same = omega (arith, same 0, same 1, same 2, same 3, same 4, same 5, same 6, same 7)
 
--- zeros behind bytes read as what stands behind bytes
+-- zeros after bytes read as what follows bytes
 padded_at : (b : List ℕ) (n i : ℕ) → get_or (b ++ replicate n 0) i 0 ≡ get_or b i 0
 padded_at [] zero i = refl
 padded_at [] (suc n) zero = refl
@@ -76,7 +76,7 @@ padded_at [] (suc n) (suc i) = padded_at [] n i
 padded_at (x ∷ b) n zero = refl
 padded_at (x ∷ b) n (suc i) = padded_at b n i
 
--- a word of at most eight bytes has these bytes, and zeros behind them
+-- a word of at most eight bytes has these bytes, and zeros after them
 le_bytes_few : (b : List ℕ) → length b ≤ 8 → ((i : ℕ) → get_or b i 0 < 256) →
     to_le_bytes w64 (from_le_bytes w64 b) ≡ b ++ replicate (8 - length b) 0
 le_bytes_few b few small =
@@ -87,13 +87,13 @@ le_bytes_few b few small =
     le_bytes_8 padded (from_le_bytes w64 b) eight bytes
     (from_le_bytes_same b padded (λ i. sym (padded_at b (8 - length b) i)))
 
--- what holds of each element of a whole holds of those in front, and of the 0 behind them
+-- what holds of each element of a whole holds of those in front, and of the 0 after them
 pub small_left : (xs ys : List ℕ) → ((i : ℕ) → get_or (xs ++ ys) i 0 < 256) → (i : ℕ) → get_or xs i 0 < 256
 small_left [] ys h i = omega arith
 small_left (x ∷ xs) ys h zero = h 0
 small_left (x ∷ xs) ys h (suc i) = small_left xs ys (λ j. h (suc j)) i
 
--- and of those behind
+-- and of those after
 pub small_right : (xs ys : List ℕ) → ((i : ℕ) → get_or (xs ++ ys) i 0 < 256) → (i : ℕ) → get_or ys i 0 < 256
 small_right [] ys h i = h i
 small_right (x ∷ xs) ys h i = small_right xs ys (λ j. h (suc j)) i
@@ -109,7 +109,7 @@ back_few b rest some few small =
     ∙ ap (take (length b)) (append_assoc b zeros behind)
     ∙ take-append_seam b (zeros ++ behind)
 
--- bytes come back from a word and those behind it
+-- bytes come back from a word and those after it
 back_many : (c d rest : List ℕ) → length c ≡ 8 → ((i : ℕ) → get_or c i 0 < 256) →
     bytes_in (words_of_bytes d ++ rest) (length d) ≡ d →
     bytes_in (words_of_bytes (c ++ d) ++ rest) (length (c ++ d)) ≡ c ++ d
@@ -121,7 +121,7 @@ back_many c d rest eight small behind =
     ∙ take-append-add c others (length d)
     ∙ ap (λ l. c ++ l) behind
 
--- bytes come back from their words, whatever stands behind these
+-- bytes come back from their words, whatever comes after these
 back_within : (n : ℕ) (b rest : List ℕ) → length b ≤ 8 * n → ((i : ℕ) → get_or b i 0 < 256) →
     bytes_in (words_of_bytes b ++ rest) (length b) ≡ b
 back_within n [] rest h small = refl
@@ -141,11 +141,11 @@ back_within (suc n) (x ∷ b) rest h small =
       | inr few ↦ back_few whole rest (omega arith) few small
     ]
 
--- bytes come back from their words, whatever stands behind these
+-- bytes come back from their words, whatever comes after these
 pub bytes_back : (b rest : List ℕ) → ((i : ℕ) → get_or b i 0 < 256) → bytes_in (words_of_bytes b ++ rest) (length b) ≡ b
 bytes_back b rest small = back_within (length b) b rest (omega arith) small
 
--- the first eight bytes are a word, and those behind them the others
+-- the first eight bytes are a word, and those after them the others
 pub words_split : (b c more : List ℕ) → c ≡ take 8 b → more ≡ drop 8 b → 8 ≤ length b →
     words_of_bytes b ≡ from_le_bytes w64 c ∷ words_of_bytes more
 words_split b c more front behind many =
@@ -153,7 +153,7 @@ words_split b c more front behind many =
     sym (take-append-drop 8 b) ∙ ap (λ l. l ++ drop 8 b) (sym front) ∙ ap (λ l. c ++ l) (sym behind) in
     ap words_of_bytes parts ∙ words_chunk c more (ap length front ∙ length-take-le 8 b many)
 
--- so many times eight bytes are as many words, and those behind them the others
+-- so many times eight bytes are as many words, and those after them the others
 pub words_chunks : (k : ℕ) (b : List ℕ) → 8 * k ≤ length b →
     words_of_bytes b ≡ map (from_le_bytes w64) (first_chunks 8 k b) ++ words_of_bytes (drop (k * 8) b)
 words_chunks zero b h = refl

@@ -67,7 +67,7 @@ cleared_key f i within key =
     ∙ choose_first (dec_le i (3 * keys_of (f 0))) _ _ key.0
     ∙ choose_first (ℕ_discrete (i % 3) 1) 0 (f i) key.1
 
--- behind the lines all is put to 0
+-- after the lines all is put to 0
 pub cleared_behind : (f : ℕ → ℕ) (i : ℕ) → lines_of (f 0) * 4 - 1 < i → cleared f i ≡ 0
 unfolding cleared
 cleared_behind f i behind = choose_second (dec_le i (lines_of (f 0) * 4 - 1)) _ 0 (λ within. omega arith)

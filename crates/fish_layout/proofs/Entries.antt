@@ -108,7 +108,7 @@ values_within ks i k within is =
     ap (λ x. length (value_bytes x.value)) is in
     omega (arith, length-flat_map-take (λ x. value_bytes x.value) ks i k within, own)
 
--- behind the values up to an entry stands its own
+-- after the values up to an entry stands its own
 pub value_at : (ks : List KeyPart) (i : ℕ) (k : KeyPart) (n m : ℕ) → i < length ks → k ≡ get_or ks i k →
     n ≡ length (values_of (take i ks)) →
     m ≡ n + length (value_bytes k.value) → take (m - n) (drop n (values_of ks)) ≡ value_bytes k.value

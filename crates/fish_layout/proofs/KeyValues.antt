@@ -1,4 +1,4 @@
--- A key entry points at its value among the words behind all entries.
+-- A key entry points at its value among the words after all entries.
 use Rattle.std.proofs.Common.{◌≡◌, ℕ, ◌+◌, ◌-◌, ◌*◌, ◌<◌, ◌≤◌, List, length, take, drop, get_or}
 use Rattle.std.proofs.Common.{sym, ap, ◌∙◌, arith, length-drop}
 use Rattle.fish_layout.specs.Body.{IsBody, IsProperValue, values_of}

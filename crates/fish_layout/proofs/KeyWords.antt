@@ -78,7 +78,7 @@ body_from p c k within is =
           ∙ ap (λ n. k.prev ∷ entry_word p.number k.id c ∷ value_word k.value n ∷ from.0) there,
     )
 
--- a word of a list behind a position
+-- a word of a list after a position
 word_behind : (ws : List ℕ) (n i m : ℕ) (l : List ℕ) → drop n ws ≡ l → m ≡ n + i → get_or ws m 0 ≡ get_or l i 0
 word_behind ws n i m l is at = ap (λ j. get_or ws j 0) at ∙ sym (get_or-drop n ws i 0) ∙ ap (λ b. get_or b i 0) is
 

@@ -93,13 +93,13 @@ relink_key r c number position offset (k ∷ ks) t (suc (suc (suc i))) h first =
 
 -- ---- records
 
--- what stands behind the key entries
+-- what follows the key entries
 abbrev pub after_keys : BodyParts → List ℕ
 after_keys p =
     words_of_bytes (values_of p.keys) ++
     (words_of_bytes p.payload ++ replicate (body_lines p * 4 - (1 + length (words_behind p))) 0)
 
--- a record is its header, its key entries and what stands behind them
+-- a record is its header, its key entries and what follows them
 pub body_parted : (p : BodyParts) → body_words p ≡ body_header p ∷ (key_words p.number 0 0 p.keys ++ after_keys p)
 unfolding body_words
 body_parted p = simp append_assoc
@@ -123,7 +123,7 @@ relinked_header r p =
     ∙ ap (λ keys. header_word (body_lines p) (form_code p.form) keys p.lane p.version (length p.payload))
     (length-relink r 0 p.keys)
 
--- the same behind the key entries
+-- the same after the key entries
 relinked_after : (r : ℕ → ℕ) (p : BodyParts) → after_keys (relinked r p) ≡ after_keys p
 relinked_after r p =
     ap (λ n. words_of_bytes (values_of (relink r 0 p.keys)) ++

@@ -24,7 +24,7 @@ use Rattle.fish_layout.proofs.Utf8.{bytes_text, bytes_values}
 abbrev padding : BodyParts → List ℕ
 padding p = replicate (body_lines p * 4 - (1 + length (words_behind p))) 0
 
--- behind the key entries stand the values
+-- after the key entries stand the values
 pub drop_keys : (p : BodyParts) →
     drop (entry_at (length p.keys)) (body_words p) ≡
     words_of_bytes (values_of p.keys) ++ (words_of_bytes p.payload ++ padding p)
@@ -40,7 +40,7 @@ drop_keys p =
 abbrev pub payload_place : BodyParts → ℕ
 payload_place p = entry_at (length p.keys) + words_for (length (values_of p.keys))
 
--- behind the values stands the payload
+-- after the values stands the payload
 pub drop_values : (p : BodyParts) → drop (payload_place p) (body_words p) ≡ words_of_bytes p.payload ++ padding p
 drop_values p =
     let entries = key_words p.number 0 0 p.keys in

@@ -41,7 +41,7 @@ few_value_bytes least (k ∷ ks) keys =
       few_value_bytes k.id ks keys.3,
     )
 
--- how many words stand behind the header, without the padding
+-- how many words come after the header, without the padding
 pub length-words_behind : (p : BodyParts) →
     length (words_behind p) ≡
     3 * length p.keys + words_for (length (values_of p.keys)) + words_for (length p.payload)

@@ -12,7 +12,7 @@ use Rattle.std.proofs.Math.Seq.{drop-append_seam}
 use Rattle.fish_layout.specs.Bytes.{bytes_in, words_for}
 use Rattle.fish_layout.proofs.Bytes.{length_words}
 
--- the bytes of the words behind so many are those behind eight times as many
+-- the bytes of the words after so many are those after eight times as many
 drop_words : (n : ℕ) (ws : List ℕ) → n ≤ length ws →
     flat_map (to_le_bytes w64) (drop n ws) ≡ drop (8 * n) (flat_map (to_le_bytes w64) ws)
 drop_words n ws room =
@@ -52,7 +52,7 @@ bytes_part ws from skip first size n room within at low =
     ∙ sym (part_of_more F from size (from + size) (n - (from + size)) refl)
     ∙ ap (λ m. take size (drop from (take m F))) more
 
--- so many of the bytes lie behind those that are skipped
+-- so many of the bytes lie after those that are skipped
 pub behind_skip : (ws : List ℕ) (first skip size : ℕ) (bytes : List ℕ) → bytes ≡ bytes_in
     (take (length ws - first) (drop first ws)) (skip + size) →
     (words : ℕ) → words ≡ words_for (skip + size) → first + words ≤ length ws → skip ≤ length bytes
@@ -64,7 +64,7 @@ behind_skip ws first skip size bytes is words few room =
           (omega (arith, ap length (range_from ws first), length-drop first ws)),
     )
 
--- the bytes behind those that are skipped, in the words from the one in which an offset lies, are those at the offset
+-- the bytes after those that are skipped, in the words from the one in which an offset lies, are those at the offset
 pub value_part : (ws : List ℕ) (skip_offset first_offset size n from many : ℕ) (bytes : List ℕ) →
     bytes ≡ bytes_in (take (length ws - first_offset / 8) (drop (first_offset / 8) ws)) (skip_offset % 8 + size) →
     skip_offset ≡ from → first_offset ≡ from → size ≡ many → from + many ≤ n → words_for n ≤ length ws →

@@ -52,7 +52,7 @@ parts_of head keys payload =
       payload = payload;
     }
 
--- the words behind the header, without the padding: the key entries, the values and the payload
+-- the words after the header, without the padding: the key entries, the values and the payload
 abbrev pub words_behind : BodyParts → List ℕ
 words_behind p = key_words p.number 0 0 p.keys ++ words_of_bytes (values_of p.keys) ++ words_of_bytes p.payload
 
@@ -64,7 +64,7 @@ body_lines p = (1 + length (words_behind p) + 3) / 4
 abbrev pub body_header : BodyParts → ℕ
 body_header p = header_word (body_lines p) (form_code p.form) (length p.keys) p.lane p.version (length p.payload)
 
--- the words of a record: its header, the words behind it, and zeros up to a whole line
+-- the words of a record: its header, the words after it, and zeros up to a whole line
 unfoldable pub body_words : BodyParts → List ℕ
 body_words p = body_header p ∷ words_behind p ++ replicate (body_lines p * 4 - (1 + length (words_behind p))) 0
 

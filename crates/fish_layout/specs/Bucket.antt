@@ -12,7 +12,7 @@ use Rattle.fish_layout.specs.Header.{keys_of}
 abbrev pub byte_behind : (ℕ → ℕ) → ℕ → ℕ → ℕ
 byte_behind e at o = e (at + o / 8) / 256 ^ (o % 8) % 256
 
--- the bytes of the value of key entry c: so many from its offset on, among those behind the key entries
+-- the bytes of the value of key entry c: so many from its offset on, among those after the key entries
 abbrev pub value_in : (ℕ → ℕ) → ℕ → List ℕ
 value_in e c =
     map (λ j. byte_behind e (entry_at (keys_of (e 0))) (value_offset (e (entry_at c + 2)) + j))

@@ -8,7 +8,7 @@ use Rattle.std.specs.List.{flat_map, range_with_len}
 abbrev pub words_for : ℕ → ℕ
 words_for n = (n + 7) / 8
 
--- the word at a position: eight bytes, low byte first, zero behind the end
+-- the word at a position: eight bytes, low byte first, zero past the end
 abbrev pub word_at : List ℕ → ℕ → ℕ
 word_at b i = from_le_bytes w64 (take 8 (drop (8 * i) b))
 

@@ -23,7 +23,7 @@ IsKeyWord n i = (i ≤ 3 * n) × (i % 3 ≡ 1)
 abbrev pub IsNumberWord : ℕ → ℕ → Type 0
 IsNumberWord n i = (i ≤ 3 * n) × (i % 3 ≡ 2)
 
--- the words of a region with the first words of its key entries put to 0, and 0 behind its lines
+-- the words of a region with the first words of its key entries put to 0, and 0 after its lines
 unfoldable pub cleared : (ℕ → ℕ) → ℕ → ℕ
 cleared f i =
     choose (dec_le i (lines_of (f 0) * 4 - 1))
@@ -51,7 +51,7 @@ unlink (k ∷ ks) = record k { prev = 0 } ∷ unlink ks
 abbrev pub unlinked : BodyParts → BodyParts
 unlinked p = record p { keys = unlink p.keys }
 
--- e has the words of a record with these parts, its previous nodes put to 0, and 0 behind
+-- e has the words of a record with these parts, its previous nodes put to 0, and 0 after
 pub record Spells (p : BodyParts) (e : ℕ → ℕ) : Type 0 where
   pub proper : IsProper p
   pub unlinked : AreUnlinked p.keys

@@ -10,7 +10,7 @@ use Rattle.fish_value.specs.declared.value.Value.{Value}
 abbrev pub fnv_step : ℕ → ℕ → ℕ
 fnv_step hash byte = (bit_xor hash byte * 1099511628211) % 2 ^ 64
 
--- the hash of bytes behind those that gave this hash
+-- the hash of bytes after those that gave this hash
 abbrev pub fnv1a_behind : ℕ → List ℕ → ℕ
 fnv1a_behind hash bytes = fold fnv_step hash bytes
 

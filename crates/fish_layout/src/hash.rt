@@ -36,7 +36,7 @@ pub fn bucket_of(hash: u64, buckets: u64) -> u64
     }
 }
 
-/// The hash with a value's bytes behind those that it has seen.
+/// The hash with a value's bytes after those that it has seen.
 fn mix_value(hash: u64, value: &Value) -> u64
     ensures { result ≡ fnv1a_behind hash (value_bytes value.now) }
 {
@@ -47,14 +47,14 @@ fn mix_value(hash: u64, value: &Value) -> u64
     }
 }
 
-/// The hash with bytes behind those that it has seen.
+/// The hash with bytes after those that it has seen.
 fn mix(hash: u64, bytes: &[u8]) -> u64
     ensures { result ≡ fnv1a_behind hash bytes.now }
 {
     bytes.iter().fold(hash, |hash, byte| step(hash, *byte))
 }
 
-/// The hash with one more byte behind.
+/// The hash with one more byte after.
 fn step(hash: u64, byte: u8) -> u64
     ensures { result ≡ fnv_step hash byte }
 {

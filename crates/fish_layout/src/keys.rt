@@ -99,7 +99,7 @@ pub fn find_key(
     }))
 }
 
-/// The value at which the third word of a key entry points, among the words behind all key entries, or none where
+/// The value at which the third word of a key entry points, among the words after all key entries, or none where
 /// there can be none.
 fn find_value(alloc: Global, words: &[u64], third: u64) -> Result<Option<Value>, AllocError>
     ensures { IfOk result (λ o. (v : Value) (n : ℕ) → IsProperValue v → value_kind third ≡ kind_code v

@@ -47,7 +47,7 @@ fn are_proper_keys(keys: &[KeyPart]) -> bool
     true
 }
 
-/// Whether none of the entries behind one has its id and its value. Looks at those of its id, which come first.
+/// Whether none of the entries after one has its id and its value. Looks at those of its id, which come first.
 #[tactic(auto, using(crate::proofs::Apart::apart_above))]
 fn is_apart(key: &KeyPart, others: &[KeyPart]) -> bool
     ensures { AreProperKeys key.now.id others.now → (IsTrue result ↔ IsApart key.now others.now) }

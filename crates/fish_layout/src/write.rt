@@ -113,7 +113,7 @@ fn header_word_of(head: BodyHead, keys: &[KeyPart], payload: &[u8], lines: usize
     pack_header(head.form, &header)
 }
 
-/// Puts the words behind the header behind the others, without the padding.
+/// Puts the words after the header after the others, without the padding.
 fn push_words(
     alloc: Global,
     words: &mut Vec<u64>,
@@ -130,7 +130,7 @@ fn push_words(
     push_bytes(words, payload)
 }
 
-/// Puts the words of key entries behind the others.
+/// Puts the words of key entries after the others.
 fn push_keys(words: &mut Vec<u64>, number: u32, keys: &[KeyPart]) -> Result<(), AllocError>
     requires number { number < 2 ^ 28 }
     requires few { length keys.now ≤ 256 }
@@ -145,7 +145,7 @@ fn push_keys(words: &mut Vec<u64>, number: u32, keys: &[KeyPart]) -> Result<(), 
     Ok(())
 }
 
-/// Puts the three words of a key entry behind the others.
+/// Puts the three words of a key entry after the others.
 fn push_key(
     words: &mut Vec<u64>,
     key: &KeyPart,
@@ -175,7 +175,7 @@ fn code_of_kind(value: &Value) -> u64
     }
 }
 
-/// Puts the words of the values of keys behind the others.
+/// Puts the words of the values of keys after the others.
 fn push_values(alloc: Global, words: &mut Vec<u64>, keys: &[KeyPart]) -> Result<(), AllocError>
     ensures { OnOk result (words.new.items ≡ words.old.items ++ words_of_bytes (values_of keys.now)) }
 {
@@ -186,7 +186,7 @@ fn push_values(alloc: Global, words: &mut Vec<u64>, keys: &[KeyPart]) -> Result<
     push_bytes(words, bytes.as_slice())
 }
 
-/// Puts the bytes of a value behind the others.
+/// Puts the bytes of a value after the others.
 fn push_value(bytes: &mut ValueBytes, value: &Value) -> Result<(), AllocError>
     ensures { OnOk result (bytes.new.items ≡ bytes.old.items ++ value_bytes value.now) }
 {
@@ -197,7 +197,7 @@ fn push_value(bytes: &mut ValueBytes, value: &Value) -> Result<(), AllocError>
     }
 }
 
-/// Puts bytes as words behind the others, the last one padded with zero bytes.
+/// Puts bytes as words after the others, the last one padded with zero bytes.
 fn push_bytes(words: &mut Vec<u64>, bytes: &[u8]) -> Result<(), AllocError>
     ensures { OnOk result (words.new.items ≡ words.old.items ++ words_of_bytes bytes.now) }
 {
@@ -214,7 +214,7 @@ fn push_bytes(words: &mut Vec<u64>, bytes: &[u8]) -> Result<(), AllocError>
     Ok(())
 }
 
-/// The word of the last bytes, with zero bytes behind them.
+/// The word of the last bytes, with zero bytes after them.
 fn last_word(bytes: &[u8]) -> u64
     ensures { result ≡ from_le_bytes w64 bytes.now }
 {
@@ -230,7 +230,7 @@ fn last_word(bytes: &[u8]) -> u64
     ])
 }
 
-/// The byte at a position, or 0 behind the end.
+/// The byte at a position, or 0 past the end.
 fn byte_at(bytes: &[u8], position: usize) -> u8
     ensures { result ≡ slice_index bytes.now position }
 {

@@ -18,13 +18,13 @@ use Rattle.fish_lines.specs.declared.splitter.Line.TheVariants.{TooLong}
 use Rattle.fish_lines.proofs.LineLemmas.{lines_of-cons}
 use Rattle.fish_lines.proofs.PartLemmas.{no_end-append}
 
--- as much of a text as there is room for behind a front
+-- as much of a text as there is room for after a front
 pub take_room : (k : ℕ) (s x : List ℕ) → length s ≤ k → s ++ take (k - length s) x ≡ take k (s ++ x)
 take_room k s x h =
     let split : length s + (k - length s) ≡ k = omega arith in
     sym (take-append-add s x (k - length s)) ∙ ap (λ n. take n (s ++ x)) split
 
--- of what stands behind a front, no more than the whole counts
+-- of what follows a front, no more than the whole counts
 pub take_behind : (j k : ℕ) (x y : List ℕ) → j ≤ k → take j (x ++ take k y) ≡ take j (x ++ y)
 take_behind j k [] y h = take-take j k y h
 take_behind zero k (c ∷ x) y h = refl
@@ -83,7 +83,7 @@ strip-whole (d ∷ t) =
     ∙ ap (λ cr. (if e.last == 13 then e.front else x) ++ cr_if cr) (ends_in_cr-push e.front e.last)
     ∙ with_cr e.front e.last (e.last == 13) refl ∙ sym e.are
 
--- the CR at the end of what stands behind is that of the whole
+-- the CR at the end of what follows is that of the whole
 behind-cases : (t x : List ℕ) (c : ℕ) (cr : Bool)
     → (if cr then t ++ x else (t ++ x) ++ c ∷ []) ≡ t ++ (if cr then x else x ++ c ∷ [])
 behind-cases t x c true = refl
@@ -146,7 +146,7 @@ take-within k b s h = omega (arith, ap length h, length-take k s)
 pub IsOpen-within : (o : OpenLine) (t : List ℕ) → IsOpen o t → length o.bytes ≤ longest_kept
 IsOpen-within o t h = take-within longest_kept o.bytes (strip_carriage_return t) h.kept
 
--- a CR and no more of a text than counts, behind bytes
+-- a CR and no more of a text than counts, after bytes
 pub append_cr : (k : ℕ) (cr : Bool) (bytes text more : List ℕ) → cr ≡ true → more ≡ (13 ∷ []) ++ take k text
     → take k (bytes ++ more) ≡ take k (bytes ++ cr_if cr ++ text)
 append_cr k true bytes text more h is =

@@ -20,7 +20,7 @@ slice_split_nowhere (x ∷ xs) h =
     let here : is_line_end x ≡ false = failed (is_line_end x) (h 0 (omega arith)) in
     rw here (ap (onto_first x) (slice_split_nowhere xs (λ k within. h (suc k) (omega arith))))
 
--- the first part ends at the first LF, and the others are those of what stands behind it
+-- the first part ends at the first LF, and the others are those of what follows it
 pub slice_split_first_end : (b : List ℕ) (k : ℕ) → k < length b → ((j : ℕ) → j < k → ¬ Passes (is_byte 10) b j)
     → Passes (is_byte 10) b k
     → slice_split is_line_end b ≡ take k b ∷ slice_split is_line_end (drop (k + 1) b)
@@ -32,7 +32,7 @@ slice_split_first_end (x ∷ xs) (suc k) within before ends =
     rw (here, next) (ap (onto_first x)
     (slice_split_first_end xs k (omega arith) (λ j less. before (suc j) (omega arith)) ends))
 
--- the part in front of the first LF has none
+-- the part before the first LF has none
 pub slice_split_front : (b : List ℕ) (k : ℕ) → k < length b → ((j : ℕ) → j < k → ¬ Passes (is_byte 10) b j)
     → slice_split is_line_end (take k b) ≡ take k b ∷ []
 slice_split_front b zero within before = refl

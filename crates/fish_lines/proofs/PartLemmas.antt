@@ -14,7 +14,7 @@ pub record Parts (parts : List (List ℕ)) : Type 0 where
   pub more : List (List ℕ)
   pub are : parts ≡ first ∷ more
 
--- a part, put in front of the first
+-- a part, put before the first
 onto_first-parts : (c : ℕ) (parts : List (List ℕ)) → Parts parts → Parts (onto_first c parts)
 onto_first-parts c parts p = record { first = c ∷ p.first; more = p.more; are = ap (onto_first c) p.are }
 
@@ -55,7 +55,7 @@ last-append [] first more = refl
 last-append (part ∷ []) first more = refl
 last-append (part ∷ next ∷ front) first more = last-append (next ∷ front) first more
 
--- a byte that ends no line goes in front of the first part, be it the last or not
+-- a byte that ends no line goes before the first part, be it the last or not
 onto_first-append : (c : ℕ) (p : List ℕ) (first : List ℕ) (more : List (List ℕ)) → is_line_end c ≡ false
     → onto_first c (ended (first ∷ more) ++ slice_split is_line_end (last_part (first ∷ more) ++ p))
     ≡ ended (onto_first c (first ∷ more)) ++ slice_split is_line_end (last_part (onto_first c (first ∷ more)) ++ p)
@@ -80,7 +80,7 @@ pub slice_split-append : (x p : List ℕ)
 slice_split-append [] p = refl
 slice_split-append (c ∷ x) p = append-parts c x p (is_line_end c) refl (parts_of_bytes x) (slice_split-append x p)
 
--- where an LF was cut off, those that an LF ends begin with the part in front of it
+-- where an LF was cut off, those that an LF ends begin with the part before it
 pub ended-cut : (part rest : List ℕ)
     → ended (part ∷ slice_split is_line_end rest) ≡ part ∷ ended (slice_split is_line_end rest)
 ended-cut part rest = let q = parts_of_bytes rest in rw q.are refl
@@ -89,7 +89,7 @@ pub last-cut : (part rest : List ℕ)
     → last_part (part ∷ slice_split is_line_end rest) ≡ last_part (slice_split is_line_end rest)
 last-cut part rest = let q = parts_of_bytes rest in rw q.are refl
 
--- bytes behind which an LF comes no more are the front of one part
+-- bytes after which an LF comes no more are the front of one part
 no_end-cons : (c : ℕ) (x : List ℕ) (end : Bool) → is_line_end c ≡ end → slice_split is_line_end (c ∷ x) ≡ (c ∷ x) ∷ []
     → Parts (slice_split is_line_end x) → (end ≡ false) × (slice_split is_line_end x ≡ x ∷ [])
 no_end-cons c x true h one q = let wrong = sym (parts_at c x true h) ∙ one in cc

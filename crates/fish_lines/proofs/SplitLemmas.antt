@@ -16,7 +16,7 @@ use Rattle.fish_lines.proofs.MarkLemmas.{decided_stays, undecided_cases}
 use Rattle.fish_lines.proofs.PartLemmas.{ended-append, ended-cut, ended-last, given_of-append, last-append, last-cut}
 use Rattle.fish_lines.proofs.PartLemmas.{no_end-front, parts_of_bytes, slice_split-append}
 
--- ---- a piece behind an open line
+-- ---- a piece after an open line
 
 -- with no LF in all, no part is ended
 pub no_part_ended : (x : List ℕ) (more : List Line) → slice_split is_line_end x ≡ x ∷ []
@@ -26,14 +26,14 @@ no_part_ended x more h = rw h (sym (append-nil more))
 pub last_is_whole : (x : List ℕ) → slice_split is_line_end x ≡ x ∷ [] → last_part (slice_split is_line_end x) ≡ x
 last_is_whole x h = ap last_part h
 
--- one part in front, and those behind it, as lines
+-- one part in front, and those after it, as lines
 pub given_front : (part rest : List ℕ)
     → given_of (ended (part ∷ slice_split is_line_end rest))
     ≡ given_of (part ∷ []) ++ given_of (ended (slice_split is_line_end rest))
 given_front part rest = ap given_of (ended-cut part rest)
     ∙ given_of-append (part ∷ []) (ended (slice_split is_line_end rest))
 
--- a part was cut off, and its line put behind others
+-- a part was cut off, and its line put after others
 pub given_push : (b part rest : List ℕ) (o : OpenLine) (front : List Line)
     → slice_split is_line_end b ≡ part ∷ slice_split is_line_end rest → IsOpen o part
     → (front ++ line_in o) ++ given_of (ended (slice_split is_line_end rest))
@@ -56,12 +56,12 @@ front_ends t piece front behind one cut = no_end-front t piece front (slice_spli
 
 -- ---- the bytes so far, and more
 
--- the parts of bytes with more behind them, where a byte order mark is decided
+-- the parts of bytes with more after them, where a byte order mark is decided
 parts-more : (b p : List ℕ) → without_mark (b ++ p) ≡ without_mark b ++ p
     → parts_of (b ++ p) ≡ ended (parts_of b) ++ slice_split is_line_end (last_part (parts_of b) ++ p)
 parts-more b p h = ap (slice_split is_line_end) h ∙ slice_split-append (without_mark b) p
 
--- the lines that an LF ends, and the part behind the last, then
+-- the lines that an LF ends, and the part after the last, then
 pub whole_lines-more : (b p : List ℕ) → without_mark (b ++ p) ≡ without_mark b ++ p
     → whole_lines (b ++ p) ≡ whole_lines b ++ given_of (ended (slice_split is_line_end (last_part (parts_of b) ++ p)))
 unfolding whole_lines
@@ -81,7 +81,7 @@ last_part-more b p h =
     ap last_part (parts-more b p h ∙ ap (λ l. ended (parts_of b) ++ l) q.are)
     ∙ last-append (ended (parts_of b)) q.first q.more ∙ ap last_part (sym q.are)
 
--- all lines are those that an LF ends and the one behind the last
+-- all lines are those that an LF ends and the one after the last
 lines-whole : (b : List ℕ) → lines b ≡ whole_lines b ++ given_of (last_part (parts_of b) ∷ [])
 unfolding lines whole_lines
 lines-whole b =
@@ -174,7 +174,7 @@ HasTaken-begin s u b whole taken undecided h going goes start ready rest =
       };
     }
 
--- one more piece goes behind the bytes of the pieces before
+-- one more piece goes after the bytes of the pieces before
 pub pieces_more : (pieces : List (List ℕ)) (i : ℕ) (piece : List ℕ) → i < length pieces → piece ≡ get_or pieces i piece
     → concat (take i pieces) ++ piece ≡ concat (take (i + 1) pieces)
 pieces_more pieces i piece within is =

@@ -6,7 +6,7 @@ use Rattle.fish_value.specs.declared.field.Form.TheVariants.{Json, Csv}
 use Rattle.fish_json.specs.Lines as json
 use Rattle.fish_csv.specs.Rows as csv
 
--- of each line in JSON its payload, or none where it is refused, and of each row in CSV, behind the header
+-- of each line in JSON its payload, or none where it is refused, and of each row in CSV, after the header
 -- where there is to be one
 unfoldable pub outcomes : Form → Bool → List ℕ → List (Option (List ℕ))
 outcomes Json header b = json.outcomes b

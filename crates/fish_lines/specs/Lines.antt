@@ -16,7 +16,7 @@ ended [] = []
 ended (part ∷ []) = []
 ended (part ∷ next ∷ parts) = part ∷ ended (next ∷ parts)
 
--- the part behind the last LF
+-- the part after the last LF
 abbrev pub last_part : List (List ℕ) → List ℕ
 last_part [] = []
 last_part (part ∷ []) = part

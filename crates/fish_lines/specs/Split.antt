@@ -15,7 +15,7 @@ is_undecided b = nat_lt (length b) 3 && starts_with nat_eq byte_order_mark b
 abbrev pub due : Splitter → List Line
 due s = s.ready.items ++ (if s.finished then line_in s.last else [])
 
--- a splitter that goes on after the bytes b: its open line is what stands behind the last LF, and either b may
+-- a splitter that goes on after the bytes b: its open line is what follows the last LF, and either b may
 -- still begin a byte order mark, or no byte to come changes whether it does
 pub record GoesOn (s : Splitter) (b : List ℕ) : Type 0 where
   pub rest : IsOpen s.last (last_part (parts_of b))

@@ -49,7 +49,7 @@ impl Records {
         }
     }
 
-    /// Puts a payload behind the others, or counts a line as refused.
+    /// Puts a payload after the others, or counts a line as refused.
     pub(crate) fn count(&mut self, outcome: Option<Text>) -> Result<(), AllocError>
         requires { self.old.refused < u64.MAX }
         ensures payloads { OnOk result (self.new.payloads ≡ self.old.payloads ++ accepted (outcome ∷ [])) }

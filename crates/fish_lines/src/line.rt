@@ -18,7 +18,7 @@ pub(crate) fn without_mark(b: &[u8]) -> &[u8]
     }
 }
 
-/// What stands in front of the first LF, and what stands behind it.
+/// What stands before the first LF, and what follows it.
 pub(crate) fn cut(b: &[u8]) -> Option<(&[u8], &[u8])>
     ensures parts { MatchOption result (slice_split is_line_end b.now ≡ b.now ∷ [])
         (λ p. slice_split is_line_end b.now ≡ p.0.now ∷ slice_split is_line_end p.1.now) }

@@ -17,7 +17,7 @@ impl<'b> Lines<'b> {
     ghost use Rattle.fish_lines.specs.Left.{left};
     ghost use Rattle.fish_lines.specs.Lines.{file_lines};
 
-    /// Stands in front of the first line. A byte order mark at the file's start is dropped.
+    /// Stands before the first line. A byte order mark at the file's start is dropped.
     #[tactic(auto, unfolding(crate::specs::Left::left))]
     pub fn new(b: &'b [u8]) -> Lines<'b>
         ensures lines { left result ≡ file_lines b.now }
@@ -28,7 +28,7 @@ impl<'b> Lines<'b> {
         }
     }
 
-    /// Stands in front of the first of these lines, which stand after others in a file.
+    /// Stands before the first of these lines, which stand after others in a file.
     pub fn after(b: &'b [u8]) -> Lines<'b>
         ensures { result.rest.now ≡ b.now }
     {
@@ -59,7 +59,7 @@ impl<'b> Lines<'b> {
     }
 }
 
-/// The line in front of the first LF, or the whole where there is none, and what stands behind.
+/// The line before the first LF, or the whole where there is none, and what follows.
 fn first_line(b: &[u8]) -> (&[u8], &[u8])
     requires { 0 < length b.now }
     ensures lines { lines_of (slice_split is_line_end b.now)

@@ -49,7 +49,7 @@ impl OpenLine {
         Ok(line)
     }
 
-    /// Puts bytes behind the line.
+    /// Puts bytes after the line.
     pub(crate) fn grow(&mut self, alloc: Global, piece: &[u8]) -> Result<(), AllocError>
         requires { slice_split is_line_end piece.now ≡ piece.now ∷ [] }
         ensures open { OnOk result ((t : List ℕ) → IsOpen self.old t → IsOpen self.new (t ++ piece.now)) }
@@ -64,7 +64,7 @@ impl OpenLine {
         Ok(())
     }
 
-    /// The line with bytes behind it.
+    /// The line with bytes after it.
     pub(crate) fn grown(&self, alloc: Global, piece: &[u8]) -> Result<OpenLine, AllocError>
         requires { slice_split is_line_end piece.now ≡ piece.now ∷ [] }
         ensures { IfOk result (λ line. (t : List ℕ) → IsOpen self.now t → IsOpen line (t ++ piece.now)) }
@@ -108,7 +108,7 @@ fn ends_in_cr(b: &[u8]) -> bool
     }
 }
 
-/// Puts a CR, where there is to be one, and a text behind bytes, as far as they are kept.
+/// Puts a CR, where there is to be one, and a text after bytes, as far as they are kept.
 fn append(alloc: Global, bytes: &mut Bytes, cr: bool, text: &[u8]) -> Result<(), AllocError>
     ensures ok { OnOk result (length bytes.old ≤ longest_kept → bytes.new ≡ take longest_kept (bytes.old ++ cr_if cr ++ text.now)) }
     ensures err { OnErr result (bytes.new ≡ bytes.old) }
@@ -121,7 +121,7 @@ fn append(alloc: Global, bytes: &mut Bytes, cr: bool, text: &[u8]) -> Result<(),
     append_kept(bytes, more.as_bytes())
 }
 
-/// Puts as much of a text behind bytes as is kept.
+/// Puts as much of a text after bytes as is kept.
 fn append_kept(bytes: &mut Bytes, text: &[u8]) -> Result<(), AllocError>
     ensures ok { OnOk result (length bytes.old ≤ longest_kept → bytes.new ≡ take longest_kept (bytes.old ++ text.now)) }
     ensures err { OnErr result (bytes.new ≡ bytes.old) }

@@ -33,7 +33,7 @@ pub struct Splitter {
     alloc: Global,
     /// The lines that an LF ended and that were not taken.
     ready: VecDeque<Line>,
-    /// The line behind the last LF.
+    /// The line after the last LF.
     last: OpenLine,
     /// Whether all bytes so far are the beginning of a byte order mark.
     at_start: bool,
@@ -77,7 +77,7 @@ impl Splitter {
         self.begin(whole.as_bytes())
     }
 
-    /// Ends the file. The line behind the last LF is whole then. Takes no memory.
+    /// Ends the file. The line after the last LF is whole then. Takes no memory.
     pub fn finish(&mut self)
         ensures taken { (b : List ℕ) (taken : List Line) → HasTaken self.old b taken → HasTaken self.new b taken }
         ensures finished { self.new.finished ≡ true }
@@ -145,7 +145,7 @@ fn may_begin_mark(b: &[u8]) -> bool
     b.len() < 3 && [0xef, 0xbb, 0xbf].starts_with(b)
 }
 
-/// Two texts, one behind the other.
+/// Two texts, one after the other.
 fn joined(alloc: Global, front: &[u8], behind: &[u8]) -> Result<Bytes, AllocError>
     ensures { IfOk result (λ bytes. bytes ≡ front.now ++ behind.now) }
 {
@@ -154,7 +154,7 @@ fn joined(alloc: Global, front: &[u8], behind: &[u8]) -> Result<Bytes, AllocErro
     Ok(bytes)
 }
 
-/// Puts a piece behind the open line. The lines that its LFs end become ready, and what stands behind
+/// Puts a piece after the open line. The lines that its LFs end become ready, and what follows
 /// the last LF is open then.
 fn take_piece(
     alloc: Global,
@@ -182,7 +182,7 @@ fn take_piece(
     Ok(())
 }
 
-/// Puts the line of each part that an LF ends behind others, and answers the last part.
+/// Puts the line of each part that an LF ends after others, and answers the last part.
 fn push_parts<'b>(
     alloc: Global,
     lines: &mut VecDeque<Line>,
@@ -201,7 +201,7 @@ fn push_parts<'b>(
     Ok(rest)
 }
 
-/// Puts a line behind others, unless it is blank.
+/// Puts a line after others, unless it is blank.
 fn push_line(lines: &mut VecDeque<Line>, line: OpenLine) -> Result<(), AllocError>
     ensures { OnOk result (lines.new.items ≡ lines.old.items ++ line_in line) }
 {

@@ -1,9 +1,9 @@
--- A source in memory gives the next bytes and goes on behind them.
+-- A source in memory gives the next bytes and goes on after them.
 use Rattle.std.proofs.Common.{◌≡◌, ℕ, ◌+◌, ◌<◌, List, [], ◌++◌, length, take, drop, sym, arith, length-drop}
 use Rattle.std.specs.Prelude.{min}
 use Rattle.std.proofs.lemmas.List.{drop-drop, take-append-drop, nil_from_length}
 
--- what is left is the bytes that are given, and then what is left behind them
+-- what is left is the bytes that are given, and then what is left after them
 pub drop-given : (at count : ℕ) (bytes given : List ℕ) →
     given ≡ take count (drop at bytes) → drop at bytes ≡ given ++ drop (at + count) bytes
 drop-given at count bytes given same =

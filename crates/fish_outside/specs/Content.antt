@@ -5,7 +5,7 @@
 use Rattle.std.specs.Prelude.{◌≡◌, ℕ, ◌<◌, List, [], ◌++◌, length, take, Option, Some, IfSome, Result, MatchResult}
 use Rattle.std.specs.Option.{option_map}
 
--- the rest is the old one behind these bytes, which were taken from its front
+-- the rest is the old one after these bytes, which were taken from its front
 abbrev pub Took : Option (List ℕ) → Option (List ℕ) → List ℕ → Type 0
 Took old new bytes = IfSome new (λ rest. old ≡ Some (bytes ++ rest))
 
@@ -29,7 +29,7 @@ Reads old new result buffer =
     (λ n. Took old new (take n buffer) × (0 < length buffer → n ≡ 0 → IsAtEnd new))
     (λ _. Took old new [])
 
--- a write put as many bytes of the piece behind the others as it answered: at least one, if the
+-- a write put as many bytes of the piece after the others as it answered: at least one, if the
 -- piece has one. A write that failed put none
 abbrev pub Writes : {E : Type 0} → Option (List ℕ) → Option (List ℕ) → Result ℕ E → List ℕ → Type 0
 Writes old new result piece =

@@ -55,7 +55,7 @@ fn read_up_to<S: Source>(alloc: Global, source: &mut S, most: usize) -> Result<B
     Ok(bytes)
 }
 
-/// Reads into a buffer, and puts what came behind the bytes.
+/// Reads into a buffer, and puts what came after the bytes.
 pub fn read_more<S: Source>(
     source: &mut S,
     part: &mut [u8],

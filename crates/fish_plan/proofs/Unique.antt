@@ -15,7 +15,7 @@ pub fill_order : (ps : List Piece) (from to : ℕ) → Fill ps from to → from 
 fill_order [] from to h = omega (arith, h)
 fill_order (z ∷ ps) from to h = omega (arith, h.1, fill_order ps from (piece_from z) h.2)
 
--- behind the first piece of a plan stands the plan of what is left
+-- after the first piece of a plan stands the plan of what is left
 cover_rest : (x : Piece) (ps : List Piece) (from settled to : ℕ) (xs : List Interval) → IsCover (x ∷ ps) from settled to xs
     → IsCover ps from settled (piece_from x) xs
 cover_rest x ps from settled to xs h = record {
@@ -54,7 +54,7 @@ oldest_same xs n x y one other = elim (one.ahead other.position y other.there ot
 held_by : (xs : List Interval) (n : ℕ) (x : Interval) → IsOldest xs n x → IsHeld xs n
 held_by xs n x h = record { position = h.position; interval = x; there = h.there; holds = h.holds }
 
--- where a full piece below settled begins above the range's beginning, an interval holds the number in front of it
+-- where a full piece below settled begins above the range's beginning, an interval holds the number before it
 above_low : (ps : List Piece) (p q : ℕ) (from settled to : ℕ) (xs : List Interval) → IsCover (Full p q ∷ ps) from settled to xs
     → q ≤ settled → from < p → IsHeld xs (p - 1)
 above_low [] p q from settled to xs h below above = absurd (omega (arith, h.fill.2))

@@ -11,7 +11,7 @@ use Rattle.fish_plan.specs.declared.pieces.Piece.TheVariants.{Index, Full}
 abbrev pub IsOldestOf : List Interval → ℕ → Option Interval → Type 0
 IsOldestOf xs n found = MatchOption found (¬ IsHeld xs n) (IsOldest xs n)
 
--- it was the oldest of some intervals, and with one more behind them it is this one
+-- it was the oldest of some intervals, and with one more after them it is this one
 abbrev pub KeepsOldest : ℕ → Option Interval → Interval → Option Interval → Type 0
 KeepsOldest n old x new = (xs : List Interval) → IsOldestOf xs n old → IsOldestOf (xs ++ x ∷ []) n new
 
@@ -22,7 +22,7 @@ pub record IsLowEnd (xs : List Interval) (from end low : ℕ) : Type 0 where
   pub clear : (n : ℕ) → low ≤ n → n < end → ¬ IsHeld xs n
   pub met : (low ≡ from) ⊎ IsHeld xs (low - 1)
 
--- the same of intervals with one more behind them that doesn't reach `end` either
+-- the same of intervals with one more after them that doesn't reach `end` either
 abbrev pub KeepsLowEnd : ℕ → ℕ → Interval → ℕ → Type 0
 KeepsLowEnd end old x new = (xs : List Interval) (from : ℕ) → ¬ Holds x (end - 1) → IsLowEnd xs from end old
     → IsLowEnd (xs ++ x ∷ []) from end new

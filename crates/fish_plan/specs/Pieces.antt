@@ -8,7 +8,7 @@ abbrev pub piece_from : Piece → ℕ
 piece_from (Index id from to) = from
 piece_from (Full from to) = from
 
--- the first number behind it
+-- the first number after it
 abbrev pub piece_to : Piece → ℕ
 piece_to (Index id from to) = to
 piece_to (Full from to) = to

@@ -1,4 +1,4 @@
-//! The pieces of a range, and how each is read. Numbers are those of records; `to` is the first behind.
+//! The pieces of a range, and how each is read. Numbers are those of records; `to` is the first after.
 
 ghost use Rattle.std.specs.Prelude.{◌≡◌, ◌↔◌, IfSome, IsSome};
 
@@ -27,7 +27,7 @@ pub enum Piece {
 pub struct Stretch {
     /// The first.
     pub from: u32,
-    /// The first behind them.
+    /// The first after them.
     pub to: u32,
 }
 
@@ -59,7 +59,7 @@ impl Piece {
         }
     }
 
-    /// The first number behind it.
+    /// The first number after it.
     pub fn to(&self) -> u32
         ensures { result ≡ piece_to self.now }
     {

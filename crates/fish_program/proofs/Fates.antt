@@ -27,7 +27,7 @@ still P old None same h = tt
 still P None (Some files) same h = absurd cc
 still P (Some before) (Some files) same h = let is : before ≡ files = cc in subst P is h
 
--- a script that was read is that of the file also behind its run
+-- a script that was read is that of the file also after its run
 pub script_still : (file : List ℕ) (old new : Option Files) (script : List Block) → SameFiles old new
     → HasScript file old script → HasScript file new script
 script_still file old new script same h = record {

@@ -87,7 +87,7 @@ ran_fault (Some why) = run_fault why
 
 -- ---- where a step may end so
 
--- a step over the input may end by the input only where its faults rose, or by want of memory
+-- a step over the input may end by the input only where its faults rose, or since memory ran out
 abbrev pub IsStepFault : ℕ → ℕ → Fault → Type 0
 IsStepFault before now fault.Input = Rose before now
 IsStepFault before now fault.Memory = ⊤

@@ -5,8 +5,8 @@ use Rattle.std.specs.Prelude.{ℕ, Bool, true, false}
 abbrev pub longest_read : ℕ
 longest_read = 1048577
 
--- behind how many calls of the disk at most a crash leaves nothing but the store as it was found: behind the first,
--- or behind those that make one
+-- after how many calls of the disk at most a crash leaves nothing but the store as it was found: after the first,
+-- or after those that make one
 abbrev pub first_calls : Bool → ℕ
 first_calls true = 8
 first_calls false = 1

@@ -29,7 +29,7 @@ status_of fault.Input refused = 6
 status_of fault.Output refused = 7
 status_of fault.Memory refused = 8
 
--- a run ends by usage exactly where the words are no command, and with that cause; only want of memory may come before
+-- a run ends by usage exactly where the words are no command, and with that cause; only out of memory may come before
 abbrev pub IsUsage : List (List ℕ) → Fault → Type 0
 IsUsage line (fault.Usage cause) = command.IsCommand line (Err cause)
 IsUsage line (fault.Script refusal) = command.IsSomeCommand line

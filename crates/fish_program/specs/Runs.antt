@@ -27,7 +27,7 @@ pub record HasScript (file : List ℕ) (told : Option Files) (script : List Bloc
   pub of_file : IfSome told (λ files. files file ≡ Some text)
   pub is : IsScript text script
 
--- its first bytes are refused as a script for this, and not for want of memory
+-- its first bytes are refused as a script for this, and not since memory ran out
 pub record RefusesScript (file : List ℕ) (told : Option Files) (refusal : ScriptRefusal) : Type 0 where
   pub text : List ℕ
   pub of_file : IfSome told (λ files. ReadsFile longest_read file files text)
@@ -75,7 +75,7 @@ pub record IsWholeRun
   pub remains : o.remains ≡ Some log
   pub whole : IsWhole content images since moment mid disk' opened told script log old new o.refused
 
--- a log is left of a run that this fault stopped, or was lost for want of memory
+-- a log is left of a run that this fault stopped, or was lost since memory ran out
 abbrev pub IsLeft : {D : Type 0} → (D → Option (List ℕ)) → (D → List ℕ → Type 0) → (D → ℕ → List ℕ → Type 0) → (D → ℕ)
     → D → D → Opened → Option Files → List Block → Option (List ℕ) → Option (List ℕ) → RunFault → Option Remains
     → Type 0

@@ -56,7 +56,7 @@ module _ (image : List ℕ) (asked : Asked) where
       let same = once image o.body o.lines d.body d.lines o.commit d.commit o.has d.has o.told d.told in
       d.shape (subst (IsOtherShape asked) same.0 o.shape)
 
-  -- it is damaged behind one number of entries
+  -- it is damaged after one number of entries
   damaged_once : (n m : ℕ) → IsOpenCause image asked (Damaged n) → IsOpenCause image asked (Damaged m) → n ≡ m
   damaged_once n m (inl d) (inl e) = d.0 ∙ sym e.0
   damaged_once n m (inl d) (inr e) = absurd (d.1.none e.body e.lines e.commit e.has e.told)

@@ -53,7 +53,7 @@ pub fn open_store<D: Disk>(alloc: Global, asked: Asked, disk: &mut D) -> Result<
     open_synced(alloc, asked, disk)
 }
 
-/// The same behind a sync.
+/// The same after a sync.
 fn open_synced<D: Disk>(alloc: Global, asked: Asked, disk: &mut D) -> Result<Opened, OpenRefusal>
     requires shape { IsShape (asked_shape asked) }
     requires synced { (c : List ℕ) → D.images disk.old c → D.content disk.old ≡ Some c }

@@ -1,4 +1,4 @@
--- The row that a registration puts behind the others may be the log's next one.
+-- The row that a registration puts after the others may be the log's next one.
 use Rattle.std.proofs.Common.{◌≡◌, ℕ, ◌<◌, List, [], ◌∷◌, ◌++◌, None, count_by, get_or, length, map, refl, sym, ap}
 use Rattle.std.proofs.Common.{◌∙◌, subst, arith}
 use Rattle.std.proofs.lemmas.List.{length-map}

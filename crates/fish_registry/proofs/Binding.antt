@@ -1,4 +1,4 @@
--- An index begins at the count that was loaded behind the last lane.
+-- An index begins at the count that was loaded after the last lane.
 use Rattle.std.proofs.Common.{◌≡◌, ℕ, ◌≤◌, suc, List, ◌∷◌, Some, None, refl, sym, ap, ◌∙◌, subst, inl, inr, arith}
 use Rattle.fish_registry.proofs.Changing.{changes_from}
 use Rattle.fish_registry.specs.Knowing.{IsAwaited}
@@ -23,10 +23,10 @@ can_bound v w h = record { waits = h.waits; all = λ l above below. h.checked l 
 -- where the index begins may be stored
 pub can_from : (v u : View) (w : Waiting) (x from id : ℕ) → v.lane ≡ 1 → (h : IsAwaited v (at_lane w 17))
     → u ≡ after_load_bound v h.round x → from ≡ high x → id ≡ w.id → (o : Round) × CanStoreFrom u o from × (o.id ≡ id)
-can_from v u w x from id main h is same is_id = (
+can_from v u w x from id control h is same is_id = (
   record h.round { bound = Some (high x) },
   record {
-    main = ap (λ (z : View). z.lane) is ∙ main;
+    control = ap (λ (z : View). z.lane) is ∙ control;
     waits = ap (λ (z : View). z.round) is;
     bound = ap (λ (n : ℕ). Some n) (sym same);
   },
@@ -44,7 +44,7 @@ bound_at v u z w x from h is same more stored =
     let last : View = after_store_from (after_load_bound v h.round x) o from in
     let clock : z.clock ≡ last.clock = ap (λ (y : View). y.clock) whole in
     record {
-      changes = changes_from v z v.rows last.main_words None last.tail (high x) v.learned.version last.learned.words
+      changes = changes_from v z v.rows last.control_words None last.tail (high x) v.learned.version last.learned.words
           v.learned.opens last.clock whole (omega arith) (omega arith) (λ y m. inr m) (λ o m. m)
           (later_both v.clock _ last.clock (later_noted v.clock Tail x)
           (later_ticked (Rattle.fish_rule.specs.SpaceSteps.noted v.clock Tail x))) refl;
@@ -55,8 +55,8 @@ bound_at v u z w x from h is same more stored =
             (later_ticked (Rattle.fish_rule.specs.SpaceSteps.noted v.clock Tail x)));
         is = same;
       };
-      main_words = ap (λ (y : View). y.main_words) whole
-          ∙ ap (λ (n : ℕ). record { index = row_at n 0; value = suc from } ∷ v.main_words) h.id;
+      control_words = ap (λ (y : View). y.control_words) whole
+          ∙ ap (λ (n : ℕ). record { index = row_at n 0; value = suc from } ∷ v.control_words) h.id;
       read = subst (λ (ws : List RegistryWord). Among (record { index = row_at w.id 0; value = suc from }) ws)
           (sym (ap (λ (y : View). y.learned.words) whole))
           (inl (ap (λ (n : ℕ). let q : RegistryWord = record { index = row_at n 0; value = suc from } in q) h.id));

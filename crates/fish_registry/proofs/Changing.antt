@@ -24,11 +24,11 @@ use Rattle.fish_rule.specs.declared.view.Round.{Round}
 use Rattle.fish_rule.specs.declared.view.View.{View}
 
 -- a view that is another one but for these changes it
-pub changes_from : (v u : View) (rows : List Listed) (main_words : List RegistryWord) (round : Option Round)
+pub changes_from : (v u : View) (rows : List Listed) (control_words : List RegistryWord) (round : Option Round)
     (tail : Option Position) (count version : ℕ) (words : List RegistryWord) (opens : List Opens) (clock : Clock)
     → u ≡ record v {
       rows = rows;
-      main_words = main_words;
+      control_words = control_words;
       round = round;
       tail = tail;
       learned = record v.learned { count = count; version = version; words = words; opens = opens };
@@ -36,14 +36,14 @@ pub changes_from : (v u : View) (rows : List Listed) (main_words : List Registry
     } → v.learned.count ≤ count → v.learned.version ≤ version
     → ((x : RegistryWord) → Among x v.learned.words → Among x words)
     → ((o : Opens) → Among o v.learned.opens → Among o opens) → IsLater v.clock clock → clock.loads ≡ v.clock.loads → Changes v u
-changes_from v u rows main_words round tail count version words opens clock is counted reached read more later loads =
+changes_from v u rows control_words round tail count version words opens clock is counted reached read more later loads =
     let many : u.learned.count ≡ count = ap (λ (z : View). z.learned.count) is in
     let made : u.learned.version ≡ version = ap (λ (z : View). z.learned.version) is in
     let clock_is : u.clock ≡ clock = ap (λ (z : View). z.clock) is in
     record {
       frame = is ∙ (λ i. record v {
         rows = ap (λ (z : View). z.rows) (sym is) i;
-        main_words = ap (λ (z : View). z.main_words) (sym is) i;
+        control_words = ap (λ (z : View). z.control_words) (sym is) i;
         round = ap (λ (z : View). z.round) (sym is) i;
         tail = ap (λ (z : View). z.tail) (sym is) i;
         learned = record v.learned {
@@ -64,21 +64,21 @@ changes_from v u rows main_words round tail count version words opens clock is c
 
 -- and so does one that is another one but for its clock
 pub changes_stays : (v u : View) → Stays v u → Changes v u
-changes_stays v u h = changes_from v u v.rows v.main_words v.round v.tail v.learned.count v.learned.version v.learned.words
+changes_stays v u h = changes_from v u v.rows v.control_words v.round v.tail v.learned.count v.learned.version v.learned.words
     v.learned.opens u.clock h.frame (omega arith) (omega arith) (λ x m. m) (λ o m. m) h.clock h.loads
 
 -- or for the lanes that were looked at
 pub changes_looks : (v u : View) → Looks v u → Changes v u
-changes_looks v u h = changes_from v u v.rows v.main_words u.round v.tail v.learned.count v.learned.version v.learned.words
+changes_looks v u h = changes_from v u v.rows v.control_words u.round v.tail v.learned.count v.learned.version v.learned.words
     v.learned.opens u.clock h.frame (omega arith) (omega arith) (λ x m. m) (λ o m. m) h.clock h.loads
 
 -- a load of the tail changes a view
 pub changes_end : (v u : View) (x : ℕ) → u ≡ after_load_tail v x → v.learned.count ≤ high x → Changes v u
-changes_end v u x is more = changes_from v u v.rows v.main_words v.round (Some (record { number = high x; line = low x }))
+changes_end v u x is more = changes_from v u v.rows v.control_words v.round (Some (record { number = high x; line = low x }))
     (high x) v.learned.version v.learned.words (record { count = high x; numbers = [] } ∷ v.learned.opens)
     (noted v.clock Tail x) is more (omega arith) (λ y m. m) (λ o m. inr m) (later_noted v.clock Tail x) refl
 
--- one change behind another
+-- one change after another
 pub changes_both : (a b c : View) → Changes a b → Changes b c → Changes a c
 changes_both a b c e f =
     let p = e.count in
@@ -88,7 +88,7 @@ changes_both a b c e f =
     record {
       frame = f.frame ∙ ap (λ (z : View). record z {
         rows = c.rows;
-        main_words = c.main_words;
+        control_words = c.control_words;
         round = c.round;
         tail = c.tail;
         learned = record z.learned {

@@ -6,16 +6,16 @@ use Rattle.fish_layout.proofs.Clearing.{choose_first, choose_second}
 use Rattle.fish_registry.specs.Rows.{HasDrafted}
 use Rattle.fish_rule.proofs.laws.Clocks.{later_both, later_self, later_ticked}
 use Rattle.fish_rule.specs.RegistrySteps.{CanDefineWord, after_define_word}
-use Rattle.fish_rule.specs.Registry.{main_word, row_at}
+use Rattle.fish_rule.specs.Registry.{control_word, row_at}
 use Rattle.fish_rule.specs.declared.view.View.{View}
 
 -- the control pass may store the next one
 pub can_draft : (v u : View) (words : List ℕ) (position x : ℕ) → v.lane ≡ 1 → length v.rows < 256 → 2 ≤ position → position < 39
     → HasDrafted v words position u → CanDefineWord u (row_at (length v.rows) position) x
-can_draft v u words position x main room behind within h =
+can_draft v u words position x control room behind within h =
     let rows : v.rows ≡ u.rows = sym (ap (λ (z : View). z.rows) h.only) in
     record {
-      main = ap (λ (z : View). z.lane) h.only ∙ main;
+      control = ap (λ (z : View). z.lane) h.only ∙ control;
       next = inr (
         position,
         subst (λ ls. length ls < 256) rows room,
@@ -25,7 +25,7 @@ can_draft v u words position x main room behind within h =
       );
     }
 
--- and then the words up to the position behind it are stored
+-- and then the words up to the position after it are stored
 pub drafted_next : (v u : View) (words : List ℕ) (position x : ℕ) → 2 ≤ position → position < 39 → HasDrafted v words position u
     → x ≡ slice_index words position
     → HasDrafted v words (position + 1) (after_define_word u (row_at (length v.rows) position) x)
@@ -33,17 +33,17 @@ drafted_next v u words position x low high h is =
     let n : ℕ = length v.rows in
     let next : View = after_define_word u (row_at n position) x in
     let each : (i : ℕ) → 2 ≤ i → i < position + 1 → Dec (i ≡ position)
-    → main_word next.main_words (row_at n i) ≡ slice_index words i =
+    → control_word next.control_words (row_at n i) ≡ slice_index words i =
     λ i behind within d. elim d [
-      | yes e ↦ choose_first (ℕ_discrete (row_at n i) (row_at n position)) x (main_word u.main_words (row_at n i)) (ap (row_at n) e)
+      | yes e ↦ choose_first (ℕ_discrete (row_at n i) (row_at n position)) x (control_word u.control_words (row_at n i)) (ap (row_at n) e)
           ∙ is ∙ ap (slice_index words) (sym e)
-      | no ne ↦ choose_second (ℕ_discrete (row_at n i) (row_at n position)) x (main_word u.main_words (row_at n i))
+      | no ne ↦ choose_second (ℕ_discrete (row_at n i) (row_at n position)) x (control_word u.control_words (row_at n i))
           (λ same. ne (omega arith)) ∙ h.row i behind (omega arith)
     ] in
     record {
-      only = ap (λ (z : View). record z { main_words = next.main_words; clock = next.clock }) h.only;
+      only = ap (λ (z : View). record z { control_words = next.control_words; clock = next.clock }) h.only;
       row = λ i behind within. each i behind within (ℕ_discrete i position);
-      bounds = λ m i small. choose_second (ℕ_discrete (row_at m i) (row_at n position)) x (main_word u.main_words (row_at m i))
+      bounds = λ m i small. choose_second (ℕ_discrete (row_at m i) (row_at n position)) x (control_word u.control_words (row_at m i))
           (λ same. omega arith) ∙ h.bounds m i small;
       clock = later_both v.clock u.clock next.clock h.clock (later_ticked u.clock);
       loads = h.loads;

@@ -21,7 +21,7 @@ use Rattle.fish_registry.specs.Rows.{HasEnded, HasRegistered, HasTailed, MayEnd}
 use Rattle.fish_registry.specs.declared.registrar.Registrar.{Registrar}
 use Rattle.fish_registry.specs.declared.registrar.Waiting.{Waiting}
 use Rattle.fish_rule.proofs.laws.Versions.{drafted_here, set_here}
-use Rattle.fish_rule.specs.Registry.{main_word, row_at}
+use Rattle.fish_rule.specs.Registry.{control_word, row_at}
 use Rattle.fish_rule.specs.Table.{boundaries_of, first_view}
 use Rattle.fish_rule.specs.Views.{Among}
 use Rattle.fish_rule.specs.declared.view.RegistryWord.{RegistryWord}
@@ -52,15 +52,15 @@ rereads_same v u same x m = subst (λ (z : List RegistryWord). Among x z) (sym s
 
 -- with the same lane, definitions, boundaries and registration, and no smaller count, all stays known
 pub knows_rows : (v u : View) (rows : List CatRow) (waiting : Option Waiting) → u.lane ≡ v.lane → u.rows ≡ v.rows
-    → u.main_words ≡ v.main_words → u.round ≡ v.round → v.learned.count ≤ u.learned.count → Rereads v u
+    → u.control_words ≡ v.control_words → u.round ≡ v.round → v.learned.count ≤ u.learned.count → Rereads v u
     → KnowsRows v rows waiting → KnowsRows u rows waiting
-knows_rows v u rows waiting lane same main_words round count words h = record {
-  main = lane ∙ h.main;
+knows_rows v u rows waiting lane same control_words round count words h = record {
+  control = lane ∙ h.control;
   listed = h.listed ∙ sym same;
   bounds = λ id row there. let b = h.bounds id row there in
       record {
-        from = ap (λ (ws : List RegistryWord). main_word ws (row_at id 0)) main_words ∙ b.from;
-        to = ap (λ (ws : List RegistryWord). main_word ws (row_at id 1)) main_words ∙ b.to;
+        from = ap (λ (ws : List RegistryWord). control_word ws (row_at id 0)) control_words ∙ b.from;
+        to = ap (λ (ws : List RegistryWord). control_word ws (row_at id 1)) control_words ∙ b.to;
         read_from = λ n is. words _ (b.read_from n is);
         read_to = λ n is. words _ (b.read_to n is);
         counted = λ n is. (let most = b.counted n is in omega arith);
@@ -71,14 +71,14 @@ knows_rows v u rows waiting lane same main_words round count words h = record {
 }
 
 pub knows_on : KnowsOn
-knows_on v u r lane same main_words round learns h =
-    knows_rows v u r.catalog r.waiting lane same main_words round learns.count learns.words h
+knows_on v u r lane same control_words round learns h =
+    knows_rows v u r.catalog r.waiting lane same control_words round learns.count learns.words h
 
 -- so it does where nothing but the clock changed
 pub knows_stays : (v u : View) (rows : List CatRow) (waiting : Option Waiting) → Stays v u → KnowsRows v rows waiting
     → KnowsRows u rows waiting
 knows_stays v u rows waiting stays h = knows_rows v u rows waiting (ap (λ (z : View). z.lane) stays.frame)
-    (ap (λ (z : View). z.rows) stays.frame) (ap (λ (z : View). z.main_words) stays.frame)
+    (ap (λ (z : View). z.rows) stays.frame) (ap (λ (z : View). z.control_words) stays.frame)
     (ap (λ (z : View). z.round) stays.frame)
     (let e = ap (λ (z : View). z.learned.count) stays.frame in omega arith)
     (rereads_same v u (ap (λ (z : View). z.learned.words) stays.frame)) h
@@ -87,7 +87,7 @@ knows_stays v u rows waiting stays h = knows_rows v u rows waiting (ap (λ (z : 
 pub knows_tailed : (v u : View) (rows : List CatRow) (waiting : Option Waiting) (n : ℕ) → HasTailed v u n
     → KnowsRows v rows waiting → KnowsRows u rows waiting
 knows_tailed v u rows waiting n tailed h = knows_rows v u rows waiting (ap (λ (z : View). z.lane) tailed.view)
-    (ap (λ (z : View). z.rows) tailed.view) (ap (λ (z : View). z.main_words) tailed.view)
+    (ap (λ (z : View). z.rows) tailed.view) (ap (λ (z : View). z.control_words) tailed.view)
     (ap (λ (z : View). z.round) tailed.view)
     (let e = ap (λ (z : View). z.learned.count) tailed.view in let more = tailed.more in let is = tailed.is in omega arith)
     (rereads_same v u (ap (λ (z : View). z.learned.words) tailed.view)) h
@@ -119,16 +119,16 @@ knows_first r settled k same begun =
     let v : View = first_view k in
     let rows : List CatRow = r.catalog in
     record {
-      main = refl;
+      control = refl;
       listed = ap (map listed_of) (sym same);
       bounds = λ id row there.
           let at = ap (λ (xs : List CatRow). slice_get xs id) same ∙ there in
           let position : 0 + id ≡ id = omega arith in
           let h = row_has (HasBegunBy k.number) rows begun id row there in
           record {
-            from = ap (λ (n : ℕ). main_word (boundaries_of 0 k.rows.value) (row_at n 0)) (sym position)
+            from = ap (λ (n : ℕ). control_word (boundaries_of 0 k.rows.value) (row_at n 0)) (sym position)
                 ∙ drafted_here 0 id 0 k.rows.value row at (omega arith) ∙ from_is row;
-            to = ap (λ (n : ℕ). main_word (boundaries_of 0 k.rows.value) (row_at n 1)) (sym position)
+            to = ap (λ (n : ℕ). control_word (boundaries_of 0 k.rows.value) (row_at n 1)) (sym position)
                 ∙ drafted_here 0 id 1 k.rows.value row at (omega arith) ∙ to_is row;
             read_from = λ n is. subst (λ (m : ℕ). Among (record { index = row_at m 0; value = suc n }) v.learned.words) position
                 (set_here 0 id 0 n k.rows.value row at (omega arith) (from_is row ∙ ap bound_word is));
@@ -145,7 +145,7 @@ knows_first r settled k same begun =
 
 -- ---- a registration
 
--- the new row is behind the others
+-- the new row is after the others
 new_there : (rows : List CatRow) (row : CatRow) → slice_get (rows ++ row ∷ []) (length rows) ≡ Some row
 new_there [] row = refl
 new_there (x ∷ rows) row = new_there rows row
@@ -158,14 +158,14 @@ listed_more (x ∷ rows) row = ap (λ ls. listed_of x ∷ ls) (listed_more rows 
 -- no registration waited, and now that of the new row does
 pub knows_begun : (v u : View) (rows : List CatRow) (name def : List ℕ) (id version : ℕ) → KnowsRows v rows None
     → id ≡ length rows → version ≡ v.learned.version → HasRegistered v (new_row (length rows) name def) u
-    → ((n i : ℕ) → length v.rows ≤ n → n < 256 → i < 2 → main_word v.main_words (row_at n i) ≡ 0) → length rows < 256
+    → ((n i : ℕ) → length v.rows ≤ n → n < 256 → i < 2 → control_word v.control_words (row_at n i) ≡ 0) → length rows < 256
     → KnowsRows u (rows ++ new_row (length rows) name def ∷ []) (Some (record { id = id; version = version + 1; lane = 2 }))
 knows_begun v u rows name def id version h is_id is_version made unset room =
     let row : CatRow = new_row (length rows) name def in
     let size : length v.rows ≡ length rows = ap (λ (ls : List Listed). length ls) (sym h.listed)
     ∙ length-map rows listed_of in
     record {
-      main = ap (λ (z : View). z.lane) made.changes.frame ∙ h.main;
+      control = ap (λ (z : View). z.lane) made.changes.frame ∙ h.control;
       listed = listed_more rows row ∙ ap (λ ls. ls ++ listed_of row ∷ []) h.listed ∙ sym made.rows;
       bounds = λ n b there. elim (push_cases rows row n b there) [
         | inl old ↦ (let o = h.bounds n b old in
@@ -213,15 +213,15 @@ knows_begun v u rows name def id version h is_id is_version made unset room =
 pub knows_older : (v u : View) (rows : List CatRow) (w : Waiting) (lane : ℕ) → KnowsRows v rows (Some w) → Looks v u
     → IsAwaited u (at_lane w lane) → KnowsRows u rows (Some (at_lane w lane))
 knows_older v u rows w lane h looks awaited = record {
-  main = ap (λ (z : View). z.lane) looks.frame ∙ h.main;
+  control = ap (λ (z : View). z.lane) looks.frame ∙ h.control;
   listed = h.listed ∙ sym (ap (λ (z : View). z.rows) looks.frame);
   bounds = λ id row there. let b = h.bounds id row there in
-      let main_words = ap (λ (z : View). z.main_words) looks.frame in
+      let control_words = ap (λ (z : View). z.control_words) looks.frame in
       let count = ap (λ (z : View). z.learned.count) looks.frame in
       let words = ap (λ (z : View). z.learned.words) looks.frame in
       record {
-        from = ap (λ (ws : List RegistryWord). main_word ws (row_at id 0)) main_words ∙ b.from;
-        to = ap (λ (ws : List RegistryWord). main_word ws (row_at id 1)) main_words ∙ b.to;
+        from = ap (λ (ws : List RegistryWord). control_word ws (row_at id 0)) control_words ∙ b.from;
+        to = ap (λ (ws : List RegistryWord). control_word ws (row_at id 1)) control_words ∙ b.to;
         read_from = λ n is. rereads_same v u words _ (b.read_from n is);
         read_to = λ n is. rereads_same v u words _ (b.read_to n is);
         counted = λ n is. (let most = b.counted n is in omega arith);
@@ -235,22 +235,22 @@ knows_older v u rows w lane h looks awaited = record {
 pub knows_bound : (v u z : View) (rows : List CatRow) (w : Waiting) (from : ℕ) → KnowsRows v rows (Some w) → Looks v u
     → HasBound u w z from → KnowsRows z (with_from rows w.id from) None
 knows_bound v u z rows w from h looks bound =
-    let draft_u = ap (λ (y : View). y.main_words) looks.frame in
+    let draft_u = ap (λ (y : View). y.control_words) looks.frame in
     let word : RegistryWord = record { index = row_at w.id 0; value = suc from } in
-    let stored : z.main_words ≡ word ∷ v.main_words = bound.main_words ∙ ap (λ ws. word ∷ ws) draft_u in
-    let here : (p : ℕ) → p ≡ row_at w.id 0 → main_word z.main_words p ≡ suc from =
-    λ p e. ap (λ (ws : List RegistryWord). main_word ws p) stored
-    ∙ choose_first (ℕ_discrete p (row_at w.id 0)) (suc from) (main_word v.main_words p) e in
-    let other : (p : ℕ) → p ≢ row_at w.id 0 → main_word z.main_words p ≡ main_word v.main_words p =
-    λ p ne. ap (λ (ws : List RegistryWord). main_word ws p) stored
-    ∙ choose_second (ℕ_discrete p (row_at w.id 0)) (suc from) (main_word v.main_words p) ne in
+    let stored : z.control_words ≡ word ∷ v.control_words = bound.control_words ∙ ap (λ ws. word ∷ ws) draft_u in
+    let here : (p : ℕ) → p ≡ row_at w.id 0 → control_word z.control_words p ≡ suc from =
+    λ p e. ap (λ (ws : List RegistryWord). control_word ws p) stored
+    ∙ choose_first (ℕ_discrete p (row_at w.id 0)) (suc from) (control_word v.control_words p) e in
+    let other : (p : ℕ) → p ≢ row_at w.id 0 → control_word z.control_words p ≡ control_word v.control_words p =
+    λ p ne. ap (λ (ws : List RegistryWord). control_word ws p) stored
+    ∙ choose_second (ℕ_discrete p (row_at w.id 0)) (suc from) (control_word v.control_words p) ne in
     let count_u = ap (λ (y : View). y.learned.count) looks.frame in
     let more = bound.changes.count in
     let count = bound.count in
     let reread : Rereads v z =
     λ x m. bound.changes.words x (rereads_same v u (ap (λ (y : View). y.learned.words) looks.frame) x m) in
     record {
-      main = ap (λ (y : View). y.lane) bound.changes.frame ∙ ap (λ (y : View). y.lane) looks.frame ∙ h.main;
+      control = ap (λ (y : View). y.lane) bound.changes.frame ∙ ap (λ (y : View). y.lane) looks.frame ∙ h.control;
       listed = listed_with_from rows w.id from ∙ h.listed ∙ sym (ap (λ (y : View). y.rows) looks.frame) ∙ sym bound.rows;
       bounds = λ n b there. let was = with_from_at rows w.id from n b there in
           let o = h.bounds n was.0 was.1 in
@@ -354,17 +354,17 @@ knows_ended v u rows id to row listing h there ended =
     (ap (λ (ls : List Listed). slice_get ls n) (sym h.listed) ∙ listed_there rows n r at) in
     let up = ended.changes.count in
     record {
-      main = ap (λ (z : View). z.lane) ended.changes.frame ∙ h.main;
+      control = ap (λ (z : View). z.lane) ended.changes.frame ∙ h.control;
       listed = listed_with_to rows id to ids (slice_get_within rows id row there) ∙ ap (ended_at id) h.listed
           ∙ sym ended.rows;
       bounds = λ n b at. let was = with_to_at rows id to n b at in
           let o = h.bounds n was.0 was.1 in
           elim was.2 [
             | inl same ↦ record {
-              from = ap (λ (m : ℕ). main_word u.main_words (row_at m 0)) same.0 ∙ ended.from
-                  ∙ ap (λ (m : ℕ). main_word v.main_words (row_at m 0)) (sym same.0) ∙ o.from
+              from = ap (λ (m : ℕ). control_word u.control_words (row_at m 0)) same.0 ∙ ended.from
+                  ∙ ap (λ (m : ℕ). control_word v.control_words (row_at m 0)) (sym same.0) ∙ o.from
                   ∙ ap (λ (r : CatRow). bound_word r.from) same.1;
-              to = ap (λ (m : ℕ). main_word u.main_words (row_at m 1)) same.0 ∙ ended.end
+              to = ap (λ (m : ℕ). control_word u.control_words (row_at m 1)) same.0 ∙ ended.end
                   ∙ ap (λ (r : CatRow). bound_word r.to) same.1;
               read_from = λ m is. ended.changes.words _ (o.read_from m (ap (λ (r : CatRow). r.from) same.1 ∙ is));
               read_to = λ m is. (let e : to ≡ m = same_Some to m (ap (λ (r : CatRow). r.to) same.1 ∙ is) in

@@ -16,11 +16,11 @@ use Rattle.fish_registry.specs.Rows.{HasDrafted, HasRegistered, MayMake, MayRegi
 use Rattle.fish_rule.proofs.laws.Clocks.{later_both, later_ticked}
 use Rattle.fish_rule.specs.RegistrySteps.{CanRaiseVersion, CanDefineWord, after_raise_version, after_define_word}
 use Rattle.fish_rule.specs.RegistrySteps.{next_operation}
-use Rattle.fish_rule.specs.Registry.{AreRowWords, IsOperation, main_word, made, op_at, row_at, row_in, row_spelled}
+use Rattle.fish_rule.specs.Registry.{AreRowWords, IsOperation, control_word, made, op_at, row_at, row_in, row_spelled}
 use Rattle.fish_rule.specs.declared.view.Round.{Round}
 use Rattle.fish_rule.specs.declared.view.View.{View}
 
--- the words of an active row behind its boundaries are those of another one of its name and text
+-- the words of an active row after its boundaries are those of another one of its name and text
 words_else : (row other : CatRow) → row.name ≡ other.name → row.def ≡ other.def → is_active row ≡ is_active other
     → (i : ℕ) → 2 ≤ i → row_word row i ≡ row_word other i
 unfolding row_word
@@ -39,11 +39,11 @@ pub record IsDrafted (v : View) (row : CatRow) (version id : ℕ) (u : View) : T
   pub writable : IsWritable row
   pub words : List ℕ
   pub says : (i : ℕ) → i < 39 → slice_index words i ≡ row_word row i
-  pub main_word : HasDrafted v words 39 u
+  pub control_word : HasDrafted v words 39 u
 
 module _ (v : View) (row : CatRow) (version id : ℕ) (u : View) (is : IsDrafted v row version id u) where
-  only : u ≡ record v { main_words = u.main_words; clock = u.clock }
-  only = is.main_word.only
+  only : u ≡ record v { control_words = u.control_words; clock = u.clock }
+  only = is.control_word.only
 
   reached : u.learned.version ≡ version
   reached = ap (λ (z : View). z.learned.version) only ∙ sym is.make.is
@@ -54,7 +54,7 @@ module _ (v : View) (row : CatRow) (version id : ℕ) (u : View) (is : IsDrafted
   -- the operation may be stored
   pub can_store : CanDefineWord u (op_at (suc version)) (256 + id)
   can_store = record {
-    main = ap (λ (z : View). z.lane) only ∙ is.make.main;
+    control = ap (λ (z : View). z.lane) only ∙ is.make.control;
     next = inl (
       (let few = is.make.few in let e = reached in omega arith),
       (let e = reached in omega arith),
@@ -67,14 +67,14 @@ module _ (v : View) (row : CatRow) (version id : ℕ) (u : View) (is : IsDrafted
 
   -- the words that stand in the next row
   abbrev in_row : ℕ → ℕ
-  in_row = row_in (main_word behind.main_words) (length v.rows)
+  in_row = row_in (control_word behind.control_words) (length v.rows)
 
   in_row_is : (i : ℕ) → 2 ≤ i → i < 39 → in_row i ≡ row_word row i
   in_row_is i low high =
       let few = is.make.few in
       choose_second (ℕ_discrete (row_at (length v.rows) i) (op_at (suc version))) (256 + id)
-      (main_word u.main_words (row_at (length v.rows) i)) (λ same. omega arith)
-      ∙ is.main_word.row i low high ∙ is.says i high
+      (control_word u.control_words (row_at (length v.rows) i)) (λ same. omega arith)
+      ∙ is.control_word.row i low high ∙ is.says i high
 
   listed : (n : ℕ) → listed_in in_row n true ≡ record { id = n; name = row.name; def = row.def; active = true }
   listed n =
@@ -87,7 +87,7 @@ module _ (v : View) (row : CatRow) (version id : ℕ) (u : View) (is : IsDrafted
   operation : next_operation behind ≡ 256 + length v.rows
   operation =
       choose_first (ℕ_discrete (op_at (suc u.learned.version)) (op_at (suc version))) (256 + id)
-      (main_word u.main_words (op_at (suc u.learned.version))) (let e = reached in omega arith)
+      (control_word u.control_words (op_at (suc u.learned.version))) (let e = reached in omega arith)
       ∙ ap (λ (n : ℕ). 256 + n) (is.is_id ∙ is.may.id)
 
   may_register : IsNew v.rows (name_in in_row) (text_in in_row)
@@ -97,7 +97,7 @@ module _ (v : View) (row : CatRow) (version id : ℕ) (u : View) (is : IsDrafted
   active : is_active row ≡ true
   active = ap (λ (t : Option ℕ). is_none t) is.may.active
 
-  -- behind the boundaries the words are those of a row of this name and text
+  -- after the boundaries the words are those of a row of this name and text
   row_words : AreRowWords in_row
   row_words i low few =
       let name : name_in in_row ≡ row.name = ap (λ (l : Listed). l.name) (listed 0) in
@@ -110,17 +110,17 @@ module _ (v : View) (row : CatRow) (version id : ℕ) (u : View) (is : IsDrafted
   -- the version may be raised
   pub can_raise : CanRaiseVersion behind
   can_raise = record {
-    main = ap (λ (z : View). z.lane) only ∙ is.make.main;
+    control = ap (λ (z : View). z.lane) only ∙ is.make.control;
     outside = ap (λ (z : View). z.epoch) only ∙ is.make.outside;
     few = (let few = is.make.few in let e = reached in omega arith);
     settled = ap (λ (z : View). z.round) only ∙ is.make.settled;
-    operation = subst (λ (ls : List Listed). IsOperation (row_in (main_word behind.main_words) (length ls)) ls
+    operation = subst (λ (ls : List Listed). IsOperation (row_in (control_word behind.control_words) (length ls)) ls
         (next_operation behind)) (sym same_rows) (inl (operation, may_register, row_words));
     ends = λ n e. (let o = operation in let few = room in absurd (omega arith));
   }
 
   -- and then the row is one of the definitions
-  made_rows : made (main_word behind.main_words) (next_operation behind) v.rows
+  made_rows : made (control_word behind.control_words) (next_operation behind) v.rows
       ≡ v.rows ++ record { id = row.id; name = row.name; def = row.def; active = true } ∷ []
   made_rows =
       let few = room in
@@ -150,25 +150,25 @@ module _ (v : View) (row : CatRow) (version id : ℕ) (u : View) (is : IsDrafted
   pub registered : HasRegistered v row (after_raise_version behind)
   registered =
       let u' : View = after_raise_version behind in
-      let h = is.main_word in
+      let h = is.control_word in
       record {
-        changes = changes_from v u' u'.rows u'.main_words u'.round v.tail v.learned.count (suc v.learned.version)
+        changes = changes_from v u' u'.rows u'.control_words u'.round v.tail v.learned.count (suc v.learned.version)
             v.learned.words v.learned.opens u'.clock
             (ap (λ (z : View). record z {
               rows = u'.rows;
-              main_words = u'.main_words;
+              control_words = u'.control_words;
               round = u'.round;
               learned = record z.learned { version = suc z.learned.version };
               clock = u'.clock;
             }) only) (omega arith) (omega arith) (λ x m. m) (λ o m. m)
             (later_both v.clock u.clock u'.clock h.clock
             (later_both u.clock behind.clock u'.clock (later_ticked u.clock) (later_ticked behind.clock))) h.loads;
-        rows = ap (made (main_word behind.main_words) (next_operation behind)) same_rows ∙ made_rows;
+        rows = ap (made (control_word behind.control_words) (next_operation behind)) same_rows ∙ made_rows;
         version = ap (λ (z : View). suc z.learned.version) only;
         count = ap (λ (z : View). z.learned.count) only;
         round = waits;
         tail = ap (λ (z : View). z.tail) only;
         bounds = λ n i small. let few = is.make.few in
-            choose_second (ℕ_discrete (row_at n i) (op_at (suc version))) (256 + id) (main_word u.main_words (row_at n i))
+            choose_second (ℕ_discrete (row_at n i) (op_at (suc version))) (256 + id) (control_word u.control_words (row_at n i))
             (λ same. omega arith) ∙ h.bounds n i small;
       }

@@ -14,7 +14,7 @@ use Rattle.fish_rule.specs.declared.view.View.{View}
 pub record Changes (v u : View) : Type 0 where
   pub frame : u ≡ record v {
     rows = u.rows;
-    main_words = u.main_words;
+    control_words = u.control_words;
     round = u.round;
     tail = u.tail;
     learned = record v.learned {

@@ -7,7 +7,7 @@ use Rattle.fish_catalog.specs.declared.row.CatRow.{CatRow}
 use Rattle.fish_registry.specs.declared.registrar.Registrar.{Registrar}
 use Rattle.fish_registry.specs.declared.registrar.Waiting.{Waiting}
 use Rattle.fish_rule.specs.Logs.{Learns}
-use Rattle.fish_rule.specs.Registry.{main_word, row_at}
+use Rattle.fish_rule.specs.Registry.{control_word, row_at}
 use Rattle.fish_rule.specs.Table.{first_view}
 use Rattle.fish_rule.specs.Views.{Among}
 use Rattle.fish_rule.specs.declared.view.Key.{Key}
@@ -47,15 +47,15 @@ IsRead v p bound = (n : ℕ) → bound ≡ Some n → Among (record { index = p;
 
 -- the boundaries of the row with an id are those that the pass stored last, and it has read them
 pub record HasBounds (v : View) (id : ℕ) (row : CatRow) : Type 0 where
-  pub from : main_word v.main_words (row_at id 0) ≡ bound_word row.from
-  pub to : main_word v.main_words (row_at id 1) ≡ bound_word row.to
+  pub from : control_word v.control_words (row_at id 0) ≡ bound_word row.from
+  pub to : control_word v.control_words (row_at id 1) ≡ bound_word row.to
   pub read_from : IsRead v (row_at id 0) row.from
   pub read_to : IsRead v (row_at id 1) row.to
   pub counted : (n : ℕ) → row.from ≡ Some n → n ≤ v.learned.count
 
 -- these rows, and the registration that waits, are what the control pass knows
 pub record KnowsRows (v : View) (rows : List CatRow) (waiting : Option Waiting) : Type 0 where
-  pub main : v.lane ≡ 1
+  pub control : v.lane ≡ 1
   pub listed : map listed_of rows ≡ v.rows
   pub bounds : (id : ℕ) (row : CatRow) → slice_get rows id ≡ Some row → HasBounds v id row
   pub begun : (id : ℕ) (row : CatRow) → slice_get rows id ≡ Some row → row.from ≡ None → IsWaitingFor waiting id
@@ -79,5 +79,6 @@ KnowsFirst r = (k : Key) → k.rows.value ≡ r.catalog → All (HasBegunBy k.nu
 -- what a registrar keeps stays what its pass knows, whatever else that pass does: its lane, definitions, boundaries and
 -- the registration that waits are the same, and it has learned no less
 abbrev pub KnowsOn : Type 0
-KnowsOn = (v u : View) (r : Registrar) → u.lane ≡ v.lane → u.rows ≡ v.rows → u.main_words ≡ v.main_words → u.round ≡ v.round
+KnowsOn = (v u : View) (r : Registrar) → u.lane ≡ v.lane → u.rows ≡ v.rows → u.control_words ≡ v.control_words
+    → u.round ≡ v.round
     → Learns v u → Knows v r → Knows u r

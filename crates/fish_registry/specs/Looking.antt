@@ -31,7 +31,7 @@ pub record IsOlder (v : View) (w : Waiting) (u : View) (o : Older) : Type 0 wher
 pub record HasBound (v : View) (w : Waiting) (u : View) (from : ℕ) : Type 0 where
   pub changes : Changes v u
   pub counted : HasCounted v u from
-  pub main_words : u.main_words ≡ record { index = row_at w.id 0; value = suc from } ∷ v.main_words
+  pub control_words : u.control_words ≡ record { index = row_at w.id 0; value = suc from } ∷ v.control_words
   pub read : Among (record { index = row_at w.id 0; value = suc from }) u.learned.words
   pub rows : u.rows ≡ v.rows
   pub round : u.round ≡ None

@@ -44,7 +44,7 @@ pub(crate) fn first_older(log: &Log, pass: &mut Pass, waiting: Waiting) -> Optio
 /// The index of a registration begins at the count of the log, once all lanes were looked at.
 pub(crate) fn bind(log: &Log, pass: &mut Pass, waiting: Waiting) -> u32
     requires pass { IsPassOf log.now pass.old }
-    requires main { (view pass.old).lane ≡ 1 }
+    requires control { (view pass.old).lane ≡ 1 }
     requires clear { IsAwaited (view pass.old) (at_lane waiting 17) }
     ensures pass { IsPassOf log.now pass.new }
     ensures bound { HasBound (view pass.old) waiting (view pass.new) result }

@@ -157,7 +157,7 @@ impl Registrar {
         }
     }
 
-    /// Ends the active definition with a name: its index ends at the count of the log, and behind the version that this
+    /// Ends the active definition with a name: its index ends at the count of the log, and after the version that this
     /// makes no record has its keys. Takes no memory.
     ///
     /// # Errors
@@ -221,7 +221,7 @@ impl Registrar {
     }
 }
 
-/// Puts a definition behind the rows, active and without boundaries.
+/// Puts a definition after the rows, active and without boundaries.
 fn add_row(catalog: &mut Catalog, name: &Text, def: &Def) -> Result<u16, RegRefusal>
     requires name { IsName name.now }
     requires def { IsSaid def.now }

@@ -26,7 +26,7 @@ pub(crate) fn register_row(log: &Log, pass: &mut Pass, row: &CatRow, version: u6
     raise_version(log, pass, version);
 }
 
-/// Stores the words of a row as those of the next one, behind its boundaries, which stay none.
+/// Stores the words of a row as those of the next one, after its boundaries, which stay none.
 fn define_row(log: &Log, pass: &mut Pass, id: u64, words: &[u64; ROW_WORDS])
     requires pass { IsPassOf log.now pass.old }
     requires control { (view pass.old).lane ≡ 1 }

@@ -37,7 +37,7 @@ PassesPart_sent old new waiting part = (
   },
 )
 
--- one text behind the other, in two steps
+-- one text after the other, in two steps
 pub Passes_trans : (old mid new : Option (List ℕ)) (waiting between left first second : List ℕ)
     → Passes old mid waiting between first → Passes mid new between left second
     → Passes old new waiting left (first ++ second)
@@ -49,7 +49,7 @@ Passes_trans old mid new waiting between left first second a b = record {
       ∙ ap (λ t. t ++ second) a.all ∙ append_assoc waiting first second;
 }
 
--- what stands behind a text doesn't count
+-- what follows a text doesn't count
 pub PassesPart_front : (old new : Option (List ℕ)) (waiting text behind : List ℕ) → PassesPart old new waiting text
     → PassesPart old new waiting (text ++ behind)
 PassesPart_front old new waiting text behind part = (
@@ -99,7 +99,7 @@ PassesPart_on old mid new waiting between text a part =
 
 -- ---- lists, element by element
 
--- the texts of the elements up to one of them, and then of those behind it
+-- the texts of the elements up to one of them, and then of those after it
 take_more : {X : Type 0} (f : X → List ℕ) (xs : List X) (i : ℕ) (x : X) → i < length xs → x ≡ get_or xs i x
     → flat_map f (take i xs) ++ f x ≡ flat_map f (take (i + 1) xs)
 take_more f xs i x h e = grind (arith, common_steps)
@@ -127,7 +127,7 @@ PassesPart_more f xs i x old mid new waiting between h e a part =
     subst (PassesPart old new waiting) (take_front f xs (i + 1))
     (PassesPart_front old new waiting (flat_map f (take (i + 1) xs)) (flat_map f (drop (i + 1) xs)) (part.0, more))
 
--- behind the last element
+-- after the last element
 pub PassesPart_end : {X : Type 0} (f : X → List ℕ) (xs : List X) (i : ℕ) (old mid new : Option (List ℕ))
     (waiting between : List ℕ) → length xs ≤ i → Passes old mid waiting between (flat_map f (take i xs))
     → GainedPart mid new between → PassesPart old new waiting (flat_map f xs)

@@ -46,11 +46,11 @@ rows_in (item.Select rows count refused) = rows
 rows_in (item.Scanned name value from to opens rows version) = rows
 rows_in _ = []
 
--- the text of an item: its rows stand behind all else
+-- the text of an item: its rows come after all else
 abbrev pub item_text : Item → List ℕ
 item_text item = head_text item ++ rows_text (rows_in item)
 
--- the text of a report is that of its items, one behind the other
+-- the text of a report is that of its items, one after the other
 abbrev pub report_text : List Item → List ℕ
 report_text items = flat_map item_text items
 

@@ -26,7 +26,7 @@ pub(crate) fn rows_of(item: &Item) -> &[Row]
     }
 }
 
-/// Puts the text of an item but for its rows behind the others.
+/// Puts the text of an item but for its rows after the others.
 pub(crate) fn push_head(alloc: Global, text: &mut String, item: &Item) -> Result<(), AllocError>
     ensures { OnOk result (string_bytes text.new ≡ string_bytes text.old ++ head_text item.now) }
 {
@@ -37,7 +37,7 @@ pub(crate) fn push_head(alloc: Global, text: &mut String, item: &Item) -> Result
     }
 }
 
-/// Puts the text of what was done behind the others, but for its rows.
+/// Puts the text of what was done after the others, but for its rows.
 fn push_done(alloc: Global, text: &mut String, item: &Item) -> Result<(), AllocError>
     requires { is_refusal item.now ≡ false }
     ensures { OnOk result (string_bytes text.new ≡ string_bytes text.old ++ head_text item.now) }
@@ -92,7 +92,7 @@ fn push_done(alloc: Global, text: &mut String, item: &Item) -> Result<(), AllocE
     }
 }
 
-/// Puts the text of what was refused behind the others.
+/// Puts the text of what was refused after the others.
 fn push_refusal(alloc: Global, text: &mut String, item: &Item) -> Result<(), AllocError>
     requires { is_refusal item.now ≡ true }
     ensures { OnOk result (string_bytes text.new ≡ string_bytes text.old ++ head_text item.now) }

@@ -2,7 +2,7 @@
 //! and `End`.
 //!
 //! A field that says so is kept beside what is printed, for what is claimed of a whole report. Numbers are those of
-//! records, and `to` is the first behind a range.
+//! records, and `to` is the first after a range.
 
 ghost use Rattle.std.specs.Prelude.{◌≡◌};
 
@@ -111,7 +111,7 @@ pub enum Item {
         value: Value,
         /// The first number of the range.
         from: u32,
-        /// The first number behind the range.
+        /// The first number after the range.
         to: u32,
         /// The open numbers of the range, ascending.
         opens: Numbers,
@@ -128,7 +128,7 @@ pub enum Item {
         value: Value,
         /// The first number of the range.
         from: u32,
-        /// The first number behind the range.
+        /// The first number after the range.
         to: u32,
         /// The pieces of the range, newest first.
         plan: Plan,
@@ -251,7 +251,7 @@ pub enum ScanCause {
     NotCovered {
         /// The first of them.
         from: u32,
-        /// The first behind them.
+        /// The first after them.
         to: u32,
     },
 }

@@ -43,7 +43,7 @@ fn is_bare_byte(b: u8) -> bool
     0x21 <= b && b <= 0x7e && b != b'"' && b != b'#'
 }
 
-/// Puts how many were stored and refused behind the others, and ends the line.
+/// Puts how many were stored and refused after the others, and ends the line.
 #[tactic(auto, unfolding(crate::specs::Parts::counts_text))]
 pub(crate) fn push_counts(text: &mut String, stored: u32, refused: u32) -> Result<(), AllocError>
     ensures { OnOk result
@@ -52,7 +52,7 @@ pub(crate) fn push_counts(text: &mut String, stored: u32, refused: u32) -> Resul
     write!(text, " stored {stored} refused {refused}\n")
 }
 
-/// Puts numbers behind the others, with a comma between each two.
+/// Puts numbers after the others, with a comma between each two.
 pub(crate) fn push_numbers(text: &mut String, numbers: &[u32]) -> Result<(), AllocError>
     ensures { OnOk result
         (string_bytes text.new ≡ string_bytes text.old ++ numbers_text numbers.now) }
@@ -66,7 +66,7 @@ pub(crate) fn push_numbers(text: &mut String, numbers: &[u32]) -> Result<(), All
     }
 }
 
-/// Puts numbers behind the others, each behind a comma.
+/// Puts numbers after the others, each after a comma.
 fn push_more_numbers(text: &mut String, numbers: &[u32]) -> Result<(), AllocError>
     ensures { OnOk result
         (string_bytes text.new ≡ string_bytes text.old ++ flat_map (λ n. codes "," ++ decimal n) numbers.now) }
@@ -77,7 +77,7 @@ fn push_more_numbers(text: &mut String, numbers: &[u32]) -> Result<(), AllocErro
     Ok(())
 }
 
-/// Puts a line for each row behind the others.
+/// Puts a line for each row after the others.
 pub(crate) fn push_rows(text: &mut String, rows: &[Row]) -> Result<(), AllocError>
     ensures { OnOk result
         (string_bytes text.new ≡ string_bytes text.old ++ rows_text rows.now) }
@@ -88,7 +88,7 @@ pub(crate) fn push_rows(text: &mut String, rows: &[Row]) -> Result<(), AllocErro
     Ok(())
 }
 
-/// Puts the line of a row behind the others.
+/// Puts the line of a row after the others.
 #[tactic(auto, unfolding(crate::specs::Parts::row_text))]
 pub(crate) fn push_row(text: &mut String, row: &Row) -> Result<(), AllocError>
     ensures { OnOk result (string_bytes text.new ≡ string_bytes text.old ++ row_text row.now) }
@@ -101,7 +101,7 @@ pub(crate) fn push_row(text: &mut String, row: &Row) -> Result<(), AllocError>
     text.push_str("\n")
 }
 
-/// Puts a number in decimals behind the others.
+/// Puts a number in decimals after the others.
 fn push_decimal(text: &mut String, number: u64) -> Result<(), AllocError>
     ensures { OnOk result (string_bytes text.new ≡ string_bytes text.old ++ decimal number) }
 {
@@ -109,7 +109,7 @@ fn push_decimal(text: &mut String, number: u64) -> Result<(), AllocError>
     text.push_str(digits.format(number))
 }
 
-/// Puts the pieces of a plan behind the others, with a blank between each two.
+/// Puts the pieces of a plan after the others, with a blank between each two.
 pub(crate) fn push_pieces(text: &mut String, pieces: &[Piece]) -> Result<(), AllocError>
     ensures { OnOk result
         (string_bytes text.new ≡ string_bytes text.old ++ pieces_text pieces.now) }
@@ -123,7 +123,7 @@ pub(crate) fn push_pieces(text: &mut String, pieces: &[Piece]) -> Result<(), All
     }
 }
 
-/// Puts pieces behind the others, each behind a blank.
+/// Puts pieces after the others, each after a blank.
 fn push_more_pieces(text: &mut String, pieces: &[Piece]) -> Result<(), AllocError>
     ensures { OnOk result
         (string_bytes text.new ≡ string_bytes text.old ++ flat_map (λ piece. codes " " ++ piece_text piece) pieces.now) }
@@ -135,7 +135,7 @@ fn push_more_pieces(text: &mut String, pieces: &[Piece]) -> Result<(), AllocErro
     Ok(())
 }
 
-/// Puts a piece behind the others.
+/// Puts a piece after the others.
 #[tactic(auto, unfolding(crate::specs::Parts::range_text))]
 fn push_piece(text: &mut String, piece: &Piece) -> Result<(), AllocError>
     ensures { OnOk result (string_bytes text.new ≡ string_bytes text.old ++ piece_text piece.now) }

@@ -46,7 +46,7 @@ impl fmt::Display for DeregisterCause {
     }
 }
 
-/// Puts the line of a file that is too long behind the others.
+/// Puts the line of a file that is too long after the others.
 #[tactic(auto, unfolding(crate::specs::RefusalText::select_too_long_text))]
 pub(crate) fn push_select_too_long(
     alloc: Global,
@@ -59,7 +59,7 @@ pub(crate) fn push_select_too_long(
     write!(text, "refused select {} too long\n", file.as_str())
 }
 
-/// Puts the line of a registration that was refused behind the others.
+/// Puts the line of a registration that was refused after the others.
 #[tactic(auto, unfolding(crate::specs::RefusalText::refused_text))]
 pub(crate) fn push_register_refused(
     text: &mut String,
@@ -72,7 +72,7 @@ pub(crate) fn push_register_refused(
     write!(text, "refused register {} {cause}\n", name.as_str())
 }
 
-/// Puts the line of a deregistration that was refused behind the others.
+/// Puts the line of a deregistration that was refused after the others.
 #[tactic(auto, unfolding(crate::specs::RefusalText::refused_text))]
 pub(crate) fn push_deregister_refused(
     text: &mut String,
@@ -85,7 +85,7 @@ pub(crate) fn push_deregister_refused(
     write!(text, "refused deregister {} {cause}\n", name.as_str())
 }
 
-/// Puts the line of a `scan` or `explain` that was refused behind the others.
+/// Puts the line of a `scan` or `explain` that was refused after the others.
 #[tactic(auto, unfolding(crate::specs::RefusalText::refused_text, crate::specs::Parts::range_text))]
 pub(crate) fn push_scan_refused(
     text: &mut String,
@@ -120,7 +120,7 @@ pub(crate) fn push_scan_refused(
     }
 }
 
-/// Puts the first part of the line of a file for which the log is too full behind the others.
+/// Puts the first part of the line of a file for which the log is too full after the others.
 #[tactic(auto, unfolding(crate::specs::RefusalText::ingest_full_text))]
 pub(crate) fn push_ingest_full(
     alloc: Global,
@@ -141,7 +141,7 @@ pub(crate) fn push_ingest_full(
     )
 }
 
-/// Puts the line of a file that was not stored to its end, being too long, behind the others.
+/// Puts the line of a file that was not stored to its end, being too long, after the others.
 #[tactic(auto, unfolding(crate::specs::RefusalText::ingest_too_long_text, crate::specs::Parts::counts_text))]
 pub(crate) fn push_ingest_too_long(
     alloc: Global,

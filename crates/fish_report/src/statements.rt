@@ -10,7 +10,7 @@ use fish_plan::Plan;
 use fish_value::{Numbers, Text, Value, print_value};
 use std::alloc::{AllocError, Global};
 
-/// Puts the line of a selection behind the others.
+/// Puts the line of a selection after the others.
 #[tactic(auto, unfolding(crate::specs::StatementText::select_line))]
 pub(crate) fn push_select(
     text: &mut String,
@@ -24,7 +24,7 @@ pub(crate) fn push_select(
     write!(text, "select found {found} of {count} refused {refused}\n")
 }
 
-/// Puts a line of a word and a number behind the others.
+/// Puts a line of a word and a number after the others.
 #[tactic(auto, unfolding(crate::specs::StatementText::count_text))]
 pub(crate) fn push_count(text: &mut String, word: &str, count: u32) -> Result<(), AllocError>
     ensures { OnOk result
@@ -33,7 +33,7 @@ pub(crate) fn push_count(text: &mut String, word: &str, count: u32) -> Result<()
     write!(text, "{word} {count}\n")
 }
 
-/// Puts the head of a lane behind the others.
+/// Puts the head of a lane after the others.
 #[tactic(auto, unfolding(crate::specs::StatementText::count_text))]
 pub(crate) fn push_lane(text: &mut String, number: u8) -> Result<(), AllocError>
     ensures { OnOk result
@@ -42,7 +42,7 @@ pub(crate) fn push_lane(text: &mut String, number: u8) -> Result<(), AllocError>
     write!(text, "lane {number}\n")
 }
 
-/// Puts the head of a block by `lanes` behind the others.
+/// Puts the head of a block by `lanes` after the others.
 #[tactic(auto, unfolding(crate::specs::StatementText::lanes_text, crate::specs::Parts::range_text))]
 pub(crate) fn push_lanes(text: &mut String, from: u32, to: u32) -> Result<(), AllocError>
     ensures { OnOk result (string_bytes text.new ≡ string_bytes text.old ++ lanes_text from to) }
@@ -50,7 +50,7 @@ pub(crate) fn push_lanes(text: &mut String, from: u32, to: u32) -> Result<(), Al
     write!(text, "lanes {from}..{to}\n")
 }
 
-/// Puts the line of a registration with its boundary behind the others.
+/// Puts the line of a registration with its boundary after the others.
 #[tactic(auto, unfolding(crate::specs::StatementText::registered_text))]
 pub(crate) fn push_registered(
     text: &mut String,
@@ -64,7 +64,7 @@ pub(crate) fn push_registered(
     write!(text, "registered {} id {id} from {from}\n", name.as_str())
 }
 
-/// Puts the line of a registration without its boundary behind the others.
+/// Puts the line of a registration without its boundary after the others.
 #[tactic(auto, unfolding(crate::specs::StatementText::rolling_text))]
 pub(crate) fn push_rolling(text: &mut String, name: &Text, id: u16) -> Result<(), AllocError>
     ensures { OnOk result
@@ -73,7 +73,7 @@ pub(crate) fn push_rolling(text: &mut String, name: &Text, id: u16) -> Result<()
     write!(text, "registered {} id {id} rolling\n", name.as_str())
 }
 
-/// Puts the line of a boundary that was found behind the others.
+/// Puts the line of a boundary that was found after the others.
 #[tactic(auto, unfolding(crate::specs::StatementText::bound_text))]
 pub(crate) fn push_bound(text: &mut String, id: u16, from: u32) -> Result<(), AllocError>
     ensures { OnOk result (string_bytes text.new ≡ string_bytes text.old ++ bound_text id from) }
@@ -81,7 +81,7 @@ pub(crate) fn push_bound(text: &mut String, id: u16, from: u32) -> Result<(), Al
     write!(text, "bound id {id} from {from}\n")
 }
 
-/// Puts the line of a deregistration behind the others.
+/// Puts the line of a deregistration after the others.
 #[tactic(auto, unfolding(crate::specs::StatementText::deregistered_text))]
 pub(crate) fn push_deregistered(
     text: &mut String,
@@ -95,7 +95,7 @@ pub(crate) fn push_deregistered(
     write!(text, "deregistered {} id {id} to {to}\n", name.as_str())
 }
 
-/// Puts the line of a file that was stored behind the others.
+/// Puts the line of a file that was stored after the others.
 #[tactic(auto, unfolding(crate::specs::StatementText::ingested_text, crate::specs::Parts::counts_text))]
 pub(crate) fn push_ingested(
     alloc: Global,
@@ -115,7 +115,7 @@ pub(crate) fn push_ingested(
     )
 }
 
-/// Puts what a scan was asked behind the others.
+/// Puts what a scan was asked after the others.
 #[tactic(auto, unfolding(crate::specs::StatementText::scan_text))]
 pub(crate) fn push_scan(
     alloc: Global,
@@ -132,7 +132,7 @@ pub(crate) fn push_scan(
     push_question(alloc, text, name, value, from, to)
 }
 
-/// Puts what an `explain` was asked behind the others.
+/// Puts what an `explain` was asked after the others.
 #[tactic(auto, unfolding(crate::specs::StatementText::explain_text))]
 pub(crate) fn push_explain(
     alloc: Global,
@@ -149,7 +149,7 @@ pub(crate) fn push_explain(
     push_question(alloc, text, name, value, from, to)
 }
 
-/// Puts a name, a value and a range behind the others.
+/// Puts a name, a value and a range after the others.
 #[tactic(auto, unfolding(crate::specs::StatementText::question_text, crate::specs::Parts::range_text))]
 fn push_question(
     alloc: Global,
@@ -171,7 +171,7 @@ fn push_question(
     )
 }
 
-/// Puts what a scan found behind the others: the rest of its line.
+/// Puts what a scan found after the others: the rest of its line.
 pub(crate) fn push_found(text: &mut String, found: usize, opens: &Numbers) -> Result<(), AllocError>
     ensures { OnOk result
         (string_bytes text.new ≡ string_bytes text.old ++ found_text found opens.now) }
@@ -182,7 +182,7 @@ pub(crate) fn push_found(text: &mut String, found: usize, opens: &Numbers) -> Re
     Ok(())
 }
 
-/// Puts the pieces of a plan behind the others: the rest of the line of an `explain`.
+/// Puts the pieces of a plan after the others: the rest of the line of an `explain`.
 pub(crate) fn push_plan(text: &mut String, plan: &Plan) -> Result<(), AllocError>
     ensures { OnOk result (string_bytes text.new ≡ string_bytes text.old ++ plan_text plan.now) }
 {

@@ -9,7 +9,7 @@ use crate::parts::push_rows;
 use fish_value::Text;
 use std::alloc::{AllocError, Global};
 
-/// The text of a report: that of its items, one behind the other.
+/// The text of a report: that of its items, one after the other.
 pub fn report_text(alloc: Global, r: &Report) -> Result<Text, AllocError>
     ensures { IfOk result (λ text. text ≡ report_text r.now.items) }
 {
@@ -20,7 +20,7 @@ pub fn report_text(alloc: Global, r: &Report) -> Result<Text, AllocError>
     Ok(Text::from_string(text))
 }
 
-/// Puts the text of an item behind the others.
+/// Puts the text of an item after the others.
 pub fn push_item(alloc: Global, text: &mut String, item: &Item) -> Result<(), AllocError>
     ensures { OnOk result (string_bytes text.new ≡ string_bytes text.old ++ item_text item.now) }
 {

@@ -71,7 +71,7 @@ pub fn write_items<W: Sink>(alloc: Global, out: &mut W, items: &[Item]) -> Resul
     send(out, &mut text)
 }
 
-/// Puts the text of an item behind what waits, and writes what fills a piece.
+/// Puts the text of an item after what waits, and writes what fills a piece.
 fn write_item<W: Sink>(
     alloc: Global,
     out: &mut W,
@@ -90,7 +90,7 @@ fn write_item<W: Sink>(
     write_rows(out, text, rows_of(item))
 }
 
-/// Puts the lines of rows behind what waits, and writes what fills a piece.
+/// Puts the lines of rows after what waits, and writes what fills a piece.
 fn write_rows<W: Sink>(out: &mut W, text: &mut String, rows: &[Row]) -> Result<(), WriteRefusal>
     requires { string_len text.old < piece_size }
     ensures passed { OnOk result (Passes (W.written out.old) (W.written out.new)
@@ -106,7 +106,7 @@ fn write_rows<W: Sink>(out: &mut W, text: &mut String, rows: &[Row]) -> Result<(
     Ok(())
 }
 
-/// Puts the line of a row behind what waits, and writes both where they fill a piece.
+/// Puts the line of a row after what waits, and writes both where they fill a piece.
 fn write_row<W: Sink>(out: &mut W, text: &mut String, row: &Row) -> Result<(), WriteRefusal>
     requires { string_len text.old < piece_size }
     ensures passed { OnOk result (Passes (W.written out.old) (W.written out.new)

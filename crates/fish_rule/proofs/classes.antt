@@ -6,7 +6,7 @@ pub mod ChainsStay
 pub mod FactsStay
 pub mod LinkOne
 pub mod Loads
-pub mod MainStores
+pub mod ControlStores
 pub mod OnRegistry
 pub mod OpensStay
 pub mod OtherViews

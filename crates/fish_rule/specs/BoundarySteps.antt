@@ -4,7 +4,7 @@ use Rattle.std.specs.Prelude.{ℕ, ◌≡◌, ◌≢◌, ◌<◌, ◌≤◌, zer
 use Rattle.std.proofs.Math.Decide.{ℕ_discrete, dec_lt}
 use Rattle.fish_catalog.specs.Listing.{IsOnAt}
 use Rattle.fish_layout.specs.Cleared.{choose}
-use Rattle.fish_rule.specs.Registry.{main_word, row_at}
+use Rattle.fish_rule.specs.Registry.{control_word, row_at}
 use Rattle.fish_rule.specs.SpaceSteps.{noted, ticked}
 use Rattle.fish_rule.specs.Views.{Among}
 use Rattle.fish_rule.specs.World.{high, low}
@@ -36,7 +36,7 @@ checked_after l x (Some o) =
 abbrev pub after_check_lane : View → ℕ → ℕ → View
 after_check_lane v l x = record v { round = checked_after l x v.round; clock = noted v.clock (Epoch l) x }
 
--- ---- bound: a load of the tail behind the last lane
+-- ---- bound: a load of the tail after the last lane
 
 -- a registration waits, and all lanes were looked at
 pub record CanLoadBound (v : View) (o : Round) : Type 0 where
@@ -57,7 +57,7 @@ after_load_bound v o x = record v {
 -- the word at an index is this one from now on, and the pass knows it as if it had loaded it
 abbrev pub after_store_boundary : View → ℕ → ℕ → Option Round → View
 after_store_boundary v p n round = record v {
-  main_words = record { index = p; value = suc n } ∷ v.main_words;
+  control_words = record { index = p; value = suc n } ∷ v.control_words;
   round = round;
   learned = record v.learned { words = record { index = p; value = suc n } ∷ v.learned.words };
   clock = ticked v.clock;
@@ -65,7 +65,7 @@ after_store_boundary v p n round = record v {
 
 -- the control pass may store where the index of the row that waits begins
 pub record CanStoreFrom (v : View) (o : Round) (n : ℕ) : Type 0 where
-  pub main : v.lane ≡ 1
+  pub control : v.lane ≡ 1
   pub waits : v.round ≡ Some o
   pub bound : o.bound ≡ Some n
 
@@ -76,13 +76,13 @@ after_store_from v o n = after_store_boundary v (row_at o.id 0) n None
 -- the control pass may store where the index of an active row ends: it began, it has no end, and the number is one of
 -- this table's that was counted, not before the one at which it began
 pub record CanStoreTo (v : View) (id n : ℕ) : Type 0 where
-  pub main : v.lane ≡ 1
+  pub control : v.lane ≡ 1
   pub on : IsOnAt v.rows id
   pub few : id < 256
-  pub began : main_word v.main_words (row_at id 0) ≢ 0
-  pub endless : main_word v.main_words (row_at id 1) ≡ 0
+  pub began : control_word v.control_words (row_at id 0) ≢ 0
+  pub endless : control_word v.control_words (row_at id 1) ≡ 0
   pub above : v.about.number ≤ n
-  pub after : (from : ℕ) → main_word v.main_words (row_at id 0) ≡ suc from → from ≤ n
+  pub after : (from : ℕ) → control_word v.control_words (row_at id 0) ≡ suc from → from ≤ n
   pub within : n ≤ v.learned.count
 
 -- the index ends there

@@ -26,7 +26,7 @@ use Rattle.fish_rule.specs.declared.view.View.{View}
 pub record CanLoadHead (v : View) (b : ℕ) : Type 0 where
   pub below : b < v.about.buckets
 
--- a place behind the base's is that of a linked entry of the bucket
+-- a place after the base's is that of a linked entry of the bucket
 abbrev pub with_node : Key → ℕ → ℕ → List EntryPlace → List EntryPlace
 with_node k b x nodes = choose (dec_lt (k.line * 4) x) (record { bucket = b; place = x } ∷ nodes) nodes
 

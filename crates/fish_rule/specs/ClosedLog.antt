@@ -140,7 +140,7 @@ pub record AreHeads (v : View) (settled buckets : ℕ) (heads : List ℕ) : Type
   pub many : length heads ≡ buckets
   pub each : (b x : ℕ) → get_elem? heads b ≡ some x → HasHead v settled b x
 
--- all of a log was read, up to its tail: which numbers it has, its heads behind these, and its version
+-- all of a log was read, up to its tail: which numbers it has, its heads after these, and its version
 pub record IsWhole (v : View) (whole : WholeLog) : Type 0 where
   pub tail : Position
   pub rests : v.tail ≡ Some tail

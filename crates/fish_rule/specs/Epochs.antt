@@ -1,4 +1,4 @@
--- Epochs: how far each lane is entered, and that no version is behind the registry's.
+-- Epochs: how far each lane is entered, and that no version is after the registry's.
 use Rattle.std.specs.Prelude.{ℕ, ◌≡◌, ◌≢◌, ◌<◌, ◌≤◌, ◌⊎◌, suc, ◌-◌, List, Option, Some, None, ⊤, length, slice_get}
 use Rattle.std.proofs.Math.Decide.{ℕ_discrete}
 use Rattle.fish_catalog.specs.Listing.{IsListing}
@@ -10,7 +10,7 @@ use Rattle.fish_rule.specs.Boundaries.{Boundaries, IsUnended}
 use Rattle.fish_rule.specs.Keys.{IsKeyed}
 use Rattle.fish_rule.specs.Regions.{code}
 use Rattle.fish_rule.specs.Registry.{opened_at, AreActiveAt, IsBoundaryIndex, IsOperation, IsRegistered, definitions_at}
-use Rattle.fish_rule.specs.Registry.{main_word, epoch_at, op_at, row_at, row_in, version_in}
+use Rattle.fish_rule.specs.Registry.{control_word, epoch_at, op_at, row_at, row_in, version_in}
 use Rattle.fish_rule.specs.Rounds.{IsSince, Waits}
 use Rattle.fish_rule.specs.Views.{AllOf, Each, Has}
 use Rattle.fish_rule.specs.World.{body, high}
@@ -78,29 +78,30 @@ abbrev pub IsOwned : Key → (ℕ → ℕ) → ℕ → Type 0
 IsOwned k g p = IsUnmade k g p ⊎ IsBoundaryIndex p
 
 -- the control pass knows the registry as it is: its version, its definitions, and all words that only it stores
-pub record IsMain (k : Key) (g : ℕ → ℕ) (seen : ℕ) (rows : List Listed) (main_words : List RegistryWord) : Type 0 where
+pub record IsControl (k : Key) (g : ℕ → ℕ) (seen : ℕ) (rows : List Listed) (control_words : List RegistryWord)
+    : Type 0 where
   pub version : seen ≡ version_in g
   pub definitions : definitions_at k g (version_in g) ≡ rows
-  pub owned : (p : ℕ) → IsOwned k g p → g p ≡ main_word main_words p
+  pub owned : (p : ℕ) → IsOwned k g p → g p ≡ control_word control_words p
 
 -- a pass's lane is as far entered as the pass is, and every other lane that it has is out; what it knows of the
 -- registry is so, and no version that it has seen or is confirmed at is before the start's
 pub record StaysWith (k : Key) (count : ℕ) (g : ℕ → ℕ) (state : ℕ → Epoch) (version_of : ℕ → ℕ) (lane : ℕ)
     (out : List ℕ) (epoch : Epoch) (seen : ℕ) (words : List RegistryWord) (ends : List Unended) (rows : List Listed)
-    (main_words : List RegistryWord) (round : Option Round) : Type 0 where
+    (control_words : List RegistryWord) (round : Option Round) : Type 0 where
   pub tied : (l : ℕ) → Has lane out l → (l ≡ lane → state l ≡ epoch) × (l ≢ lane → state l ≡ Out)
   pub from : 1 ≤ lane → k.version ≤ seen
   pub since : IsSince k.version epoch
   pub reached : seen ≤ version_in g
   pub read : AllOf (IsRegistered k g) words
   pub unended : AllOf (IsUnended k count g version_of) ends
-  pub main : lane ≡ 1 → IsMain k g seen rows main_words
+  pub control : lane ≡ 1 → IsControl k g seen rows control_words
   pub waits : Waits k count g state version_of lane round
 
 -- the same of the fields of a view
 abbrev pub Stays : Key → ℕ → (ℕ → ℕ) → (ℕ → Epoch) → (ℕ → ℕ) → View → Type 0
 Stays k count g state version_of v = StaysWith k count g state version_of v.lane v.out v.epoch v.learned.version
-    v.learned.words v.learned.unended v.rows v.main_words v.round
+    v.learned.words v.learned.unended v.rows v.control_words v.round
 
 -- a record in flight is of the version at which its pass is entered; once an entry of it is linked, it has the
 -- keys of that version

@@ -60,7 +60,7 @@ after_look_at v n lines x = record v {
 
 -- the control pass, while no lane is out and it has nothing in flight
 pub record IsAlone (v : View) : Type 0 where
-  pub main : v.lane ≡ 1
+  pub control : v.lane ≡ 1
   pub all : v.out ≡ []
   pub idle : v.flight ≡ None
 

@@ -19,7 +19,7 @@ abbrev pub values_in : List ℕ → ℕ → ℕ
 values_in words zero = 0
 values_in words (suc n) = value_offset (slice_index words (3 * suc n)) + value_size (slice_index words (3 * suc n))
 
--- the payload of a record, which stands behind its values
+-- the payload of a record, which comes after its values
 abbrev pub payload_in : List ℕ → List ℕ
 payload_in words =
     bytes_in (drop (entry_at (keys_of (slice_index words 0))

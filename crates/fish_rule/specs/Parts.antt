@@ -82,7 +82,7 @@ pub record Whole (k : Key) (log : ℕ → ℕ) (lane : ℕ) (f : Flight) : Type 
   pub upto : f.linked ≤ keys_of (body log f.line 0)
 
 -- a record in flight with a pass of this lane: its region is claimed and its number not published;
--- the words stored so far stand in the log, and zeros behind them; of a void that is the header alone
+-- the words stored so far stand in the log, and zeros after them; of a void that is the header alone
 pub record InFlight (k : Key) (count : ℕ) (dir log start lane_of : ℕ → ℕ) (lane : ℕ) (f : Flight) : Type 0 where
   pub above : k.number ≤ f.number
   pub below : f.number < count
@@ -102,7 +102,7 @@ abbrev pub Flies : Key → ℕ → (ℕ → ℕ) → (ℕ → ℕ) → (ℕ → 
 Flies k count dir log start lane_of lane None = ⊤
 Flies k count dir log start lane_of lane (Some f) = InFlight k count dir log start lane_of lane f
 
--- each claimed number is published, or in flight with exactly one pass; behind the tail all words are 0
+-- each claimed number is published, or in flight with exactly one pass; after the tail all words are 0
 pub record Space (k : Key) (count line : ℕ) (dir log : ℕ → ℕ) (views : List View) (start lane_of : ℕ → ℕ) : Type 0 where
   pub regions : Regions k count line start
   pub finished : (n : ℕ) → k.number ≤ n → n < count → dir n ≢ 0 → IsPublishedRegion k dir log start lane_of n

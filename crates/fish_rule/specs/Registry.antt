@@ -48,7 +48,7 @@ row_in g id i = g (row_at id i)
 abbrev pub made : (ℕ → ℕ) → ℕ → List Listed → List Listed
 made g x ls = choose (dec_lt x 512) (ls ++ listed_in (row_in g (length ls)) (length ls) true ∷ []) (ended_at (ended_id x) ls)
 
--- the definitions at a version: those of the start, changed by the operations that made the versions behind the
+-- the definitions at a version: those of the start, changed by the operations that made the versions after the
 -- start's
 abbrev pub definitions_at : Key → (ℕ → ℕ) → ℕ → List Listed
 definitions_at k g zero = map listed_of k.rows.value
@@ -59,7 +59,7 @@ definitions_at k g (suc v) = choose (dec_lt v k.version) (definitions_at k g v)
 abbrev pub row_spelled : (ℕ → ℕ) → CatRow
 row_spelled f = record { id = 0; name = name_in f; def = text_in f; from = None; to = None }
 
--- the words behind the boundaries are those of that row, so they are 0 behind its name and its text
+-- the words after the boundaries are those of that row, so they are 0 after its name and its text
 abbrev pub AreRowWords : (ℕ → ℕ) → Type 0
 AreRowWords f = (i : ℕ) → 2 ≤ i → i < 39 → f i ≡ row_word (row_spelled f) i
 
@@ -78,7 +78,7 @@ AreActiveAt k g v ts = (v ≤ version_in g) × (active_texts (definitions_at k g
 abbrev pub IsOpIndex : Key → (ℕ → ℕ) → ℕ → Type 0
 IsOpIndex k g p = (v : ℕ) × (k.version < v) × (v ≤ version_in g) × (p ≡ op_at v)
 
--- the index is that of a word of a row, behind its boundaries
+-- the index is that of a word of a row, after its boundaries
 abbrev pub IsRowIndex : Key → (ℕ → ℕ) → ℕ → Type 0
 IsRowIndex k g p = (id : ℕ) × (i : ℕ) × (id < length (definitions_at k g (version_in g))) × (2 ≤ i) × (i < 39)
     × (p ≡ row_at id i)
@@ -133,6 +133,6 @@ pub record KnowsRow (k : Key) (l : Learned) (id : ℕ) : Type 0 where
   pub there : (g : ℕ → ℕ) → HasRead g l.words → id < length (definitions_at k g version)
 
 -- the word that was stored last at an index, or 0
-abbrev pub main_word : List RegistryWord → ℕ → ℕ
-main_word [] p = 0
-main_word (x ∷ xs) p = choose (ℕ_discrete p x.index) x.value (main_word xs p)
+abbrev pub control_word : List RegistryWord → ℕ → ℕ
+control_word [] p = 0
+control_word (x ∷ xs) p = choose (ℕ_discrete p x.index) x.value (control_word xs p)

@@ -5,7 +5,7 @@ use Rattle.std.proofs.Math.Decide.{dec_lt}
 use Rattle.fish_layout.specs.Cleared.{choose}
 use Rattle.fish_layout.specs.Operation.{end_word}
 use Rattle.fish_rule.specs.Epochs.{confirmed}
-use Rattle.fish_rule.specs.Registry.{IsOperation, KnowsRow, made, main_word, op_at, opened_at, row_at, row_in}
+use Rattle.fish_rule.specs.Registry.{IsOperation, KnowsRow, made, control_word, op_at, opened_at, row_at, row_in}
 use Rattle.fish_rule.specs.SpaceSteps.{noted, ticked}
 use Rattle.fish_rule.specs.declared.view.Epoch.TheVariants.{Announced, Out}
 use Rattle.fish_rule.specs.declared.view.Noted.TheVariants.{Version}
@@ -65,28 +65,31 @@ IsNextWord v p x = ((v.learned.version < 512) × (p ≡ op_at (suc v.learned.ver
 
 -- the control pass may store it
 pub record CanDefineWord (v : View) (p x : ℕ) : Type 0 where
-  pub main : v.lane ≡ 1
+  pub control : v.lane ≡ 1
   pub next : IsNextWord v p x
 
 -- the word is stored
 abbrev pub after_define_word : View → ℕ → ℕ → View
-after_define_word v p x = record v { main_words = record { index = p; value = x } ∷ v.main_words; clock = ticked v.clock }
+after_define_word v p x = record v {
+  control_words = record { index = p; value = x } ∷ v.control_words;
+  clock = ticked v.clock;
+}
 
 -- ---- bump: a store of the version plus one
 
 -- the next operation as it was stored
 abbrev pub next_operation : View → ℕ
-next_operation v = main_word v.main_words (op_at (suc v.learned.version))
+next_operation v = control_word v.control_words (op_at (suc v.learned.version))
 
 -- the control pass is out, versions are left, no registration waits, and the next operation is one that may be
 -- made; the index of a row that it ends has its end
 pub record CanRaiseVersion (v : View) : Type 0 where
-  pub main : v.lane ≡ 1
+  pub control : v.lane ≡ 1
   pub outside : v.epoch ≡ Out
   pub few : v.learned.version < 512
   pub settled : v.round ≡ None
-  pub operation : IsOperation (row_in (main_word v.main_words) (length v.rows)) v.rows (next_operation v)
-  pub ends : (id : ℕ) → next_operation v ≡ end_word id → main_word v.main_words (row_at id 1) ≢ 0
+  pub operation : IsOperation (row_in (control_word v.control_words) (length v.rows)) v.rows (next_operation v)
+  pub ends : (id : ℕ) → next_operation v ≡ end_word id → control_word v.control_words (row_at id 1) ≢ 0
 
 -- a registration waits once it is made: lane 1 is out
 abbrev pub round_after : ℕ → ℕ → ℕ → Option Round
@@ -96,7 +99,7 @@ round_after x id version =
 -- the operation is made
 abbrev pub after_raise_version : View → View
 after_raise_version v = record v {
-  rows = made (main_word v.main_words) (next_operation v) v.rows;
+  rows = made (control_word v.control_words) (next_operation v) v.rows;
   round = round_after (next_operation v) (length v.rows) (suc v.learned.version);
   learned = record v.learned { version = suc v.learned.version };
   clock = ticked v.clock;

@@ -19,7 +19,7 @@ fresh = record { steps = 0; loads = 0; notes = [] }
 
 -- the control pass has lane l and nothing in flight
 pub record CanSplitPass (v : View) (l : ℕ) : Type 0 where
-  pub main : v.lane ≡ 1
+  pub control : v.lane ≡ 1
   pub above : 2 ≤ l
   pub below : l ≤ 16
   pub here : ¬ Among l v.out
@@ -49,7 +49,7 @@ split_right l v = record {
   flight = None;
   epoch = Out;
   rows = [];
-  main_words = [];
+  control_words = [];
   round = None;
   tail = None;
   own = of_lane l v.own;
@@ -61,7 +61,7 @@ split_right l v = record {
 
 -- the other pass's lane is out, and it has nothing in flight and isn't entered
 pub record CanJoinPass (v u : View) : Type 0 where
-  pub main : v.lane ≡ 1
+  pub control : v.lane ≡ 1
   pub above : 2 ≤ u.lane
   pub out : Among u.lane v.out
   pub idle : u.flight ≡ None
@@ -144,7 +144,7 @@ spent = record {
   flight = None;
   epoch = Out;
   rows = [];
-  main_words = [];
+  control_words = [];
   round = None;
   tail = None;
   own = [];

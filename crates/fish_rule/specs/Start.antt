@@ -15,7 +15,7 @@ use Rattle.fish_rule.specs.declared.table.Shape.{Shape}
 use Rattle.fish_rule.specs.declared.view.Key.{Key}
 
 -- the words of the registry are those of these rows of a catalogue at a version, with every lane out and no
--- operation made; each row's index begins, and neither begins nor ends behind the number at which the log begins
+-- operation made; each row's index begins, and neither begins nor ends after the number at which the log begins
 pub record IsOpening (s number : ℕ) (rows : List CatRow) (g : ℕ → ℕ) : Type 0 where
   pub version : g version_at ≡ s
   pub few : s ≤ 512
@@ -46,7 +46,7 @@ pub record IsShape (s : Shape) : Type 0 where
   pub few_bits : s.bucket_bits ≤ 16
 
 -- a table of this shape may begin so: there is one head for each bucket, of older records; versions are left; and
--- each row's index begins, and neither begins nor ends behind the base's number
+-- each row's index begins, and neither begins nor ends after the base's number
 pub record CanOpen (s : Shape) (start : Start) : Type 0 where
   pub number : start.base.number ≤ last_number
   pub line : start.base.line ≤ last_line

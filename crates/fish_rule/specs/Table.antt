@@ -43,7 +43,7 @@ first_view k = record {
   flight = None;
   epoch = Out;
   rows = map listed_of k.rows.value;
-  main_words = boundaries_of 0 k.rows.value;
+  control_words = boundaries_of 0 k.rows.value;
   round = None;
   tail = Some (record { number = k.number; line = k.line });
   own = [];

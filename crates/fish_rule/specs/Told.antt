@@ -136,7 +136,7 @@ pub record ToldLoadVersion (st : Step Bool) (m : Sat) (found : ℕ) (m' : Sat) :
   pub rises : m.0.learned.version ≤ found
   pub from : m.0.about.version ≤ found
   pub few : found ≤ 512
-  pub main : m.0.lane ≡ 1 → found ≡ m.0.learned.version
+  pub control : m.0.lane ≡ 1 → found ≡ m.0.learned.version
 
 -- an announcement of a version
 abbrev pub told_announce : Step Bool → Sat → ℕ → Sat → Type 0
@@ -169,7 +169,7 @@ pub record ToldCheckLane (st : Step Bool) (m : Sat) (found : ℕ) (m' : Sat) : T
   pub few : found ≤ 513
   pub alone : IsAlone m.0 → m.0.epoch ≡ Out → found ≡ 0
 
--- a load of the tail behind the last lane
+-- a load of the tail after the last lane
 pub record ToldLoadBound (st : Step Bool) (m : Sat) (found : ℕ) (m' : Sat) : Type 0 where
   pub told : (o : Round) → m.0.round ≡ Some o → Told m (after_load_bound m.0 o found) m'
   pub counted : m.0.learned.count ≤ high found

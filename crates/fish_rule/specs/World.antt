@@ -24,7 +24,7 @@ put f n x m = choose (ℕ_discrete m n) x (f m)
 
 -- ---- packed words
 
--- 2 ^ 36: a word of the tail or of the directory has its line below it, and behind it a number or a kind
+-- 2 ^ 36: a word of the tail or of the directory has its line below it, and after it a number or a kind
 abbrev pub line_range : ℕ
 line_range = 68719476736
 
@@ -61,12 +61,12 @@ log_size k = (k.end - k.line) * 4
 abbrev pub registry_size : ℕ
 registry_size = 10514
 
--- the first head, behind the tail, the settled number, the version, the count of opened rows, 16
+-- the first head, after the tail, the settled number, the version, the count of opened rows, 16
 -- epochs, 512 operations and 256 rows of 39 words
 abbrev pub heads_at : ℕ
 heads_at = 10516
 
--- the first directory word, behind the tail, the settled number, the version, the count of opened
+-- the first directory word, after the tail, the settled number, the version, the count of opened
 -- rows, 16 epochs, 512 operations, 256 rows of 39 words, and the heads
 abbrev pub dir_at : Key → ℕ
 dir_at k = 10516 + k.buckets

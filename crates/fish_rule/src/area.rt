@@ -1,6 +1,6 @@
 //! Where the areas of a table lie among its words.
 //!
-//! Behind the tail and the settled number come the version, the count of opened rows, 16 epochs, 512
+//! After the tail and the settled number come the version, the count of opened rows, 16 epochs, 512
 //! operations, 256 rows of 39 words, the heads of the chains, the directory and the log.
 
 ghost use Rattle.std.specs.Prelude.{◌≡◌, ◌<◌, ◌≤◌, ◌+◌, ◌-◌, ◌*◌};

@@ -35,7 +35,7 @@ pub fn check_lane(log: &Log, pass: &mut Pass, lane: u8) -> u64
     log.table.shared.load::<CheckLane>(&mut pass.seat, index)
 }
 
-/// Loads the tail behind the last lane: its count is where the index of the registration that waits begins.
+/// Loads the tail after the last lane: its count is where the index of the registration that waits begins.
 pub fn load_bound(log: &Log, pass: &mut Pass) -> Position
     requires pass { IsPassOf log.now pass.old }
     requires view { (o : Round) × CanLoadBound (view pass.old) o }

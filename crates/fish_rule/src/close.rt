@@ -28,7 +28,7 @@ pub struct Remains {
     pub base: u32,
     /// Its entries, which keep the memory of its table.
     pub log: LogEntries,
-    /// The line behind its last entry.
+    /// The line past its last entry.
     pub lines: u64,
     /// Of each bucket the place of its newest entry, or 0.
     pub heads: Numbers64,
@@ -75,28 +75,28 @@ enum Next {
 
 /// Closes a log, and shows what is left of it. No lane may be out, and nothing in flight. Where memory runs out the log and
 /// its control pass come back as they were, but for what the pass read.
-pub fn close_log(alloc: Global, log: Log, main: Pass) -> Result<Remains, CloseWant>
-    requires pass { IsPassOf log main }
-    requires alone { IsAlone (view main) }
+pub fn close_log(alloc: Global, log: Log, control: Pass) -> Result<Remains, CloseWant>
+    requires pass { IsPassOf log control }
+    requires alone { IsAlone (view control) }
     ensures opened { IfOk result (λ r. r.opened ≡ true) }
-    ensures log { IfOk result (λ r. IsClosed (view main) r) }
+    ensures log { IfOk result (λ r. IsClosed (view control) r) }
     ensures want { IfErr result (λ want. IsOf log want.log × IsPassOf want.log want.pass
-        × StaysOpen (view main) (view want.pass) × IsAlone (view want.pass)) }
+        × StaysOpen (view control) (view want.pass) × IsAlone (view want.pass)) }
 {
-    let mut main = main;
-    match read_log(alloc, &log, &mut main) {
-        Ok(whole) => Ok(remains_of(log, main, whole)),
-        Err(AllocError) => Err(CloseWant { log, pass: main }),
+    let mut control = control;
+    match read_log(alloc, &log, &mut control) {
+        Ok(whole) => Ok(remains_of(log, control, whole)),
+        Err(AllocError) => Err(CloseWant { log, pass: control }),
     }
 }
 
 /// Ends a log that was read, whose table's words stay.
-fn remains_of(log: Log, main: Pass, whole: WholeLog) -> Remains
-    requires pass { IsPassOf log main }
-    requires alone { IsAlone (view main) }
-    requires whole { IsWhole (view main) whole }
+fn remains_of(log: Log, control: Pass, whole: WholeLog) -> Remains
+    requires pass { IsPassOf log control }
+    requires alone { IsAlone (view control) }
+    requires whole { IsWhole (view control) whole }
     ensures opened { result.opened ≡ true }
-    ensures closed { IsClosed (view main) result }
+    ensures closed { IsClosed (view control) result }
 {
     let Log {
         table,
@@ -109,7 +109,7 @@ fn remains_of(log: Log, main: Pass, whole: WholeLog) -> Remains
         shut: _,
         flight: _,
         walk: _,
-    } = main;
+    } = control;
     let WholeLog {
         read,
         heads,
@@ -130,15 +130,15 @@ fn remains_of(log: Log, main: Pass, whole: WholeLog) -> Remains
 }
 
 /// Reads all of a log but its entries.
-fn read_log(alloc: Global, log: &Log, main: &mut Pass) -> Result<WholeLog, AllocError>
-    requires pass { IsPassOf log.now main.old }
-    requires alone { IsAlone (view main.old) }
-    ensures pass { IsPassOf log.now main.new }
-    ensures on { ReadsOn (view main.old) (view main.new) }
-    ensures stays { OnErr result (StaysOpen (view main.old) (view main.new)) }
-    ensures whole { IfOk result (IsWhole (view main.new)) }
+fn read_log(alloc: Global, log: &Log, control: &mut Pass) -> Result<WholeLog, AllocError>
+    requires pass { IsPassOf log.now control.old }
+    requires alone { IsAlone (view control.old) }
+    ensures pass { IsPassOf log.now control.new }
+    ensures on { ReadsOn (view control.old) (view control.new) }
+    ensures stays { OnErr result (StaysOpen (view control.old) (view control.new)) }
+    ensures whole { IfOk result (IsWhole (view control.new)) }
 {
-    let tail = load_tail(log, main);
+    let tail = load_tail(log, control);
     let mut read = ReadLog {
         number: log.key.number,
         starts: PageStarts::new(alloc),
@@ -146,9 +146,9 @@ fn read_log(alloc: Global, log: &Log, main: &mut Pass) -> Result<WholeLog, Alloc
         lines: tail.line,
     };
     let mut heads = Numbers64::new(alloc);
-    match read_words(log, main, tail.number, &mut read, &mut heads) {
+    match read_words(log, control, tail.number, &mut read, &mut heads) {
         Ok(()) => {
-            let version = load_version(log, main) as u16;
+            let version = load_version(log, control) as u16;
             Ok(WholeLog {
                 read,
                 heads,
@@ -165,41 +165,46 @@ fn read_log(alloc: Global, log: &Log, main: &mut Pass) -> Result<WholeLog, Alloc
 /// The numbers up to the first mark or the end, and then the heads.
 fn read_words(
     log: &Log,
-    main: &mut Pass,
+    control: &mut Pass,
     end: u64,
     read: &mut ReadLog,
     heads: &mut Numbers64,
 ) -> Result<(), AllocError>
-    requires pass { IsPassOf log.now main.old }
-    requires alone { IsAlone (view main.old) }
+    requires pass { IsPassOf log.now control.old }
+    requires alone { IsAlone (view control.old) }
     requires from { log.now.key.number ≤ end }
-    requires counted { end ≤ (view main.old).learned.count }
-    requires read { IsReadUpTo (view main.old) log.now.key.number read.old }
+    requires counted { end ≤ (view control.old).learned.count }
+    requires read { IsReadUpTo (view control.old) log.now.key.number read.old }
     requires heads { heads.old ≡ [] }
-    ensures pass { IsPassOf log.now main.new }
-    ensures extends { Extends (view main.old) (view main.new) }
-    ensures read { OnOk result (IsRead (view main.new) end read.old.lines read.new) }
+    ensures pass { IsPassOf log.now control.new }
+    ensures extends { Extends (view control.old) (view control.new) }
+    ensures read { OnOk result (IsRead (view control.new) end read.old.lines read.new) }
     ensures heads { OnOk result ((settled : ℕ) × (read.new.number ≤ settled)
-        × AreHeads (view main.new) settled log.now.key.buckets heads.new) }
+        × AreHeads (view control.new) settled log.now.key.buckets heads.new) }
 {
-    all_numbers(log, main, end, read)?;
-    raise_settled(log, main, read.number);
-    all_heads(log, main, heads)
+    all_numbers(log, control, end, read)?;
+    raise_settled(log, control, read.number);
+    all_heads(log, control, heads)
 }
 
 /// All numbers, up to the first mark or the end.
-fn all_numbers(log: &Log, main: &mut Pass, end: u64, read: &mut ReadLog) -> Result<(), AllocError>
-    requires pass { IsPassOf log.now main.old }
-    requires alone { IsAlone (view main.old) }
+fn all_numbers(
+    log: &Log,
+    control: &mut Pass,
+    end: u64,
+    read: &mut ReadLog,
+) -> Result<(), AllocError>
+    requires pass { IsPassOf log.now control.old }
+    requires alone { IsAlone (view control.old) }
     requires from { log.now.key.number ≤ end }
-    requires counted { end ≤ (view main.old).learned.count }
-    requires read { IsReadUpTo (view main.old) log.now.key.number read.old }
-    ensures pass { IsPassOf log.now main.new }
-    ensures extends { Extends (view main.old) (view main.new) }
-    ensures read { OnOk result (IsRead (view main.new) end read.old.lines read.new) }
+    requires counted { end ≤ (view control.old).learned.count }
+    requires read { IsReadUpTo (view control.old) log.now.key.number read.old }
+    ensures pass { IsPassOf log.now control.new }
+    ensures extends { Extends (view control.old) (view control.new) }
+    ensures read { OnOk result (IsRead (view control.new) end read.old.lines read.new) }
 {
     for number in log.key.number..end {
-        if !add_number(log, main, number, read)? {
+        if !add_number(log, control, number, read)? {
             return Ok(());
         }
     }
@@ -209,19 +214,19 @@ fn all_numbers(log: &Log, main: &mut Pass, end: u64, read: &mut ReadLog) -> Resu
 /// Adds what stands at a number, and says whether the log goes on. At a mark it ends.
 fn add_number(
     log: &Log,
-    main: &mut Pass,
+    control: &mut Pass,
     number: u64,
     read: &mut ReadLog,
 ) -> Result<bool, AllocError>
-    requires pass { IsPassOf log.now main.old }
-    requires alone { IsAlone (view main.old) }
-    requires look { CanLookAt (view main.old) number }
-    requires read { IsReadUpTo (view main.old) number read.old }
-    ensures pass { IsPassOf log.now main.new }
-    ensures extends { Extends (view main.old) (view main.new) }
-    ensures read { IfOk result (λ goes. IsAdded (view main.new) number goes read.old.lines read.new) }
+    requires pass { IsPassOf log.now control.old }
+    requires alone { IsAlone (view control.old) }
+    requires look { CanLookAt (view control.old) number }
+    requires read { IsReadUpTo (view control.old) number read.old }
+    ensures pass { IsPassOf log.now control.new }
+    ensures extends { Extends (view control.old) (view control.new) }
+    ensures read { IfOk result (λ goes. IsAdded (view control.new) number goes read.old.lines read.new) }
 {
-    match next_at(log, main, number) {
+    match next_at(log, control, number) {
         Next::Entry(line) => {
             add_start(read, number, line)?;
             Ok(true)
@@ -251,15 +256,15 @@ fn add_start(read: &mut ReadLog, number: u64, line: u64) -> Result<(), AllocErro
 }
 
 /// What stands at a number.
-fn next_at(log: &Log, main: &mut Pass, number: u64) -> Next
-    requires pass { IsPassOf log.now main.old }
-    requires alone { IsAlone (view main.old) }
-    requires look { CanLookAt (view main.old) number }
-    ensures pass { IsPassOf log.now main.new }
-    ensures extends { Extends (view main.old) (view main.new) }
-    ensures next { IsNext (view main.new) number result }
+fn next_at(log: &Log, control: &mut Pass, number: u64) -> Next
+    requires pass { IsPassOf log.now control.old }
+    requires alone { IsAlone (view control.old) }
+    requires look { CanLookAt (view control.old) number }
+    ensures pass { IsPassOf log.now control.new }
+    ensures extends { Extends (view control.old) (view control.new) }
+    ensures next { IsNext (view control.new) number result }
 {
-    let word = look_at(log, main, number);
+    let word = look_at(log, control, number);
     let line = line_of_word(word);
     match kind_of_word(word) {
         Kind::Stored => Next::Entry(line),
@@ -269,16 +274,16 @@ fn next_at(log: &Log, main: &mut Pass, number: u64) -> Next
 }
 
 /// The heads of all buckets.
-fn all_heads(log: &Log, main: &mut Pass, heads: &mut Numbers64) -> Result<(), AllocError>
-    requires pass { IsPassOf log.now main.old }
+fn all_heads(log: &Log, control: &mut Pass, heads: &mut Numbers64) -> Result<(), AllocError>
+    requires pass { IsPassOf log.now control.old }
     requires heads { heads.old ≡ [] }
-    ensures pass { IsPassOf log.now main.new }
-    ensures extends { Extends (view main.old) (view main.new) }
+    ensures pass { IsPassOf log.now control.new }
+    ensures extends { Extends (view control.old) (view control.new) }
     ensures heads { OnOk result
-        (AreHeads (view main.new) (view main.old).learned.settled log.now.key.buckets heads.new) }
+        (AreHeads (view control.new) (view control.old).learned.settled log.now.key.buckets heads.new) }
 {
     for bucket in 0..log.key.buckets {
-        let head = load_head(log, main, bucket);
+        let head = load_head(log, control, bucket);
         heads.push(head)?;
     }
     Ok(())

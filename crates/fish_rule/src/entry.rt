@@ -50,7 +50,7 @@ pub fn read_region(
     Ok(loads + (size - behind))
 }
 
-/// Puts the words of a region from one on up to another behind those that were read. Most words of a record are read
+/// Puts the words of a region from one on up to another after those that were read. Most words of a record are read
 /// here, so nothing is asked of each.
 fn read_rest(log: &Log, pass: &mut Pass, line: u64, from: u64, to: u64, words: &mut Vec<u64>)
     requires pass { IsPassOf log.now pass.old }
@@ -70,7 +70,7 @@ fn read_rest(log: &Log, pass: &mut Pass, line: u64, from: u64, to: u64, words: &
     }
 }
 
-/// A word behind the header, or none where it is the first one of a key entry.
+/// A word after the header, or none where it is the first one of a key entry.
 fn read_body_word(log: &Log, pass: &mut Pass, line: u64, keys: u64, offset: u64) -> Option<u64>
     requires pass { IsPassOf log.now pass.old }
     requires keys { keys < 2 ^ 9 }

@@ -22,7 +22,7 @@ pub fn load_version(log: &Log, pass: &mut Pass) -> u64
     ensures rises { (view pass.old).learned.version ≤ result }
     ensures from { log.now.key.version ≤ result }
     ensures few { result ≤ 512 }
-    ensures main { (view pass.old).lane ≡ 1 → result ≡ (view pass.old).learned.version }
+    ensures control { (view pass.old).lane ≡ 1 → result ≡ (view pass.old).learned.version }
 {
     log.table
         .shared
@@ -73,7 +73,7 @@ pub fn load_operation(log: &Log, pass: &mut Pass, version: u64) -> u64
     load_registry(log, pass, OPERATIONS + (version - 1))
 }
 
-/// Loads a word of a row, behind its boundaries.
+/// Loads a word of a row, after its boundaries.
 pub fn load_row(log: &Log, pass: &mut Pass, id: u64, place: u64) -> u64
     requires pass { IsPassOf log.now pass.old }
     requires row { KnowsRow (view pass.old).about (view pass.old).learned id }

@@ -174,61 +174,62 @@ pub fn open_log(alloc: Global, shape: Shape, start: &Start) -> Result<(Log, Pass
 }
 
 /// The lane LANE goes to a new pass.
-fn give_out<const LANE: u8>(log: &Log, main: &mut Pass) -> Pass
-    requires pass { IsPassOf log.now main.old }
-    requires can { CanSplitPass (view main.old) LANE }
-    ensures main { IsPassOf log.now main.new }
+fn give_out<const LANE: u8>(log: &Log, control: &mut Pass) -> Pass
+    requires pass { IsPassOf log.now control.old }
+    requires can { CanSplitPass (view control.old) LANE }
+    ensures control { IsPassOf log.now control.new }
     ensures pass { IsPassOf log.now result }
-    ensures left { view main.new ≡ split_left LANE (view main.old) }
-    ensures right { view result ≡ split_right LANE (view main.old) }
+    ensures left { view control.new ≡ split_left LANE (view control.old) }
+    ensures right { view result ≡ split_right LANE (view control.old) }
 {
-    let seat = log.table.shared.split_seat::<Cut<LANE>>(&mut main.seat);
+    let seat = log.table.shared.split_seat::<Cut<LANE>>(&mut control.seat);
     Pass {
         seat,
         lane: LANE,
-        shut: main.shut,
+        shut: control.shut,
         flight: None,
         walk: NO_WALK,
     }
 }
 
 /// Gives out a lane to a new pass, which knows all that the control pass knows.
-pub fn split_pass(log: &Log, main: &mut Pass, lane: u8) -> Pass
-    requires pass { IsPassOf log.now main.old }
-    requires can { CanSplitPass (view main.old) lane }
-    ensures main { IsPassOf log.now main.new }
+pub fn split_pass(log: &Log, control: &mut Pass, lane: u8) -> Pass
+    requires pass { IsPassOf log.now control.old }
+    requires can { CanSplitPass (view control.old) lane }
+    ensures control { IsPassOf log.now control.new }
     ensures pass { IsPassOf log.now result }
-    ensures left { view main.new ≡ split_left lane (view main.old) }
-    ensures right { view result ≡ split_right lane (view main.old) }
+    ensures left { view control.new ≡ split_left lane (view control.old) }
+    ensures right { view result ≡ split_right lane (view control.old) }
 {
     match lane {
-        2 => give_out::<2>(log, main),
-        3 => give_out::<3>(log, main),
-        4 => give_out::<4>(log, main),
-        5 => give_out::<5>(log, main),
-        6 => give_out::<6>(log, main),
-        7 => give_out::<7>(log, main),
-        8 => give_out::<8>(log, main),
-        9 => give_out::<9>(log, main),
-        10 => give_out::<10>(log, main),
-        11 => give_out::<11>(log, main),
-        12 => give_out::<12>(log, main),
-        13 => give_out::<13>(log, main),
-        14 => give_out::<14>(log, main),
-        15 => give_out::<15>(log, main),
-        _ => give_out::<16>(log, main),
+        2 => give_out::<2>(log, control),
+        3 => give_out::<3>(log, control),
+        4 => give_out::<4>(log, control),
+        5 => give_out::<5>(log, control),
+        6 => give_out::<6>(log, control),
+        7 => give_out::<7>(log, control),
+        8 => give_out::<8>(log, control),
+        9 => give_out::<9>(log, control),
+        10 => give_out::<10>(log, control),
+        11 => give_out::<11>(log, control),
+        12 => give_out::<12>(log, control),
+        13 => give_out::<13>(log, control),
+        14 => give_out::<14>(log, control),
+        15 => give_out::<15>(log, control),
+        _ => give_out::<16>(log, control),
     }
 }
 
 /// Takes back the lane of a pass, with all that it knows. One more load then tells the tail.
-pub fn join_pass(log: &Log, main: &mut Pass, other: Pass)
-    requires main { IsPassOf log.now main.old }
+pub fn join_pass(log: &Log, control: &mut Pass, other: Pass)
+    requires control { IsPassOf log.now control.old }
     requires other { IsPassOf log.now other }
-    requires can { CanJoinPass (view main.old) (view other) }
-    ensures pass { IsPassOf log.now main.new }
-    ensures view { (found : ℕ) × (view main.new ≡ after_load_tail (join_both (view main.old) (view other)) found) }
-    ensures learns { Learns (view main.old) (view main.new) }
-    ensures learned { Learns (view other) (view main.new) }
+    requires can { CanJoinPass (view control.old) (view other) }
+    ensures pass { IsPassOf log.now control.new }
+    ensures view { (found : ℕ)
+        × (view control.new ≡ after_load_tail (join_both (view control.old) (view other)) found) }
+    ensures learns { Learns (view control.old) (view control.new) }
+    ensures learned { Learns (view other) (view control.new) }
 {
     let Pass {
         seat,
@@ -237,9 +238,9 @@ pub fn join_pass(log: &Log, main: &mut Pass, other: Pass)
         flight: _,
         walk: _,
     } = other;
-    log.table.shared.join_seat::<Meet>(&mut main.seat, seat);
-    log.table.shared.load::<LoadTail>(&mut main.seat, 0);
-    if main.shut.is_none() {
-        main.shut = shut;
+    log.table.shared.join_seat::<Meet>(&mut control.seat, seat);
+    log.table.shared.load::<LoadTail>(&mut control.seat, 0);
+    if control.shut.is_none() {
+        control.shut = shut;
     }
 }

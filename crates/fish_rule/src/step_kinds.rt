@@ -156,7 +156,7 @@ impl Play<bool, View> for CheckLane {
     ghost then = { ToldCheckLane };
 }
 
-/// A load of the tail behind the last lane.
+/// A load of the tail after the last lane.
 pub(crate) struct LoadBound;
 
 impl Play<bool, View> for LoadBound {

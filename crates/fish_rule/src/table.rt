@@ -55,7 +55,7 @@ pub struct Walk {
     pub bucket: u64,
     /// The first number that it is for.
     pub from: u64,
-    /// The number behind the last one.
+    /// The number after the last one.
     pub to: u64,
     /// The entries of its range at this place and above have been given.
     pub given: u64,

@@ -12,7 +12,7 @@ pub struct Key {
     pub number: u64,
     /// The line of the table's first claim.
     pub line: u64,
-    /// The first line behind the log.
+    /// The first line after the log.
     pub end: u64,
     /// How many chains there are.
     pub buckets: u64,
@@ -40,7 +40,7 @@ pub struct Shut {
     pub line: u64,
     /// How many lines it asked for.
     pub lines: u64,
-    /// The first line behind the log.
+    /// The first line after the log.
     pub end: u64,
 }
 
@@ -237,7 +237,7 @@ pub struct View {
     pub rows: [Listed; 0],
     /// Of the control pass: the words of the registry that it alone stores, newest first: the boundaries of
     /// rows, and the next operation and row.
-    pub main_words: [RegistryWord; 0],
+    pub control_words: [RegistryWord; 0],
     /// Of the control pass: the registration that waits.
     pub round: Option<Round>,
     /// The tail as its last step left it, unless it joined another pass since.

@@ -14,7 +14,7 @@ use Rattle.fish_lanes.specs.Outcome.{LanesSayPlans, SaysAlone, SaysShutBy}
 use Rattle.fish_lanes.specs.Ending.{HasEnd}
 use Rattle.fish_lanes.specs.Gains.{IsMarkAt}
 use Rattle.fish_lanes.specs.Plans.{KnowsRows, RowsAre}
-use Rattle.fish_lanes.specs.Registering.{AreSo, HasEach, HasRegistry, KnowsEach, KnowsRegistry, Registry, after_all, registry_of}
+use Rattle.fish_lanes.specs.Registering.{ItemsFit, HasEach, HasRegistry, KnowsEach, KnowsRegistry, Registry, after_all, registry_of}
 use Rattle.fish_lanes.specs.Spans.{Span, answers}
 use Rattle.fish_lanes.specs.declared.block.BlockEnd.{BlockEnd}
 use Rattle.fish_lanes.specs.declared.lane.Lane.{Lane}
@@ -34,7 +34,7 @@ use Rattle.fish_run.specs.Blocks.{AreAcknowledged, AreMarked, FullsAgree, IsFull
 use Rattle.fish_run.specs.Blocks.{lanes_controls}
 use Rattle.fish_run.specs.Steps.{AreWhole, HasCutOne, HasRunOne, Leaves}
 use Rattle.fish_whole.proofs.Wholes.{may_hold, sure_rows}
-use Rattle.fish_whole.specs.Whole.{MayEnd, Whole, Will}
+use Rattle.fish_whole.specs.Whole.{MayEnd, Whole, WillHold}
 
 -- ---- later
 
@@ -103,7 +103,7 @@ round_of fresh given from v u lanes end =
 -- the items of its first lane are so
 first_so : (v u : View) (r s : Registrar) (lanes : List Lane) (end : BlockEnd) (k : Span) → IsBlockSpan v u end.to k
     → ((x : Lane) → slice_get lanes 0 ≡ Some x → HasRegistered v u r s x end)
-    → AreSo k.from (k.to + 16) (registry_of v r) (first_items lanes)
+    → ItemsFit k.from (k.to + 16) (registry_of v r) (first_items lanes)
 first_so v u r s [] end k is has = tt
 first_so v u r s (x ∷ lanes) end k is has = (has x refl).so k is
 
@@ -119,10 +119,10 @@ controls_first : (lanes : List Lane) (end : BlockEnd) (x : Lane) → slice_get l
 controls_first [] end x at = absurd cc
 controls_first (y ∷ lanes) end x at = ap (λ (z : Lane). control_items z end) (some_once y x at)
 
--- where no lane stopped at a fault, so is the boundary behind them
+-- where no lane stopped at a fault, so is the boundary after them
 controls_so : (v u : View) (r s : Registrar) (lanes : List Lane) (end : BlockEnd) (k : Span) → IsBlockSpan v u end.to k
     → AreWhole lanes → ((x : Lane) → slice_get lanes 0 ≡ Some x → HasRegistered v u r s x end)
-    → AreSo k.from (k.to + 16) (registry_of v r) (lanes_controls lanes end)
+    → ItemsFit k.from (k.to + 16) (registry_of v r) (lanes_controls lanes end)
 controls_so v u r s [] end k is whole has = tt
 controls_so v u r s (x ∷ lanes) end k is whole has = (has x refl).whole (whole 0 x refl) k is
 
@@ -139,7 +139,7 @@ controls_after : (v u : View) (r s : Registrar) (lanes : List Lane) (end : Block
 controls_after v u r s [] end fresh given from some whole has = absurd (omega arith)
 controls_after v u r s (x ∷ lanes) end fresh given from some whole has = (has x refl).is (whole 0 x refl)
 
--- definitions that are known in front of each item are those of the whole
+-- definitions that are known before each item are those of the whole
 each_whole : (past : Whole) (u : View) (w : Whole) → MayEnd past u w → (r : Registry) (items : List Item) → KnowsEach u r items
     → HasEach w r items
 each_whole past u w m r items = each_so (KnowsRegistry u) (HasRegistry w)
@@ -156,7 +156,7 @@ pub leaves_of : (Past : Whole → Type 0) (count : ℕ) (v u : View) (r s : Regi
     (items lanes : List Lane) (end : BlockEnd) → AreLanes items → length lanes ≡ length items
     → HasEnd v from
     → ((past : Whole) → Past past → (k : Span) → IsBlockSpan v u end.to k → k.lanes ≡ length lanes
-    → (k.from ≤ k.to) × Will past u (λ w. SaysBlock w k lanes))
+    → (k.from ≤ k.to) × WillHold past u (λ w. SaysBlock w k lanes))
     → ((x : Lane) → slice_get lanes 0 ≡ Some x → HasRegistered v u r s x end) → AreEnded lanes → NameMarks u lanes
     → SaysShutBy v u lanes → LanesSayPlans (KnowsRows u) (registry_of v r) s.catalog from lanes → r.waiting ≡ None
     → SaysAlone Past v u r lanes → ((x : Lane) → slice_get lanes 0 ≡ Some x → AllOf (IsCommitted count) x.items)

@@ -148,7 +148,7 @@ module _
           stop.whole n.0 n.1;
     }
 
-    -- so the run stopped, in the block after those that were written or behind it
+    -- so the run stopped, in the block after those that were written or after it
     pub stops_more : (text : List script.Block) (i : ℕ) (x : script.Block) (refused : Bool) (disk : D) (rounds : List Round)
         (cut : Option Round) (e : Stopped) → i < length text → x ≡ get_or text i x
         → WritesBlocks content images since moment p m from r begin old (take i text) mid s a b refused

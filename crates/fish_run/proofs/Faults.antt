@@ -2,7 +2,7 @@
 use Rattle.std.proofs.Common.{◌≡◌, ◌≢◌, ℕ, List, None, Some, refl, sym, ap, ◌∙◌, subst}
 use Rattle.fish_flush.specs.declared.refusal.FlushRefusal.{FlushRefusal}
 use Rattle.fish_flush.specs.declared.refusal.FlushRefusal.TheVariants as flush
-use Rattle.fish_lanes.specs.Blocks.{At}
+use Rattle.fish_lanes.specs.Blocks.{EachLane}
 use Rattle.fish_lanes.specs.Causes.{HasCause, IsUndamaged as IsWell}
 use Rattle.fish_lanes.specs.Outcome.{Stops}
 use Rattle.fish_lanes.specs.declared.lane.Lane.{Lane}
@@ -103,14 +103,14 @@ lane_disk before now (cause.Damaged n) is h = absurd cc
 pub first_no_input : (lanes : List Lane) (why : RunFault) → IsFirstFault lanes why → why ≢ fault.Input
 first_no_input lanes why h is = lane_other h.lane.fault (h.is ∙ ap Some is)
 
--- that of a lane is the disk's only where its count rose, and no damage behind a past that it has whole
+-- that of a lane is the disk's only where its count rose, and no damage after a past that it has whole
 pub lane_rose : (Past : Whole → Type 0) (before now : ℕ) (lanes : List Lane) (why : RunFault)
-    → At (λ i x. Stops Past before now x) lanes → IsFirstFault lanes why → why ≡ fault.Disk → Rose before now
+    → EachLane (λ i x. Stops Past before now x) lanes → IsFirstFault lanes why → why ≡ fault.Disk → Rose before now
 lane_rose Past before now lanes why stops h is =
     lane_disk before now h.lane.fault (h.is ∙ ap Some is) (stops h.at h.lane h.lane_is).cause
 
 pub lane_whole : (Past : Whole → Type 0) (before now : ℕ) (lanes : List Lane) (why : RunFault)
-    → At (λ i x. Stops Past before now x) lanes → IsFirstFault lanes why → (past : Whole) → Past past → IsUndamaged why
+    → EachLane (λ i x. Stops Past before now x) lanes → IsFirstFault lanes why → (past : Whole) → Past past → IsUndamaged why
 lane_whole Past before now lanes why stops h past p =
     lane_well h.lane.fault why h.is ((stops h.at h.lane h.lane_is).whole past p)
 

@@ -59,13 +59,13 @@ use Rattle.fish_walk.specs.Settling.{EndsAt}
 use Rattle.fish_rule.specs.Logs.{KnowsMark}
 use Rattle.fish_whole.specs.Whole.{Later}
 
--- ---- in front of the first block
+-- ---- before the first block
 
 -- a table that was just opened ends where it begins
 first_end : (v : View) (k : Key) → v ≡ first_view k → k.line < 68719476736 → HasEnd v k.number
 unfolding high low
 first_end v k is few = subst (λ (z : View). HasEnd z k.number) (sym is) (record {
-  alone = record { main = refl; all = refl; idle = refl };
+  alone = record { control = refl; all = refl; idle = refl };
   outside = refl;
   above = omega arith;
   settled = omega arith;
@@ -196,7 +196,7 @@ new_registry images disk s new i =
 -- what a registrar keeps is what a commit asks of the rows
 pub holds_rows : (v : View) (r : Registrar) → Knows v r → HoldsRows v r.catalog
 holds_rows v r k = record {
-  main = k.main;
+  control = k.control;
   listed = k.listed;
   from = λ id row at. (k.bounds id row at).from;
   to = λ id row at. (k.bounds id row at).to;
@@ -211,7 +211,7 @@ later_reads v u h = record {
 
 pub alone_reads : (v u : View) → Reads v u → IsAlone v → IsAlone u
 alone_reads v u h a = record {
-  main = ap (λ (z : View). z.lane) h.frame ∙ a.main;
+  control = ap (λ (z : View). z.lane) h.frame ∙ a.control;
   all = ap (λ (z : View). z.out) h.frame ∙ a.all;
   idle = ap (λ (z : View). z.flight) h.frame ∙ a.idle;
 }
@@ -221,7 +221,7 @@ count_most : (u : View) (count x : ℕ) → Stands u → IsAlone u → u.tail �
     → u.learned.count ≤ count
 count_most u count x s a tail is =
     let rests : Rests s.moment.count s.moment.line (Some (record { number = high x; line = low x })) =
-    subst (Rests s.moment.count s.moment.line) tail (s.rule.tails s.seat u s.at a.main a.all) in
+    subst (Rests s.moment.count s.moment.line) tail (s.rule.tails s.seat u s.at a.control a.all) in
     let same : high x ≡ s.moment.count = rests.0 in
     let counted : u.learned.count ≤ s.moment.count = (s.rule.facts s.seat u s.at).counted in
     omega arith
@@ -276,7 +276,7 @@ not_less v a b s h k less =
     let above = h.above in
     let t = h.tail in
     let rests : Rests s.moment.count s.moment.line (Some (record { number = high t.0; line = low t.0 }))
-    = subst (Rests s.moment.count s.moment.line) t.1 (r.tails s.seat v s.at h.alone.main h.alone.all) in
+    = subst (Rests s.moment.count s.moment.line) t.1 (r.tails s.seat v s.at h.alone.control h.alone.all) in
     let here : high t.0 ≡ s.moment.count = rests.0 in
     let count : high t.0 ≡ h.count = t.2 in
     ⊎_elim (λ (e : a ≡ h.count). (let bad : ⊥ = omega arith in bad))
@@ -367,7 +367,7 @@ may_roll images disk s m from can log registrar close reads commit ends = record
 pub registry_reads : (s m : Store) → m.registrar ≡ s.registrar → Stands (view s.pass) → Stands (view m.pass) → IsAlone (view s.pass)
     → Reads (view s.pass) (view m.pass) → registry_of (view m.pass) m.registrar ≡ registry_of (view s.pass) s.registrar
 registry_reads s m same before now alone reads i =
-    let version = same_version (view s.pass) (view m.pass) before now alone.main (ap (λ (z : View). z.lane) reads.frame ∙ alone.main)
+    let version = same_version (view s.pass) (view m.pass) before now alone.control (ap (λ (z : View). z.lane) reads.frame ∙ alone.control)
     reads.learns.about (ap (λ (z : View). z.rows) reads.frame) in
     record { rows = (same i).catalog; waiting = waiting_id (same i).waiting; version = version i }
 
@@ -392,7 +392,7 @@ close_of images disk s from go = record { of = go.can.of; alone = go.end.alone; 
 pub table_same : (s t : Store) → t.log ≡ s.log → IsTable s.log → IsTable t.log
 table_same s t same h = subst IsTable (sym same) h
 
--- ---- behind a block
+-- ---- after a block
 
 -- a list that is not empty has a first element
 pub first_there : {A : Type 0} (xs : List A) → 0 < length xs → (x : A) × (slice_get xs 0 ≡ Some x)

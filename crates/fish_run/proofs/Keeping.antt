@@ -65,7 +65,7 @@ module _
     (moment : D → ℕ)
     (read : (d : D) (i : List ℕ) → content d ≡ Some i → images d i)
     (disk : D) (o : Opened) (p q : Point D) (from : p ≡ opened_point disk o) where
-  -- it was sound behind the log for which the disk stood
+  -- it was sound after the log for which the disk stood
   pub sound_first : (c : Commit) (log : List Entry) → IsOpened (content disk) (images disk) c log o → IsSome (content p.disk)
       → Sound content images p (first_past log o)
   sound_first c log h told =
@@ -103,8 +103,8 @@ module _
 
     shown_of : (remains : Remains) → IsClosed q.view remains → q.view.lane ≡ 1 → q.view.out ≡ []
         → IsShown (images q.disk) (since q.disk t) log q.flusher.count P remains
-    shown_of remains closed main all = run_shown content images since moment (first_past log o) p q P reaches t early runs.rises many stood
-        remains closed main all
+    shown_of remains closed control all = run_shown content images since moment (first_past log o) p q P reaches t early runs.rises many stood
+        remains closed control all
 
   module _ (rows : List CatRow) (same : rows ≡ o.catalog) (rounds : List Round) (fresh : Bool) (cut : Option Round) (end : ℕ)
       (h : HasRunFirst content images since moment p q o.count (first_registry rows) rounds fresh cut end)
@@ -142,7 +142,7 @@ module _
 
         shown : IsShown (images q.disk) (since q.disk t) log q.flusher.count Here remains
         shown = shown_so (images q.disk) (since q.disk t) log q.flusher.count Told Here remains so
-            (shown_of Told h.runs c log t s remains closed h.ends.alone.main h.ends.alone.all)
+            (shown_of Told h.runs c log t s remains closed h.ends.alone.control h.ends.alone.all)
 
     -- and without it a crash leaves what was committed
     pub still_keeps : (c : Commit) (log : List Entry) (t : ℕ) → StoodFor content images since moment disk q.disk o c log t

@@ -78,7 +78,7 @@ below_push P xs n x at one h i y less is = pick (dec_lt i n)
         let same : Some x ≡ Some y = sym at ∙ ap (slice_get xs) (sym here) ∙ is in
         subst P (let e : x ≡ y = cc in e) one
 
--- what is so of each position is so with one more behind
+-- what is so of each position is so with one more after
 pub at_push : {A : Type 0} (P : ℕ → A → Type 0) (xs : List A) (x : A) → ((i : ℕ) (y : A) → slice_get xs i ≡ Some y → P i y)
     → P (length xs) x → (i : ℕ) (y : A) → slice_get (xs ++ x ∷ []) i ≡ Some y → P i y
 at_push P [] x h one zero y at = subst (P 0) (let e : x ≡ y = cc in e) one

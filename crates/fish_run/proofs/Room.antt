@@ -56,7 +56,7 @@ full_empty v to line lines s h is mark = by h.ends
     w = s.moment
 
     rests : Rests w.count w.line (Some (record { number = high h.tail.0; line = low h.tail.0 }))
-    rests = subst (Rests w.count w.line) h.tail.1 (s.rule.tails s.seat v s.at h.alone.main h.alone.all)
+    rests = subst (Rests w.count w.line) h.tail.1 (s.rule.tails s.seat v s.at h.alone.control h.alone.all)
 
     by : EndsAt v to h.count → v.about.end < v.about.line + 18625
     by (inl same) =

@@ -4,7 +4,7 @@ use Rattle.std.proofs.Common.{refl, sym, ap, ◌∙◌, ◌⊎◌, subst, inl, a
 use Rattle.std.specs.Prelude.{◌&&◌, IfSome}
 use Rattle.fish_feed.specs.Queues.{AreIdle, IsGiven, both, works_of}
 use Rattle.fish_feed.specs.Works.{Pairs, Triples}
-use Rattle.fish_lanes.specs.Blocks.{AreKept, AreLanes, At, IsKept, IsNewLane}
+use Rattle.fish_lanes.specs.Blocks.{AreKept, AreLanes, EachLane, IsKept, IsNewLane}
 use Rattle.fish_lanes.specs.Controlling.{bound_items}
 use Rattle.fish_lanes.specs.Ending.{HasEnd}
 use Rattle.fish_lanes.specs.Outcome.{IsFullIn, LeaveNone, Stops}
@@ -338,7 +338,7 @@ module _
     shape = ap (λ (l : Log). l.shape) log
 
     -- a lane met a fault
-    pub stops_cut : (why : RunFault) → IsFirstFault ran why → (low high : ℕ) → At (λ i x. Stops Past low high x) ran → CanClose m
+    pub stops_cut : (why : RunFault) → IsFirstFault ran why → (low high : ℕ) → EachLane (λ i x. Stops Past low high x) ran → CanClose m
         → StopsBlock content images since moment d s from given disk' (record { store = Some m; why = why })
     stops_cut why f low high stops close = record {
       rounds = g.rounds;
@@ -417,7 +417,7 @@ module _
             by true less k = rounds_rolled content images since moment p at q from end.to r then (g.rounds ++ b ∷ [])
                 (registry_of (view t.pass) t.registrar) all k.runs k.registry k.unshut k.shape (higher (less refl) k)
 
-        -- memory ran out behind it
+        -- memory ran out after it
         pub stops_then : (e : Stopped) → e.store ≡ Some t → e.why ≡ fault.Memory → CanGoOn images disk'' t end.to
             → StopsBlock content images since moment d s from given disk'' e
         stops_then e store why go = record {

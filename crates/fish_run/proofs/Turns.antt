@@ -19,7 +19,7 @@ use Rattle.fish_run.specs.Steps.{HasCutOne, HasRounds, HasRunFirst, HasRunOne, I
 use Rattle.fish_store.proofs.Running.{runs_both}
 use Rattle.fish_store.specs.Sound.{GoesOnHere, IsSoundBehind, Point, Runs}
 use Rattle.fish_whole.proofs.Parts.{goes_later}
-use Rattle.fish_whole.specs.Whole.{Later, Whole, Will}
+use Rattle.fish_whole.specs.Whole.{Later, Whole, WillHold}
 
 -- ---- what rounds tell
 
@@ -126,9 +126,9 @@ module _
     (moment : D → ℕ) where
   -- ---- moments
 
-  -- what goes on in one table, and what is told behind every past
+  -- what goes on in one table, and what is told after every past
   pub runs_step : (p q : Point D) (P : Whole → Type 0) → GoesOnHere content images since moment p q → Later p.view q.view
-      → ((past : Whole) → IsSoundBehind content images p (content q.disk) past → Will past q.view P)
+      → ((past : Whole) → IsSoundBehind content images p (content q.disk) past → WillHold past q.view P)
       → Runs content images since moment p q P
   runs_step p q P h later told = record {
     told_before = h.told_before;
@@ -147,7 +147,7 @@ module _
       → ((w : Whole) → P w) → Runs content images since moment p p P
   runs_self p P h later all = runs_step p p P h later (λ past s w may. all w)
 
-  -- behind a past it is sound at a later moment too, behind another
+  -- after a past it is sound at a later moment too, after another
   pub behind_next : (p m : Point D) (P : Whole → Type 0) (later : Option (List ℕ)) → Runs content images since moment p m P
       → (IsSome later → IsSome (content m.disk)) → (past : Whole) → IsSoundBehind content images p later past
       → (next : Whole) × IsSoundBehind content images m later next

@@ -38,7 +38,7 @@ part_still old mid new text p b = (p.0, gained_none old mid new (take p.0 text) 
 
 -- ---- items
 
--- the text of items is theirs, one behind the other
+-- the text of items is theirs, one after the other
 text_both : (xs ys : List Item) → report_text (xs ++ ys) ≡ report_text xs ++ report_text ys
 text_both xs ys = flat_map-append item_text xs ys
 

@@ -2,11 +2,11 @@
 use Rattle.std.specs.Prelude.{ℕ, ◌≡◌, ◌<◌, ◌≤◌, ◌+◌, List, [], ◌∷◌, ◌++◌, length, map, slice_get, Bool, true, false, Option, Some, None, ⊤}
 use Rattle.fish_catalog.specs.Clamps.{clamped}
 use Rattle.fish_catalog.specs.declared.row.CatRow.{CatRow}
-use Rattle.fish_lanes.specs.Blocks.{AreEnded, At, NameMarks, SaysBlock, control_items}
+use Rattle.fish_lanes.specs.Blocks.{AreEnded, EachLane, NameMarks, SaysBlock, control_items}
 use Rattle.fish_lanes.specs.Controlling.{IsCommitted}
 use Rattle.fish_lanes.specs.Outcome.{IsFullIn, LanesSayPlans}
 use Rattle.fish_lanes.specs.Plans.{RowsAre}
-use Rattle.fish_lanes.specs.Registering.{AreSo, HasEach, Registry, after_all}
+use Rattle.fish_lanes.specs.Registering.{ItemsFit, HasEach, Registry, after_all}
 use Rattle.fish_lanes.specs.Single.{NamesNone, SaysWhole}
 use Rattle.fish_lanes.specs.Sizes.{NamesOneClaim}
 use Rattle.fish_lanes.specs.Spans.{Span, answers}
@@ -46,7 +46,7 @@ rounds_of (b ∷ blocks) = b.rounds ++ rounds_of blocks
 abbrev pub first_registry : List CatRow → Registry
 first_registry rows = record { rows = rows; waiting = None; version = 0 }
 
--- the items of a block's first lane, and with the boundary behind them
+-- the items of a block's first lane, and with the boundary after them
 abbrev pub first_items : List Lane → List Item
 first_items [] = []
 first_items (x ∷ lanes) = x.items
@@ -117,7 +117,7 @@ pub record SaysOneLane (rows : List CatRow) (full : Option Shut) (from : ℕ) (x
 
 -- what a round tells that begins where the log has so many numbers and the registry is this, even one in which a lane stopped at a fault:
 -- its lanes' items are so of the log, and those of its first lane of the definitions; where a statement has no item, neither have those
--- behind it; and of the items of a lane that a full log refused all name one claim, that of before the round if there was one
+-- after it; and of the items of a lane that a full log refused all name one claim, that of before the round if there was one
 pub record SaysPart (w : Whole) (from : ℕ) (r : Registry) (b : Round) : Type 0 where
   pub begins : b.span.from ≡ from
   pub ends : b.end.to ≡ b.span.to
@@ -125,13 +125,13 @@ pub record SaysPart (w : Whole) (from : ℕ) (r : Registry) (b : Round) : Type 0
   pub first : b.span.first ≡ r.version
   pub many : b.span.lanes ≡ length b.lanes
   pub lanes : SaysBlock w b.span b.lanes
-  pub registers : AreSo b.span.from (b.span.to + 16) r (first_items b.lanes)
+  pub registers : ItemsFit b.span.from (b.span.to + 16) r (first_items b.lanes)
   pub definitions : HasEach w r (first_items b.lanes)
   pub ended : AreEnded b.lanes
-  pub fulls : At (λ i x. NamesOneClaim b.span.full x.items) b.lanes
+  pub fulls : EachLane (λ i x. NamesOneClaim b.span.full x.items) b.lanes
   pub alone : (x : Lane) → b.lanes ≡ x ∷ [] → SaysOneLane r.rows b.span.full from x
 
--- what one tells in which a lane did: by the definitions behind it, which are those that its first lane's items tell unless it was that
+-- what one tells in which a lane did: by the definitions after it, which are those that its first lane's items tell unless it was that
 -- lane, pieces by an index lie where the index is complete, and no number is read one by one that was known to be so
 pub record SaysCut (w : Whole) (from : ℕ) (r : Registry) (b : Round) : Type 0 where
   pub part : SaysPart w from r b
@@ -141,11 +141,11 @@ pub record SaysCut (w : Whole) (from : ℕ) (r : Registry) (b : Round) : Type 0 
   pub behind_is : (x : Lane) → slice_get b.lanes 0 ≡ Some x → x.fault ≡ cause.None → behind ≡ after_round r b
 
 -- what one tells in which none did: every statement has its item; the definitions at each version are those that its first lane's items
--- tell, with the boundary that was found behind them; and the same of plans, by these definitions
+-- tell, with the boundary that was found after them; and the same of plans, by these definitions
 pub record SaysOne (w : Whole) (from : ℕ) (r : Registry) (b : Round) : Type 0 where
   pub part : SaysPart w from r b
-  pub whole : At (λ i x. x.fault ≡ cause.None) b.lanes
-  pub registers : AreSo b.span.from (b.span.to + 16) r (round_controls b)
+  pub whole : EachLane (λ i x. x.fault ≡ cause.None) b.lanes
+  pub registers : ItemsFit b.span.from (b.span.to + 16) r (round_controls b)
   pub definitions : HasEach w r (round_controls b)
   pub last : b.span.last ≡ (after_round r b).version
   pub plans : LanesSayPlans (RowsAre w) r (after_round r b).rows from b.lanes

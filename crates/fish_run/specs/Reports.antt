@@ -15,7 +15,7 @@ abbrev pub lane_head : Bool → ℕ → List Item
 lane_head false number = []
 lane_head true number = item.Lane number ∷ []
 
--- behind those of the first stands the boundary that was found once the lanes had ended
+-- after those of the first stands the boundary that was found once the lanes had ended
 abbrev pub lane_foot : ℕ → BlockEnd → List Item
 lane_foot number end = if nat_eq number 1 then bound_items end.bound else []
 

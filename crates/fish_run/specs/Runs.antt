@@ -24,7 +24,7 @@ pub record CanClose (s : Store) : Type 0 where
   pub alone : IsAlone (view s.pass)
   pub table : IsTable s.log
 
--- it may run a block behind so many numbers, and a checkpoint may follow
+-- it may run a block after so many numbers, and a checkpoint may follow
 pub record CanGoOn {D : Type 0} (images : D → List ℕ → Type 0) (disk : D) (s : Store) (from : ℕ) : Type 0 where
   pub can : CanControl s.log s.pass s.registrar
   pub commit : MayGoOn images (point_at disk s)

@@ -35,7 +35,7 @@ use Rattle.fish_run.specs.declared.lasting.Stopped.{Stopped}
 use Rattle.fish_script.specs.declared.script.Block as script
 use Rattle.fish_store.specs.Points.{point_at}
 use Rattle.fish_store.specs.Sound.{IsSoundBehind, Point, Runs}
-use Rattle.fish_whole.specs.Whole.{Whole, Will}
+use Rattle.fish_whole.specs.Whole.{Whole, WillHold}
 
 -- ---- one round
 
@@ -51,7 +51,7 @@ pub record HasRunOne (Past : Whole → Type 0) (count : ℕ) (fresh : Bool) (ful
   pub shuts : (line lines end : ℕ) → IsFullIn b.lanes line lines end → WasShut u
   pub begins : b.span.from ≡ from
   pub ends : b.span.to ≡ to
-  pub tells : (past : Whole) → Past past → Will past u (λ w. SaysOne w from r b)
+  pub tells : (past : Whole) → Past past → WillHold past u (λ w. SaysOne w from r b)
   pub marks : NameMarks u b.lanes
   pub committed : AllOf (IsCommitted count) (first_items b.lanes)
   pub after : t ≡ after_round r b
@@ -63,18 +63,18 @@ pub record HasCutOne (Past : Whole → Type 0) (count : ℕ) (fresh : Bool) (ful
   pub full_is : b.span.full ≡ full
   pub begins : b.span.from ≡ from
   pub ends : b.span.to ≡ to
-  pub tells : (past : Whole) → Past past → Will past u (λ w. SaysCut w from r b)
+  pub tells : (past : Whole) → Past past → WillHold past u (λ w. SaysCut w from r b)
   pub marks : NameMarks u b.lanes
   pub committed : AllOf (IsCommitted count) (first_items b.lanes)
 
--- what a round left after a number of the log: what its lanes tell is so of each whole that the control pass may leave later, behind
+-- what a round left after a number of the log: what its lanes tell is so of each whole that the control pass may leave later, after
 -- such a past
 pub record Leaves (Past : Whole → Type 0) (count : ℕ) (v u : View) (r s : Registrar) (from : ℕ) (lanes : List Lane) (end : BlockEnd)
     : Type 0 where
   pub some : 0 < length lanes
   pub begins : HasEnd v from
   pub tells : (past : Whole) → Past past → (k : Span) → IsBlockSpan v u end.to k → k.lanes ≡ length lanes
-      → (k.from ≤ k.to) × Will past u (λ w. SaysBlock w k lanes)
+      → (k.from ≤ k.to) × WillHold past u (λ w. SaysBlock w k lanes)
   pub has : (x : Lane) → slice_get lanes 0 ≡ Some x → HasRegistered v u r s x end
   pub ended : AreEnded lanes
   pub marks : NameMarks u lanes

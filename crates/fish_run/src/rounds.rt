@@ -44,7 +44,7 @@ pub(crate) struct RoundStart {
     pub bound: Option<Boundary>,
 }
 
-/// What stands behind a round of a block.
+/// What follows a round of a block.
 #[derive(Drop)]
 pub(crate) struct Turned {
     /// What the next one begins with.

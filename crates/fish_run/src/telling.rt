@@ -138,7 +138,7 @@ fn write_lanes<W: Sink>(
     Ok(())
 }
 
-/// Writes the items of a lane, and behind those of the first the boundary that was found once the lanes had ended.
+/// Writes the items of a lane, and after those of the first the boundary that was found once the lanes had ended.
 fn write_lane<W: Sink>(
     alloc: Global,
     out: &mut W,
@@ -175,7 +175,7 @@ fn write_number<W: Sink>(
     }
 }
 
-/// Writes behind the first lane where the index of a registration begins, if that was found once the lanes had ended.
+/// Writes after the first lane where the index of a registration begins, if that was found once the lanes had ended.
 fn write_bound<W: Sink>(
     alloc: Global,
     out: &mut W,

@@ -375,10 +375,10 @@ module _ {D : Type 0} (content : D → Option (List ℕ)) (images : D → List �
       → HasFilled content images number a s d t text → IsClosed (view t.pass) remains → remains.opened ≡ true → IsSample number text remains
   sample_of number a d s t text remains new h closed opened =
       let sound = h.goes.sound new.past new.sound in
-      let main = h.between.end.alone.main in
+      let control = h.between.end.alone.control in
       let all = h.between.end.alone.all in
       let w = behind_table new.past (view t.pass) remains closed in
-      let may = ends_so new.past (view t.pass) remains closed sound.fits main all in
+      let may = ends_so new.past (view t.pass) remains closed sound.fits control all in
       let none : length new.past.log ≡ 0 = ap length new.nothing in
       let number_is : (view t.pass).about.number ≡ 0 = sound.fits.base ∙ none in
       let log_is : w.log ≡ remains.log = ap (λ (z : List Entry). z ++ remains.log) new.nothing in

@@ -65,7 +65,7 @@ part_first : (xs rest : List ℕ) → NoEnd xs → slice_split is_line_end (xs +
 part_first [] rest h = slice_split-cons_yes is_line_end 10 rest refl
 part_first (x ∷ xs) rest h = slice_split-cons_no is_line_end x (xs ++ 10 ∷ rest) h.0 ∙ rw (part_first xs rest h.1) refl
 
--- the parts of a file are its lines' records, and nothing behind the last LF
+-- the parts of a file are its lines' records, and nothing after the last LF
 parts_are : (xs : List ℕ) → All (λ i. i < 2 ^ 32) xs → slice_split is_line_end (lines_of xs) ≡ map sample_text xs ++ [] ∷ []
 parts_are [] h = refl
 parts_are (x ∷ xs) h =

@@ -6,7 +6,7 @@ use Rattle.std.specs.Prelude.{is_some}
 use Rattle.std.specs.List.{list_all}
 use Rattle.fish_lanes.proofs.Controls.{each_last}
 use Rattle.fish_lanes.proofs.Lists.{some_once}
-use Rattle.fish_lanes.specs.Blocks.{AreEnded, AreKept, At, Both, HasRegistered, IsBlockSpan, control_items}
+use Rattle.fish_lanes.specs.Blocks.{AreEnded, AreKept, EachLane, EachLanePair, HasRegistered, IsBlockSpan, control_items}
 use Rattle.fish_lanes.specs.Controlling.{CanControl, bound_items}
 use Rattle.fish_lanes.specs.Ending.{HasEnd}
 use Rattle.fish_lanes.specs.Registering.{KnowsRegistry, after_all, registry_of}
@@ -51,13 +51,13 @@ no_bound (Some b) h = absurd (false≢true (sym h))
 
 module _ (lanes : List Lane) (whole : list_all is_whole_lane lanes ≡ true) where
   -- they keep their statements
-  pub kept_works : (old : List Lane) → AreKept old lanes → Both (λ i x y. y.works ≡ x.works) old lanes
+  pub kept_works : (old : List Lane) → AreKept old lanes → EachLanePair (λ i x y. y.works ≡ x.works) old lanes
   kept_works old kept i x y one two =
       let none = (whole_at lanes whole i y two).1 in
       sym ((kept i x y one two).works ∙ ap (λ (z : List Work). y.works ++ z) none ∙ append-nil y.works)
 
   -- each of which has an item that answers it
-  pub all_ended : AreEnded lanes → At (λ i x. length (answers x.items) ≡ length x.works) lanes
+  pub all_ended : AreEnded lanes → EachLane (λ i x. length (answers x.items) ≡ length x.works) lanes
   all_ended ended i x at = (ended i x at).ended.whole (whole_at lanes whole i x at).0
 
   module _ {D : Type 0} (content : D → Option (List ℕ)) (images : D → List ℕ → Type 0) (disk : D) (s : Store) (disk' : D) (t : Store)

@@ -14,7 +14,7 @@ use Rattle.fish_lang.specs.Definition.{Definition, definition_of}
 use Rattle.fish_lang.specs.Language.{IsAccepted}
 use Rattle.fish_lanes.proofs.RowLists.{contents_append}
 use Rattle.fish_lanes.specs.Records.{LaneRow, contents}
-use Rattle.fish_lanes.specs.Registering.{AreSo, IsRegisterItem, IsSo, Registry, after, after_all}
+use Rattle.fish_lanes.specs.Registering.{ItemsFit, IsRegisterItem, ItemFits, Registry, after, after_all}
 use Rattle.fish_lanes.specs.Scanning.{SaysScanned}
 use Rattle.fish_lanes.specs.Seen.{IsSeen, Shown, shown_by}
 use Rattle.fish_lanes.specs.Spans.{Span, answers, behind, is_answer}
@@ -160,11 +160,11 @@ module _ (w : Whole) (r : Registry) (number below : ℕ) (rows_are : w.rows r.ve
     (selected : AreSelected number below w) where
   -- the line of one is that of what is asked
   answered_line : (s : Span) (before : List LaneRow) (shown : List Shown) (a : Asked) (x : Item) (low high : ℕ) → s.from ≡ below
-      → SaysScanned w s (IsSeen s.from before shown) (ask_of a) x → is_scanned x ≡ true → IsSo low high r x
+      → SaysScanned w s (IsSeen s.from before shown) (ask_of a) x → is_scanned x ≡ true → ItemFits low high r x
       → MeansIn (map listed_of r.rows) a → item_line x ≡ count_line a.name a.value (count_of number a)
   answered_line s before shown a x low high begins h is so means =
       let none : h.opens ≡ [] = none_left h.opens (sym (ap is_scanned h.is) ∙ is) in
-      let version : h.version ≡ r.version = subst (IsSo low high r) h.is so in
+      let version : h.version ≡ r.version = subst (ItemFits low high r) h.is so in
       let m = h.tells.means in
       let listed : m.rows ≡ map listed_of r.rows = sym m.has.are ∙ ap w.rows version ∙ rows_are in
       let def : h.tells.def ≡ a.definition = subst (λ (ls : List Listed). MeansIn ls a) (sym listed) means m.position m.newest h.tells.def
@@ -179,7 +179,7 @@ module _ (w : Whole) (r : Registry) (number below : ℕ) (rows_are : w.rows r.ve
 
   pub scan_lines : (s : Span) (before : List LaneRow) (shown : List Shown) (rows : List LaneRow) (asked : List Asked) (items : List Item)
       (low high : ℕ) → s.from ≡ below → SaysItems w s before shown rows (map scan_of asked) items
-      → length items ≡ length (map scan_of asked) → list_all is_scanned items ≡ true → AreSo low high r items
+      → length items ≡ length (map scan_of asked) → list_all is_scanned items ≡ true → ItemsFit low high r items
       → AllByRecursion (MeansIn (map listed_of r.rows)) asked
       → flat_map item_line items ≡ flat_map (λ a. count_line a.name a.value (count_of number a)) asked
   scan_lines s before shown rows [] [] low high begins h many all so means = refl
@@ -189,14 +189,14 @@ module _ (w : Whole) (r : Registry) (number below : ℕ) (rows_are : w.rows r.ve
       let both = and_both (is_scanned x) (list_all is_scanned items) all in
       let more = scan_lines (behind x s) (before ++ h.0) (shown ++ shown_by x) h.1 asked items low high begins h.5 (let e = many in omega
       arith) both.1
-      (subst (λ (z : Registry). AreSo low high z items) (same_after r x both.0) so.1) means.1 in
+      (subst (λ (z : Registry). ItemsFit low high z items) (same_after r x both.0) so.1) means.1 in
       (λ i. by h.4 both.0 so.0 i ++ more i)
     where
       same_after : (r : Registry) (x : Item) → is_scanned x ≡ true → after r x ≡ r
       same_after r (item.Scanned name value from to opens rows version) is = refl
       same_after r x is = absurd (false≢true is)
 
-      by : SaysItem w s before shown (scan_of a) x → is_scanned x ≡ true → IsSo low high r x
+      by : SaysItem w s before shown (scan_of a) x → is_scanned x ≡ true → ItemFits low high r x
           → item_line x ≡ count_line a.name a.value (count_of number a)
       by (inl t) is one = answered_line s before shown a x low high begins t is one means.0
       by (inr t) is one = absurd (false≢true (sym (ap is_scanned t.is) ∙ is))

@@ -40,7 +40,7 @@ fn push_definitions(alloc: Global, works: &mut Works) -> Result<(), AllocError>
     push_definition(alloc, works, "band", "bucket k by 100")
 }
 
-/// Puts the registration of a definition behind the others.
+/// Puts the registration of a definition after the others.
 fn push_definition(
     alloc: Global,
     works: &mut Works,
@@ -70,7 +70,7 @@ pub(crate) fn scanning_lane(alloc: Global) -> Result<Lane, AllocError>
     }
 }
 
-/// Puts the scans behind the others.
+/// Puts the scans after the others.
 fn push_scans(alloc: Global, works: &mut Works) -> Result<(), AllocError>
     ensures { OnOk result (works.new ≡ works.old ++ all_scans) }
 {
@@ -116,7 +116,7 @@ fn push_band(alloc: Global, works: &mut Works, band: u32) -> Result<(), AllocErr
     push_scan(alloc, works, "band", Value::Int((band * 100) as i64))
 }
 
-/// Puts the scan of a value behind the others.
+/// Puts the scan of a value after the others.
 fn push_scan(alloc: Global, works: &mut Works, name: &str, value: Value) -> Result<(), AllocError>
     ensures { OnOk result (works.new ≡ works.old ++ scan_by name.now value ∷ []) }
 {

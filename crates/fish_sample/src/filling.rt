@@ -108,7 +108,7 @@ fn push_shares(alloc: Global, number: u32, lanes: &mut Vec<Lane>) -> Result<(), 
     push_share(alloc, number, 4, lanes)
 }
 
-/// Puts the lane with a number behind the others.
+/// Puts the lane with a number after the others.
 fn push_share(alloc: Global, number: u32, lane: u8, lanes: &mut Vec<Lane>) -> Result<(), AllocError>
     ensures { OnOk result (HasPushed number lane lanes.old.items lanes.new.items) }
 {

@@ -61,7 +61,7 @@ fn share_file(alloc: Global, number: u32, lane: u8) -> Result<Bytes, AllocError>
     Ok(file)
 }
 
-/// Puts the line of a record behind the others.
+/// Puts the line of a record after the others.
 fn push_record(alloc: Global, file: &mut Bytes, i: u32) -> Result<(), AllocError>
     ensures { OnOk result (file.new ≡ file.old ++ line_of i) }
 {

@@ -21,7 +21,7 @@ pub(crate) fn summary_of(alloc: Global, number: u32, items: &[Item]) -> Result<T
     Ok(Text::from_string(text))
 }
 
-/// Puts the line of a scan behind the others.
+/// Puts the line of a scan after the others.
 fn push_count(alloc: Global, text: &mut String, item: &Item) -> Result<(), AllocError>
     ensures { OnOk result (string_bytes text.new ≡ string_bytes text.old ++ item_line item.now) }
 {
@@ -36,7 +36,7 @@ fn push_count(alloc: Global, text: &mut String, item: &Item) -> Result<(), Alloc
     }
 }
 
-/// Puts a line of a name, a value and a count behind the others.
+/// Puts a line of a name, a value and a count after the others.
 fn push_line(
     alloc: Global,
     text: &mut String,

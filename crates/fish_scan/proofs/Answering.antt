@@ -182,7 +182,7 @@ range_within v m u t from to first last opens before after h = record {
 -- a pass that is alone stays alone
 pub scans_alone : (v u : View) → OnlyScans v u → IsAlone v → IsAlone u
 scans_alone v u h alone = record {
-  main = ap (λ (z : View). z.lane) h.frame ∙ alone.main;
+  control = ap (λ (z : View). z.lane) h.frame ∙ alone.control;
   all = ap (λ (z : View). z.out) h.frame ∙ alone.all;
   idle = ap (λ (z : View). z.flight) h.frame ∙ alone.idle;
 }
@@ -430,7 +430,7 @@ planned_later v u t known ask p after h = record {
   plan_is = plan_within v v u t _ _ ask.how _ _ _ _ (learns_self v) after.learns h.plan;
 }
 
--- rows behind none
+-- rows after none
 pub adds_first : (v : View) (def : Definition) (value other : Value) (from to : ℕ) (opens : List ℕ) (before after : List Row)
     → before ≡ [] → value ≡ other → Adds v def value from to opens before after → Finds v def other from to opens after
 adds_first v def value other from to opens before after none same h =

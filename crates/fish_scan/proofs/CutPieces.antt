@@ -20,7 +20,7 @@ to_is : (x : Piece) (from to : ℕ) → piece_to (ended x from to) ≡ to
 to_is (Index id a b) from to = refl
 to_is (Full a b) from to = refl
 
--- pieces that fill a range fill none that begins behind its end
+-- pieces that fill a range fill none that begins past its end
 order : (ps : List Piece) (from to : ℕ) → Fill ps from to → from ≤ to
 order [] from to h = omega arith
 order (x ∷ ps) from to h = (let rest = order ps from (piece_from x) h.2 in let less = h.1 in omega arith)

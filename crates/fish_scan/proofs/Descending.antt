@@ -41,7 +41,7 @@ pub entries_above : (v : View) (b first m n high : ℕ) (places : List ℕ) → 
 entries_above v b first m n high [] less h = omega arith
 entries_above v b first m n high (p ∷ places) less h = (h.0, h.1, entries_above v b first m n p places less h.2)
 
--- entries above a place, and behind them those below it
+-- entries above a place, and after them those below it
 pub entries_both : (v : View) (b first low mid high : ℕ) (ps qs : List ℕ) → AreEntries v b first mid high ps
     → AreEntries v b first low mid qs → AreEntries v b first low high (ps ++ qs)
 entries_both v b first low mid high [] qs h g = entries_below v b first low mid high qs h g
@@ -63,7 +63,7 @@ entries_passed v b first from to (p ∷ places) h =
 
 -- ---- a walk
 
--- going down a bucket's chain to a place a walk passed these entries, and the rows that it found came behind others
+-- going down a bucket's chain to a place a walk passed these entries, and the rows that it found came after others
 pub record IsDescent (v u : View) (bucket first place : ℕ) (before after : List Row) (old new : ℕ) : Type 0 where
   pub top : ℕ
   pub entries : List ℕ

@@ -59,7 +59,7 @@ module _ (u : View) (s : Stands u) where
   end_above n count alone tail (inl e) =
       let w = s.moment in
       let rests : Rests w.count w.line (Some (record { number = high tail.0; line = low tail.0 })) =
-      subst (Rests w.count w.line) tail.1 (s.rule.tails s.seat u s.at alone.main alone.all) in
+      subst (Rests w.count w.line) tail.1 (s.rule.tails s.seat u s.at alone.control alone.all) in
       let all : high tail.0 ≡ w.count = rests.0 in
       let same = tail.2 in
       let some = s.rule.space.regions.some in
@@ -105,7 +105,7 @@ none_open n look.Overflow ns closed none = none
 -- a pass that is alone stays alone as it settles numbers
 pub settles_alone : (v u : View) → OnlySettles v u → IsAlone v → IsAlone u
 settles_alone v u h alone = record {
-  main = ap (λ (z : View). z.lane) h.frame ∙ alone.main;
+  control = ap (λ (z : View). z.lane) h.frame ∙ alone.control;
   all = ap (λ (z : View). z.out) h.frame ∙ alone.all;
   idle = ap (λ (z : View). z.flight) h.frame ∙ alone.idle;
 }
@@ -168,7 +168,7 @@ module _ (a b c d : View) (from : ℕ) (to : Option ℕ) (settled count base sto
           (λ (h : (stop < from) × (stop < end_of to count) × (end ≡ stop) × KnowsMark c stop).
           inr ((let less = h.1 in let same = above in omega arith), h.2 ∙ above)) cut
 
-      -- behind the log's end nothing is looked at
+      -- past the log's end nothing is looked at
       begins : settled < end → first ≡ settled
       begins less = pick (dec_lt stop from)
         where

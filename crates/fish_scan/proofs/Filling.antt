@@ -30,13 +30,13 @@ pub all_readable_later : (v u : View) (def : Definition) (reach : Reach) (pieces
 all_readable_later v u def reach pieces learns h place piece there =
     readable_later v u def reach piece learns (h place piece there)
 
--- pieces that fill a range fill none that begins behind its end
+-- pieces that fill a range fill none that begins past its end
 fill_order : (pieces : List Piece) (from to : ℕ) → Fill pieces from to → from ≤ to
 fill_order [] from to fill = omega arith
 fill_order (x ∷ pieces) from to fill =
     let below = fill_order pieces from (piece_from x) fill.2 in let less = fill.1 in omega arith
 
--- the piece at a place, and those behind it
+-- the piece at a place, and those after it
 pub fill_at : (pieces : List Piece) (n from to : ℕ) (x : Piece) → slice_get pieces n ≡ Some x → Fill (drop n pieces) from to
     → Fill (x ∷ drop (suc n) pieces) from to
 fill_at [] n from to x there fill = absurd cc
@@ -44,14 +44,14 @@ fill_at (y ∷ pieces) zero from to x there fill =
     subst (λ (z : Piece). Fill (z ∷ pieces) from to) (same_Some y x there) fill
 fill_at (y ∷ pieces) (suc n) from to x there fill = fill_at pieces n from to x there fill
 
--- behind the last place there is none
+-- after the last place there is none
 pub fill_end : (pieces : List Piece) (n from to : ℕ) → length pieces ≤ n → Fill (drop n pieces) from to → from ≡ to
 fill_end [] zero from to past fill = fill
 fill_end [] (suc n) from to past fill = fill
 fill_end (x ∷ pieces) zero from to past fill = absurd (omega arith)
 fill_end (x ∷ pieces) (suc n) from to past fill = fill_end pieces n from to (omega arith) fill
 
--- the numbers of a piece and of those behind it that are looked at one by one
+-- the numbers of a piece and of those after it that are looked at one by one
 pub full_at : (pieces : List Piece) (n : ℕ) (x : Piece) → slice_get pieces n ≡ Some x
     → full_numbers (drop n pieces) ≡ full_of x + full_numbers (drop (suc n) pieces)
 full_at [] n x there = absurd cc

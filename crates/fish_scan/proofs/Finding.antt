@@ -27,7 +27,7 @@ falls_more : (m n : ℕ) (rows : List Row) → m ≤ n → FallsBelow m rows →
 falls_more m n [] less f = tt
 falls_more m n (row ∷ rows) less f = (let a = f.0 in omega arith, f.1)
 
--- rows that fall below all of others go behind them
+-- rows that fall below all of others go after them
 pub falls_both : (n m : ℕ) (rows others : List Row) → FallsBelow n rows → ((row : Row) → Among row rows → m ≤ row.number)
     → m ≤ n → FallsBelow m others → FallsBelow n (rows ++ others)
 falls_both n m [] others f above less g = falls_more m n others less g

@@ -8,11 +8,11 @@ use Rattle.fish_rule.proofs.laws.Lists.{among_either}
 use Rattle.fish_rule.specs.Views.{Among}
 
 module _ {A : Type 0} where
-  -- what is in a list with one more behind
+  -- what is in a list with one more after
   pub among_last : (x y : A) (xs : List A) → Among x (xs ++ y ∷ []) → Among x xs ⊎ (y ≡ x)
   among_last x y xs m = elim (among_either x xs (y ∷ []) m) [ inl a ↦ inl a | inr (inl e) ↦ inr e | inr (inr h) ↦ elim h [ ] ]
 
-  -- what stands in a list with one more behind
+  -- what stands in a list with one more after
   pub get_last : (xs : List A) (y x : A) (i : ℕ) → slice_get (xs ++ y ∷ []) i ≡ Some x
       → (slice_get xs i ≡ Some x) ⊎ ((i ≡ length xs) × (y ≡ x))
   get_last [] y x zero at = inr (refl, same_Some y x at)
@@ -21,13 +21,13 @@ module _ {A : Type 0} where
   get_last (z ∷ xs) y x (suc i) at =
       elim (get_last xs y x i at) [ inl e ↦ inl e | inr e ↦ inr (ap suc e.0, e.1) ]
 
-  -- what stands in a list stands there with others behind
+  -- what stands in a list stands there with others after
   pub get_before : (xs ys : List A) (x : A) (i : ℕ) → slice_get xs i ≡ Some x → slice_get (xs ++ ys) i ≡ Some x
   get_before [] ys x i at = absurd cc
   get_before (z ∷ xs) ys x zero at = at
   get_before (z ∷ xs) ys x (suc i) at = get_before xs ys x i at
 
-  -- and one more behind stands at the length
+  -- and one more after stands at the length
   pub get_here : (xs : List A) (y : A) → slice_get (xs ++ y ∷ []) (length xs) ≡ Some y
   get_here [] y = refl
   get_here (z ∷ xs) y = get_here xs y

@@ -17,7 +17,7 @@ use Rattle.fish_walk.specs.Looks.{CountsLoads, HasFound}
 pub rises_none : (v : View) (old : ℕ) → RisesBy v v old old 0
 rises_none v old = record { counted = omega arith; own = omega arith }
 
--- one rise behind another
+-- one rise after another
 pub rises_both : (v m u : View) (old mid new a b : ℕ) → RisesBy v m old mid a → RisesBy m u mid new b
     → RisesBy v u old new (a + b)
 rises_both v m u old mid new a b h g = (let w = h.counted in let x = h.own in let y = g.counted in let z = g.own in
@@ -45,7 +45,7 @@ records_below : (v : View) (from m n : ℕ) (fs : List Found) → m ≤ n → Ar
 records_below v from m n [] less h = omega arith
 records_below v from m n (f ∷ fs) less h = ((let a = h.0 in omega arith), h.1, h.2, h.3)
 
--- records of one range, and behind them those of the range below
+-- records of one range, and after them those of the range below
 pub records_both : (v : View) (from mid to : ℕ) (fs gs : List Found) → AreRecords v mid to fs → AreRecords v from mid gs
     → AreRecords v from to (fs ++ gs)
 records_both v from mid to [] gs h g = records_below v from mid to gs h g
@@ -132,7 +132,7 @@ loaded_one v u before after row f old new most is r h = record {
   rises = rises_within v u old new (most + f.lines * 4) (most + (f.lines * 4 + 0)) (omega arith) h;
 }
 
--- rows behind rows
+-- rows after rows
 pub loaded_both : (v m u : View) (before rows after : List Row) (old mid new a b : ℕ) → Learns m u
     → HasLoadedRows v m before rows old mid a → HasLoadedRows m u rows after mid new b
     → HasLoadedRows v u before after old new (a + b)
@@ -160,7 +160,7 @@ record_loads v u n f old new r h =
 pub compared : (v u : View) (old new : ℕ) → new + v.clock.loads ≡ old + u.clock.loads → new ≤ old + 35 → RisesBy v u old new 36
 compared v u old new same few = record { counted = omega arith; own = omega arith }
 
--- and behind that its record was read
+-- and after that its record was read
 pub compared_read : (v m t : View) (n old mid new : ℕ) → mid + v.clock.loads ≡ old + m.clock.loads → mid ≤ old + 35
     → HasFound m n Stored → Learns m t → CountsLoads m t n mid new → (f : Found) × IsRecordAt t n f × RisesBy v t old new (36 + f.lines * 4)
 compared_read v m t n old mid new same few (f, among, number_is, kind) learns counts =

@@ -30,7 +30,7 @@ use Rattle.fish_walk.specs.declared.outcome.Look.TheVariants as look
 
 -- ---- numbers that rise
 
--- one more behind
+-- one more after
 pub rise_more : (low high n : ℕ) (ns : List ℕ) → Rise low high ns → high ≤ n → Rise low (suc n) (ns ++ n ∷ [])
 rise_more low high n [] rise more = (omega arith, omega arith)
 rise_more low high n (m ∷ ns) rise more = (rise.0, rise_more (suc m) high n ns rise.1 more)
@@ -45,7 +45,7 @@ pub rise_sooner : (less low high : ℕ) (ns : List ℕ) → less ≤ low → Ris
 rise_sooner less low high [] lower rise = omega arith
 rise_sooner less low high (m ∷ ns) lower rise = ((let a = rise.0 in omega arith), rise.1)
 
--- a number that was looked at behind others
+-- a number that was looked at after others
 rise_look : (low n : ℕ) (r : Look) (ns : List ℕ) → Rise low n ns → Rise low (suc n) (with_look n r ns)
 rise_look low n look.Unfinished ns rise = rise_more low n n ns rise (omega arith)
 rise_look low n look.Void ns rise = rise_later low n (suc n) ns rise (omega arith)
@@ -191,7 +191,7 @@ module _ (v m u : View) (first n count : ℕ) (looks : List Look) (opens : List 
 
 -- ---- the range
 
--- looks behind a call that settled
+-- looks after a call that settled
 pub settles_looks : (a b d : View) → OnlySettles a b → OnlyLooks b d → OnlySettles a d
 settles_looks a b d h g = record {
   learns = learns_both a b d h.learns g.extends.learns;

@@ -21,7 +21,7 @@ use Rattle.fish_scan.specs.OlderWork.{IsWalkAllowed, older_words}
 use Rattle.fish_value.specs.declared.row.Row.{Row}
 use Rattle.fish_value.specs.declared.value.Value.{Value}
 
--- the words of records, with one more behind
+-- the words of records, with one more after
 pub older_words_more : (ps : List BodyParts) (p : BodyParts) → older_words (ps ++ p ∷ []) ≡ older_words ps + body_lines p * 4
 older_words_more [] p = omega arith
 older_words_more (q ∷ ps) p = (let rest = older_words_more ps p in omega arith)

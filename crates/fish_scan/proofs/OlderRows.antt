@@ -35,7 +35,7 @@ module _ (entries : List Entry) (def : Definition) (value : Value) where
   pub adds_older_none : (n : ℕ) (rows : List Row) → AddsOlder entries def value n n rows rows
   adds_older_none n rows = ([], sym (append-nil rows), older_none n n (omega arith))
 
-  -- in two ranges that touch one comes behind the other
+  -- in two ranges that touch one comes after the other
   finds_older_both : (from mid to : ℕ) (rows others : List Row) → from ≤ mid → mid ≤ to → FindsOlder entries def value mid to rows
       → FindsOlder entries def value from mid others → FindsOlder entries def value from to (rows ++ others)
   finds_older_both from mid to rows others less more h g = record {

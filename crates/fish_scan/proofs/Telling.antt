@@ -124,7 +124,7 @@ pub adds_none : (v : View) (def : Definition) (value : Value) (n : ℕ) (opens :
     → Adds v def value n n opens rows rows
 adds_none v def value n opens rows = ([], sym (append-nil rows), finds_none v def value n opens)
 
--- and in two ranges that touch one comes behind the other
+-- and in two ranges that touch one comes after the other
 pub adds_both : (v : View) (def : Definition) (value : Value) (from mid to : ℕ) (opens : List ℕ) (before between after : List Row)
     → from ≤ mid → mid ≤ to → Adds v def value mid to opens before between → Adds v def value from mid opens between after
     → Adds v def value from to opens before after

@@ -74,7 +74,7 @@ bucket_still v u id value learns =
 
 -- ---- one entry
 
--- what a walk has gathered came behind rows
+-- what a walk has gathered came after rows
 abbrev pub Gathered : View → Definition → Value → ℕ → ℕ → ℕ → ℕ → ℕ → List Row → List Row → Type 0
 Gathered v def value id bucket from to given start rows = (new : List Row) × (rows ≡ start ++ new)
     × Gathers v def value id bucket from to given new

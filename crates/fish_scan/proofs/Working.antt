@@ -30,7 +30,7 @@ full_none v opens n old = (
   rises_none v old,
 )
 
--- the numbers below come behind
+-- the numbers below come after
 pub full_both : (v m u : View) (opens : List ℕ) (from mid to old late new : ℕ) → Learns m u
     → IsFullWork v m opens mid to old late → IsFullWork m u opens from mid late new → IsFullWork v u opens from to old new
 full_both v m u opens from mid to old late new learns (a, h, r) (b, g, s) =
@@ -141,7 +141,7 @@ take_all [] (suc n) past = refl
 take_all (x ∷ xs) zero past = absurd (omega arith)
 take_all (x ∷ xs) (suc n) past = ap (λ z. x ∷ z) (take_all xs n (omega arith))
 
--- the rows of one piece more came behind, and with them its work
+-- the rows of one piece more came after, and with them its work
 pub pieces_more : (v m u : View) (value : Value) (opens : List ℕ) (rows after : List Row) (new : List Row) (pieces : List Piece)
     (n : ℕ) (x : Piece) (old mid late : ℕ) → Learns m u → slice_get pieces n ≡ Some x → after ≡ rows ++ new
     → ArePiecesWork v m value opens rows (take n pieces) old mid → IsPieceWork m u value opens after x mid late

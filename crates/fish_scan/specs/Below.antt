@@ -39,7 +39,7 @@ AreOlderAllowed prior v value rows (piece ∷ pieces) walked most = (one : ℕ) 
     × (walked ≡ one + others) × (most ≡ first + rest) × IsOlderAllowed prior v value rows piece one first
     × AreOlderAllowed prior v value rows pieces others rest
 
--- a piece was read: its rows came behind others, its records were parsed, and the loads are allowed
+-- a piece was read: its rows came after others, its records were parsed, and the loads are allowed
 pub record HasReadPiece {image : List ℕ} {count : ℕ} {end : Reached} (prior : IsPrior image count end) (v u : View)
     (def : Definition) (value : Value) (piece : Piece) (before after : List Row) (parsed parses loaded loads : ℕ) : Type 0 where
   pub rows : AddsOlder end.entries def value (piece_from piece) (piece_to piece) before after

@@ -56,7 +56,7 @@ IsValued v value node None = Always v (λ k w. ¬ HasValue node.number node.key 
 IsValued v value node (Some payload) = Always v (HasValue node.number node.key value)
     × ((lane : ℕ) × (form : Form) × KnowsAs v node.number (entry.Stored lane form payload))
 
--- the row of an entry that has the value came behind others
+-- the row of an entry that has the value came after others
 pub record IsRowOf (v : View) (value : Value) (node : Node) (payload : List ℕ) (before after : List Row) : Type 0 where
   pub valued : IsValued v value node (Some payload)
   pub added : after ≡ before ++ record { number = node.number; payload = payload } ∷ []

@@ -40,7 +40,7 @@ abbrev pub IsTaken : View → View → ℕ → Option Interval → Type 0
 IsTaken v u id None = IsUnbegun v id
 IsTaken v u id (Some x) = IsBegun u v.learned.settled id x × HasEndKnown v id x
 
--- the interval of a row with the text came behind others
+-- the interval of a row with the text came after others
 pub record IsAdded (v u : View) (row : Listed) (text : List ℕ) (before after : List Interval) : Type 0 where
   pub interval : Interval
   pub text_is : row.def ≡ text

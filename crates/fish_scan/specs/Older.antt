@@ -24,7 +24,7 @@ pub record FindsOlder (entries : List Entry) (def : Definition) (value : Value) 
   pub sound : (row : Row) → Among row rows → IsOlderMatch entries def value row
   pub complete : (row : Row) → from ≤ row.number → row.number < to → IsOlderMatch entries def value row → Among row rows
 
--- they came behind those before
+-- they came after those before
 abbrev pub AddsOlder : List Entry → Definition → Value → ℕ → ℕ → List Row → List Row → Type 0
 AddsOlder entries def value from to before after = (rows : List Row) × (after ≡ before ++ rows)
     × FindsOlder entries def value from to rows

@@ -17,7 +17,7 @@ use Rattle.fish_scan.specs.OlderWork.{IsOlderFullAllowed, IsOlderIndexAllowed, I
 use Rattle.fish_value.specs.declared.row.Row.{Row}
 use Rattle.fish_value.specs.declared.value.Value.{Value}
 
--- numbers from one on and below another were read one by one: the rows that have the value came behind others, each record was
+-- numbers from one on and below another were read one by one: the rows that have the value came after others, each record was
 -- parsed once, and the loads are those of a full piece
 pub record HasReadOlder {image : List ℕ} {count : ℕ} {end : Reached} (prior : IsPrior image count end) (def : Definition)
     (value : Value) (from to : ℕ) (before after : List Row) (parsed parses loaded loads : ℕ) : Type 0 where
@@ -34,7 +34,7 @@ pub record IsPayloadAt (p : BodyParts) (payload : List ℕ) (before now : ℕ) :
   pub is : payload ≡ p.payload
   pub few : now ≤ before + body_lines p * 4
 
--- the entry's record came behind others, with a payload of which something is told
+-- the entry's record came after others, with a payload of which something is told
 pub record Takes (node : ColdNode) (id : ℕ) (value : Value) (to : ℕ) (before after : List Row) (old new : ℕ)
     (told : List ℕ → ℕ → ℕ → Type 0) (last : ℕ) : Type 0 where
   pub below : node.number < to
@@ -66,7 +66,7 @@ abbrev pub IsCoveredBy : {content : Option (List ℕ)} {k : Key} {cold : Cold} �
 IsCoveredBy h def id from to = (n : ℕ) (p : BodyParts) → IsPriorRecord h.prior n p → from ≤ n → n < to
     → values_under id p.keys ≡ evaluation def p.form p.payload
 
--- a chain was followed in the file: the rows of the range that have the value came behind others, by so many loads
+-- a chain was followed in the file: the rows of the range that have the value came after others, by so many loads
 pub record HasDescended {image : List ℕ} {count : ℕ} {end : Reached} (prior : IsPrior image count end) (b : ℕ)
     (def : Definition) (value : Value) (from to : ℕ) (before after : List Row) (loaded loads : ℕ) : Type 0 where
   pub rows : AddsOlder end.entries def value from to before after

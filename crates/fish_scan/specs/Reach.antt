@@ -58,7 +58,7 @@ pub record AreLooks (v u : View) (first end count : ℕ) (looks : List Look) (op
   pub were : (n : ℕ) → Among n opens → WasOpen v u n
   pub rise : Rise first (first + length looks) opens
 
--- the end of a range, or the number at which the settled ones stop, which is a mark in front of it
+-- the end of a range, or the number at which the settled ones stop, which is a mark before it
 abbrev pub IsCut : View → ℕ → ℕ → ℕ → ℕ → Type 0
 IsCut v stop from end found = (found ≡ end) ⊎ ((stop < from) × (stop < end) × (found ≡ stop) × KnowsMark v stop)
 

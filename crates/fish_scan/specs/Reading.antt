@@ -27,7 +27,7 @@ IsMatching def value (entry.Stored lane form payload) None = ¬ Gives def form p
 IsMatching def value entry.Void (Some found) = ⊥
 IsMatching def value entry.Void None = ⊤
 
--- the rows of a range, newest first, came behind those before
+-- the rows of a range, newest first, came after those before
 abbrev pub Adds : View → Definition → Value → ℕ → ℕ → List ℕ → List Row → List Row → Type 0
 Adds v def value from to opens before after = (rows : List Row) × (after ≡ before ++ rows)
     × Finds v def value from to opens rows

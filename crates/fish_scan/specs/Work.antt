@@ -115,7 +115,7 @@ AreRecordsOf v [] [] = ⊤
 AreRecordsOf v (row ∷ rows) (f ∷ found) = IsRecordAt v row.number f × AreRecordsOf v rows found
 AreRecordsOf v rows found = ⊥
 
--- the rows that came behind others took at most so many loads beside those of the words of their records
+-- the rows that came after others took at most so many loads beside those of the words of their records
 pub record HasLoadedRows (v u : View) (before after : List Row) (old new most : ℕ) : Type 0 where
   pub rows : List Row
   pub added : after ≡ before ++ rows

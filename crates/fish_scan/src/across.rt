@@ -97,8 +97,8 @@ pub fn scan_with<D: Disk, P: Ledger, L: Ledger>(
     }
 }
 
-/// Puts the records of the pieces, which fill the range, that have the value behind the rows, newest first: those in the
-/// table, and behind them the older ones.
+/// Puts the records of the pieces, which fill the range, that have the value after the rows, newest first: those in the
+/// table, and after them the older ones.
 fn read_across<D: Disk, P: Ledger, L: Ledger>(
     alloc: Global,
     log: &Log,

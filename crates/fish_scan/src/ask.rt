@@ -1,4 +1,4 @@
-//! What a scan is asked, and what it answers. Numbers are those of records; `to` is the first behind.
+//! What a scan is asked, and what it answers. Numbers are those of records; `to` is the first after.
 
 use fish_plan::Plan;
 use fish_value::{Numbers, Rows, Text, Value};
@@ -23,7 +23,7 @@ pub struct Ask {
     pub value: Value,
     /// The first number, or none for 0.
     pub from: Option<u32>,
-    /// The first number behind, or none for all that is claimed.
+    /// The first number after, or none for all that is claimed.
     pub to: Option<u32>,
     pub how: How,
 }

@@ -24,7 +24,7 @@ use fish_value::Rows;
 use std::alloc::Global;
 use std::sync::ledger::Ledger;
 
-/// Puts the records of the pieces, which fill what of the range is below the base, that have the value behind the rows,
+/// Puts the records of the pieces, which fill what of the range is below the base, that have the value after the rows,
 /// newest first.
 pub(crate) fn read_below<D: Disk, P: Ledger, L: Ledger>(
     alloc: Global,
@@ -62,7 +62,7 @@ pub(crate) fn read_below<D: Disk, P: Ledger, L: Ledger>(
     Ok(())
 }
 
-/// Puts the records of a piece below the base that have the value behind the rows, newest first.
+/// Puts the records of a piece below the base that have the value after the rows, newest first.
 fn read_older_piece<D: Disk, P: Ledger, L: Ledger>(
     alloc: Global,
     log: &Log,

@@ -32,7 +32,7 @@ use fish_rule::{Log, Pass, base, buckets};
 use fish_value::{Row, Rows, Text};
 use std::sync::ledger::Ledger;
 
-/// Puts the records of a stretch below the base that have the value behind the rows, newest first, by the index of the row
+/// Puts the records of a stretch below the base that have the value after the rows, newest first, by the index of the row
 /// with an id. The chain is followed through the table, and from there on in the file: at most 38 loads for each key entry
 /// there of a number at or above the stretch's first, those of the words of the records that it finds, and one more.
 pub(crate) fn read_chain<D: Disk, L: Ledger>(
@@ -95,7 +95,7 @@ fn rest_of<L: Ledger>(log: &Log, pass: &mut Pass, bucket: u32, loads: &mut Steps
     }
 }
 
-/// Puts the records of a stretch that have the value behind the rows, by the chain that begins at a place in the file, all of
+/// Puts the records of a stretch that have the value after the rows, by the chain that begins at a place in the file, all of
 /// whose records are below the base.
 fn walk_down<D: Disk, L: Ledger>(
     query: &Query,
@@ -140,7 +140,7 @@ fn walk_down<D: Disk, L: Ledger>(
     }
 }
 
-/// Puts the record of a key entry behind the rows, if the entry is of the definition with an id, has the value, and the
+/// Puts the record of a key entry after the rows, if the entry is of the definition with an id, has the value, and the
 /// record's number is below the one that was put last. Answers the number of the last one.
 fn visit<D: Disk, L: Ledger>(
     query: &Query,

@@ -30,7 +30,7 @@ pub(crate) fn cut_at(alloc: Global, pieces: &[Piece], base: u32) -> Result<Cut, 
     Ok(Cut { above, below })
 }
 
-/// Puts a part behind the others, if it is one.
+/// Puts a part after the others, if it is one.
 fn add_part(part: Option<Piece>, cut: &mut Vec<Piece>) -> Result<(), AllocError>
     ensures { OnOk result (cut.new.items ≡ cut.old.items ++ cons_option part []) }
 {

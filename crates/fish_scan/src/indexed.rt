@@ -22,7 +22,7 @@ use fish_walk::read_entry;
 use std::alloc::{AllocError, Global};
 use std::sync::ledger::Ledger;
 
-/// Puts the records of a stretch that have the value behind the rows, newest first, by the index of the row with
+/// Puts the records of a stretch that have the value after the rows, newest first, by the index of the row with
 /// an id. Takes two loads for each key entry that it passes, at most 35 more for each one of the definition, and
 /// those of the words of the records that it finds.
 pub(crate) fn read_indexed<L: Ledger>(
@@ -57,7 +57,7 @@ pub(crate) fn read_indexed<L: Ledger>(
     Ok(())
 }
 
-/// Puts the record of an entry behind the rows, if the entry is of the definition with an id and has the value.
+/// Puts the record of an entry after the rows, if the entry is of the definition with an id and has the value.
 /// The pass's walk stays.
 fn read_node<L: Ledger>(
     alloc: Global,

@@ -31,7 +31,7 @@ pub(crate) fn load_intervals(
     Ok(intervals)
 }
 
-/// Puts the interval of a row behind others, if the row has the text and its index has begun.
+/// Puts the interval of a row after others, if the row has the text and its index has begun.
 fn add_interval(
     log: &Log,
     pass: &mut Pass,

@@ -22,7 +22,7 @@ use fish_value::{Form, Row, Rows, Text};
 use std::alloc::Global;
 use std::sync::ledger::Ledger;
 
-/// Puts the records of a stretch below the base that have the value behind the rows, newest first. Each is read once,
+/// Puts the records of a stretch below the base that have the value after the rows, newest first. Each is read once,
 /// by one load for each of its words.
 pub(crate) fn read_older<D: Disk, P: Ledger, L: Ledger>(
     alloc: Global,
@@ -56,7 +56,7 @@ pub(crate) fn read_older<D: Disk, P: Ledger, L: Ledger>(
     Ok(())
 }
 
-/// Puts the record at a number below the base behind the rows, if one is there that has the value.
+/// Puts the record at a number below the base after the rows, if one is there that has the value.
 fn read_older_at<D: Disk, P: Ledger, L: Ledger>(
     alloc: Global,
     reader: &mut RecordReader,

@@ -22,7 +22,7 @@ use fish_value::Rows;
 use std::alloc::{AllocError, Global};
 use std::sync::ledger::Ledger;
 
-/// Puts the records of the pieces, which fill what of the range is in the table, that have the value behind the rows,
+/// Puts the records of the pieces, which fill what of the range is in the table, that have the value after the rows,
 /// newest first.
 pub(crate) fn read_pieces<P: Ledger, L: Ledger>(
     alloc: Global,
@@ -55,7 +55,7 @@ pub(crate) fn read_pieces<P: Ledger, L: Ledger>(
     Ok(())
 }
 
-/// Puts the records of a piece that have the value behind the rows, newest first.
+/// Puts the records of a piece that have the value after the rows, newest first.
 fn read_piece<P: Ledger, L: Ledger>(
     alloc: Global,
     log: &Log,

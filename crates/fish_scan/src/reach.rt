@@ -31,7 +31,7 @@ pub(crate) struct Reach {
 
 /// How far a scan that is asked for the numbers from one on, up to another or as far as any are claimed, may look:
 /// up to the first mark. Takes the loads of settling, one for each number of the range that isn't settled, and one where
-/// the range begins behind the number at which the settled ones stop.
+/// the range begins after the number at which the settled ones stop.
 pub(crate) fn find_reach(
     alloc: Global,
     log: &Log,
@@ -62,8 +62,8 @@ pub(crate) fn find_reach(
     })
 }
 
-/// The end of a range, or the number at which the settled ones stop where this is a mark in front of the range: nothing
-/// of the log is behind it.
+/// The end of a range, or the number at which the settled ones stop where this is a mark before the range: nothing
+/// of the log is after it.
 fn cut_end(log: &Log, pass: &mut Pass, stop: u32, from: u32, end: u32) -> u32
     requires pass { IsPassOf log.now pass.old }
     requires above { (view pass.old).about.number ≤ stop }

@@ -25,7 +25,7 @@ use fish_walk::{Look, read_entry};
 use std::alloc::{AllocError, Global};
 use std::sync::ledger::Ledger;
 
-/// Puts the records of a stretch that have the value behind the rows, newest first. Looks at every number, and
+/// Puts the records of a stretch that have the value after the rows, newest first. Looks at every number, and
 /// reads each record once.
 pub(crate) fn read_stretch<P: Ledger, L: Ledger>(
     alloc: Global,
@@ -62,7 +62,7 @@ pub(crate) fn read_stretch<P: Ledger, L: Ledger>(
     Ok(())
 }
 
-/// Puts what stands at a number of the range behind the rows, if it is a record that has the value.
+/// Puts what stands at a number of the range after the rows, if it is a record that has the value.
 fn read_at<P: Ledger, L: Ledger>(
     alloc: Global,
     log: &Log,
@@ -95,7 +95,7 @@ fn read_at<P: Ledger, L: Ledger>(
     }
 }
 
-/// Puts the record at a number behind the rows, if it has the value.
+/// Puts the record at a number after the rows, if it has the value.
 fn read_number<P: Ledger, L: Ledger>(
     alloc: Global,
     log: &Log,

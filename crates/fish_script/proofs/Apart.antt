@@ -44,7 +44,7 @@ all_say_once (b ∷ bs) ws us h k =
     let others = all_say_once bs h.1 k.1 h.3 k.3 in
     h.4 ∙ (λ i. own i ++ others i) ∙ sym k.4
 
--- what is said by the lines in front of one, by it and by those behind it
+-- what is said by the lines before one, by it and by those after it
 record IsSplit (before : List (List ℕ)) (line : List ℕ) (behind : List (List ℕ)) (ws : List ScriptLine) : Type 0 where
   ahead : List ScriptLine
   own : List ScriptLine
@@ -70,12 +70,12 @@ say_split (b ∷ before) line behind ws h =
       whole = h.4 ∙ ap (λ (z : List ScriptLine). h.0 ++ z) s.whole ∙ sym (append_assoc h.0 s.ahead (s.own ++ s.rest));
     }
 
--- of lines that are in order those behind others are too
+-- of lines that are in order those after others are too
 stand_behind : (p : Position) (xs ys : List ScriptLine) → AllStand p (xs ++ ys) → AllStand (position_from p xs) ys
 stand_behind p [] ys h = h
 stand_behind p (x ∷ xs) ys h = stand_behind (position_after p x) xs ys h.1
 
--- and those in front of others
+-- and those before others
 stand_ahead : (p : Position) (xs ys : List ScriptLine) → AllStand p (xs ++ ys) → AllStand p xs
 stand_ahead p [] ys h = tt
 stand_ahead p (x ∷ xs) ys h = (h.0, stand_ahead (position_after p x) xs ys h.1)

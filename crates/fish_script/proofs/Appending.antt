@@ -1,4 +1,4 @@
--- Lines and what they are, with one more behind the others.
+-- Lines and what they are, with one more after the others.
 use Rattle.std.proofs.Common.{◌≡◌, suc, ◌+◌, ◌≤◌, List, [], ◌∷◌, ◌++◌, refl, sym, ap, ◌∙◌, arith, length, append_assoc}
 use Rattle.std.specs.Prelude.{Bool, true, false, count_by}
 use Rattle.std.proofs.lemmas.List.{append-nil}
@@ -11,7 +11,7 @@ use Rattle.fish_script.specs.declared.script.Statement.{Statement}
 use Rattle.fish_script.specs.declared.script_line.ScriptLine.{ScriptLine}
 use Rattle.fish_script.specs.declared.script_line.ScriptLine.TheVariants as said
 
--- the position behind one line more
+-- the position after one line more
 pub place_push : (p : Position) (ws : List ScriptLine) (w : ScriptLine)
     → position_from p (ws ++ w ∷ []) ≡ position_after (position_from p ws) w
 place_push p [] w = refl
@@ -70,12 +70,12 @@ pub feeds_push : (lanes : List (List Statement)) (lane : List Statement) → fee
 feeds_push [] lane = omega arith
 feeds_push (l ∷ lanes) lane = omega (arith, feeds_push lanes lane)
 
--- a lane without a statement of control behind others without one
+-- a lane without a statement of control after others without one
 pub free_push : (lanes : List (List Statement)) (lane : List Statement) → AllFree lanes → AreFree lane → AllFree (lanes ++ lane ∷ [])
 free_push [] lane h here = (here, tt)
 free_push (l ∷ lanes) lane h here = (h.0, free_push lanes lane h.1 here)
 
--- a statement that is none of control behind others
+-- a statement that is none of control after others
 free_one : (lane : List Statement) (s : Statement) → AreFree lane → is_control s ≡ false → AreFree (lane ++ s ∷ [])
 free_one [] s h here = (here, tt)
 free_one (t ∷ lane) s h here = (h.0, free_one lane s h.1 here)
@@ -86,7 +86,7 @@ free_last : (lanes : List (List Statement)) (lane : List Statement) (s : Stateme
 free_last [] lane s h here = (free_one lane s h.0 here, tt)
 free_last (l ∷ lanes) lane s h here = (h.0, free_last lanes lane s h.1 here)
 
--- a lane begins behind others
+-- a lane begins after others
 pub others_begin : (lanes : List (List Statement)) (lane : List Statement) → OthersFree (lanes ++ lane ∷ [])
     → OthersFree ((lanes ++ lane ∷ []) ++ [] ∷ [])
 others_begin [] lane h = (tt, tt)

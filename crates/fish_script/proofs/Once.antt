@@ -172,7 +172,7 @@ as_far (x ∷ xs) (y ∷ ys) us vs a b e same =
     let r = as_far xs ys us vs a b t (omega arith) in
     (λ i. h i ∷ r.0 i, r.1)
 
--- no line in front of the first fault is refused
+-- no line before the first fault is refused
 not_before : (text : List ℕ) (d e : ScriptRefusal) (f : StopsAt text d) (g : StopsAt text e) → length f.before < length g.before → ⊥
 not_before text d e f g less =
     let m = further f.before g.before f.behind g.behind f.line g.line (sym f.splits ∙ g.splits) less in
@@ -209,7 +209,7 @@ stops_once text d e (inl f) (inr g) = absurd (no_stop text d g.ws g.say g.stand 
 stops_once text d e (inr f) (inl g) = absurd (no_stop text e f.ws f.say f.stand g)
 stops_once text d e (inr f) (inr g) = f.fault ∙ sym g.fault
 
--- what a refusal is, but want of memory
+-- what a refusal is, but that memory ran out
 due : (text : List ℕ) (e : ScriptRefusal) → IsRefusal text e → e ≢ refusal.OutOfMemory
     → ((longest_script < length text) × (e ≡ refusal.TooLong (length text)))
     ⊎ ((length text ≤ longest_script) × (StopsAt text e ⊎ StopsAtEnd text e))

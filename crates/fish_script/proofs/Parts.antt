@@ -21,7 +21,7 @@ split_nowhere (x ∷ xs) h =
     let here : is_line_end x ≡ false = failed (is_line_end x) (h 0 (omega arith)) in
     rw here (ap (onto_first x) (split_nowhere xs (λ k within. h (suc k) (omega arith))))
 
--- the first part ends at the first LF, and the others are those of what stands behind it
+-- the first part ends at the first LF, and the others are those of what follows it
 pub split_first_end : (b : List ℕ) (k : ℕ) → k < length b → ((j : ℕ) → j < k → ¬ Passes (is_byte 10) b j)
     → Passes (is_byte 10) b k
     → slice_split is_line_end b ≡ take k b ∷ slice_split is_line_end (drop (k + 1) b)

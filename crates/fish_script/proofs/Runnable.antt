@@ -163,7 +163,7 @@ abbrev AllNamed : List ScriptLine → Type 0
 AllNamed [] = Unit {0}
 AllNamed (l ∷ ws) = SaysNamed l × AllNamed ws
 
--- of lines one behind the other
+-- of lines one after the other
 named_append : (xs ys : List ScriptLine) → AllNamed xs → AllNamed ys → AllNamed (xs ++ ys)
 named_append [] ys x y = y
 named_append (l ∷ xs) ys x y = (x.0, named_append xs ys x.1 y)
@@ -173,7 +173,7 @@ named_front : (xs ys : List ScriptLine) → AllNamed (xs ++ ys) → AllNamed xs
 named_front [] ys h = tt
 named_front (l ∷ xs) ys h = (h.0, named_front xs ys h.1)
 
--- and of those behind
+-- and of those after
 named_behind : (xs ys : List ScriptLine) → AllNamed (xs ++ ys) → AllNamed ys
 named_behind [] ys h = h
 named_behind (l ∷ xs) ys h = named_behind xs ys h.1
@@ -234,7 +234,7 @@ all_free [] h i ss there = absurd cc
 all_free (ts ∷ lanes) h zero ss there = subst AreFree (same_Some ts ss there) h.0
 all_free (ts ∷ lanes) h (suc i) ss there = all_free lanes h.1 i ss there
 
--- where all but the first are, each behind the first is
+-- where all but the first are, each after the first is
 others_free : (lanes : List (List Statement)) → OthersFree lanes → (i : ℕ) (ss : List Statement) → 0 < i
     → slice_get lanes i ≡ Some ss → AreFree ss
 others_free [] h i ss behind there = absurd cc

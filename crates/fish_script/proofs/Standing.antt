@@ -32,7 +32,7 @@ leads_line p q r l ws here e h = record {
   position = ap (λ (z : Position). position_from z ws) e ∙ h.position;
 }
 
--- lines behind others
+-- lines after others
 pub leads_append : (p q r : Position) (xs ys : List ScriptLine) → Leads p xs q → Leads q ys r → Leads p (xs ++ ys) r
 leads_append p q r [] ys h k = subst (λ (z : Position). Leads z ys r) (sym h.position) k
 leads_append p q r (x ∷ xs) ys h k =
@@ -84,7 +84,7 @@ stand_statements (said.Statement w ∷ ws) (s ∷ ss) k f h some free few =
         sum_by-cons (λ (t : Statement). cond (is_feed t) 1 0) s ss ∙ ap (λ (b : Bool). cond b 1 0 + count_by is_feed ss) is in
         omega (arith, few)
 
--- the lanes of a block, behind so many
+-- the lanes of a block, after so many
 stand_lanes : (ws : List ScriptLine) (lanes : List (List Statement)) (k f : ℕ) → AreLanes ws lanes → k + length lanes ≤ most_lanes
     → f + feeds_of lanes ≤ most_feeds → ((k ≡ 0) × OthersFree lanes) ⊎ AllFree lanes
     → Leads (Inside k f) ws (Inside (k + length lanes) (f + feeds_of lanes))

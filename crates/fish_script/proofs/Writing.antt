@@ -168,7 +168,7 @@ feed_read feeds (word.Scan look) s reads = let e : is_feed s ≡ false = ap is_f
 feed_read feeds (word.Explain look) s reads = let e : is_feed s ≡ false = ap is_feed reads in rw e
 feed_read feeds word.Checkpoint s reads = let e : is_feed s ≡ false = ap is_feed reads in rw e
 
--- where the line behind a statement stands
+-- where the line after a statement stands
 pub place_statement : (begun feeds : ℕ) (w : StatementLine) (s : Statement) → Reads w s
     → Inside begun (if is_feed s then feeds + 1 else feeds) ≡ position_after (Inside begun feeds) (said.Statement w)
 place_statement begun feeds w s reads = ap (λ (n : ℕ). Inside begun n) (feed_read feeds w s reads)

@@ -16,7 +16,7 @@ use Rattle.fish_script.specs.declared.script_line.StatementLine.{StatementLine}
 use Rattle.fish_script.specs.declared.script_line.ScriptLine.{ScriptLine}
 use Rattle.fish_script.specs.declared.script_line.ScriptLine.TheVariants as said
 
--- the lines behind `lanes` are those of the lanes that have ended, and of the one that has begun
+-- the lines after `lanes` are those of the lanes that have ended, and of the one that has begun
 pub record IsBegun (ws : List ScriptLine) (more feeds : ℕ) (lanes : List (List Statement)) (lane : List Statement)
     : Type 0 where
   pub ended : List ScriptLine
@@ -30,7 +30,7 @@ pub record IsBegun (ws : List ScriptLine) (more feeds : ℕ) (lanes : List (List
   pub few_feeds : feeds ≤ most_feeds
   pub free : OthersFree (lanes ++ lane ∷ [])
 
--- the lines behind `lanes` are those of an open block
+-- the lines after `lanes` are those of an open block
 abbrev pub IsOpen : List ScriptLine → ℕ → ℕ → List (List Statement) → List Statement → Type 0
 IsOpen ws zero feeds lanes lane = (ws ≡ []) × (feeds ≡ 0) × (lanes ≡ []) × (lane ≡ [])
 IsOpen ws (suc more) feeds lanes lane = IsBegun ws more feeds lanes lane
@@ -61,7 +61,7 @@ abbrev pub UnlessMemory : (ScriptRefusal → Type 0) → ScriptRefusal → Type 
 UnlessMemory P refusal.OutOfMemory = Unit {0}
 UnlessMemory P e = P e
 
--- the statement came behind the others
+-- the statement came after the others
 abbrev pub Pushes : Position → Statement → ScriptBuilder → ScriptBuilder → Type 0
 Pushes Outside s old new =
     new ≡ record old { blocks = old.blocks ++ record { several = false; lanes = (s ∷ []) ∷ [] } ∷ [] }
@@ -79,7 +79,7 @@ abbrev pub IsInside : Position → Type 0
 IsInside Outside = ⊥
 IsInside (Inside lanes feeds) = Unit {0}
 
--- it is in a block, in front of its first lane
+-- it is in a block, before its first lane
 abbrev pub IsInFront : Position → Type 0
 IsInFront Outside = ⊥
 IsInFront (Inside lanes feeds) = lanes ≡ 0

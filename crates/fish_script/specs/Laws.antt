@@ -9,7 +9,7 @@ use Rattle.fish_script.specs.declared.script.Block.{Block}
 use Rattle.fish_script.specs.declared.script.Statement.{Statement}
 use Rattle.fish_script.specs.declared.script.Statement.TheVariants as does
 
--- no script is refused, but for want of memory
+-- no script is refused, unless memory runs out
 abbrev pub NoScriptIsRefused : Type 0
 NoScriptIsRefused = (text : List ℕ) (script : List Block) (e : ScriptRefusal) → IsScript text script → IsRefusal text e
     → e ≡ OutOfMemory

@@ -4,7 +4,7 @@ use Rattle.std.specs.List.{slice_split}
 use Rattle.std.specs.Str.Lines.{strip_carriage_return}
 use Rattle.fish_json.specs.Lines.{is_line_end}
 
--- the lines of the parts round the LFs: one CR in front of an LF is dropped, and what stands behind the last LF is a
+-- the lines of the parts round the LFs: one CR before an LF is dropped, and what follows the last LF is a
 -- line where it isn't empty
 abbrev pub lines_of : List (List ℕ) → List (List ℕ)
 lines_of [] = []

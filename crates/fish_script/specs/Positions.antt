@@ -1,4 +1,4 @@
--- Where a line stands, by what the lines in front of it say, and what may stand there.
+-- Where a line stands, by what the lines before it say, and what may stand there.
 use Rattle.std.specs.Prelude.{◌≡◌, ℕ, ◌+◌, ◌<◌, ◌≤◌, List, [], ◌∷◌, true}
 use Rattle.fish_script.specs.Limits.{most_feeds, most_lanes}
 use Rattle.fish_script.specs.Script.{Reads, is_control, is_feed}
@@ -15,7 +15,7 @@ abbrev pub with_feed : StatementLine → ℕ → ℕ
 with_feed (word.Ingest form header file) feeds = feeds + 1
 with_feed w feeds = feeds
 
--- where the line behind one stands: in a block, how many lanes have begun and how many files are stored
+-- where the line after one stands: in a block, how many lanes have begun and how many files are stored
 abbrev pub position_after : Position → ScriptLine → Position
 position_after p said.Lanes = Inside 0 0
 position_after p said.End = Outside
@@ -24,16 +24,16 @@ position_after Outside (said.Statement w) = Outside
 position_after (Inside lanes feeds) said.Lane = Inside (lanes + 1) feeds
 position_after (Inside lanes feeds) (said.Statement w) = Inside lanes (with_feed w feeds)
 
--- where the line behind many stands
+-- where the line after many stands
 abbrev pub position_from : Position → List ScriptLine → Position
 position_from p [] = p
 position_from p (w ∷ ws) = position_from (position_after p w) ws
 
--- where a line stands that has these in front of it
+-- where a line stands that has these before it
 abbrev pub position_of : List ScriptLine → Position
 position_of ws = position_from Outside ws
 
--- the line can't stand there: `lane` and `end` outside of a block, `lanes` inside, and in front of a block's first
+-- the line can't stand there: `lane` and `end` outside of a block, `lanes` inside, and before a block's first
 -- `lane` all but that
 abbrev pub IsMisplaced : Position → ScriptLine → Type 0
 IsMisplaced Outside said.Lanes = ⊥

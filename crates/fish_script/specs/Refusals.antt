@@ -82,7 +82,7 @@ pub record StopsAt (text : List ℕ) (e : ScriptRefusal) : Type 0 where
   pub line : List ℕ
   pub behind : List (List ℕ)
   pub splits : lines text ≡ before ++ line ∷ behind
-  -- what the lines in front of it say
+  -- what the lines before it say
   pub ahead : List ScriptLine
   pub say : AllSay before ahead
   pub stand : AllStand Outside ahead

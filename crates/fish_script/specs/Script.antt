@@ -72,7 +72,7 @@ abbrev pub feeds_of : List (List Statement) → ℕ
 feeds_of [] = 0
 feeds_of (ss ∷ lanes) = count_by is_feed ss + feeds_of lanes
 
--- the lines are those of the lanes: for each one `lane`, and its statements behind it
+-- the lines are those of the lanes: for each one `lane`, and its statements after it
 abbrev pub AreLanes : List ScriptLine → List (List Statement) → Type 0
 AreLanes ws [] = ws ≡ []
 AreLanes ws (ss ∷ lanes) =
@@ -104,7 +104,7 @@ abbrev pub IsBlock : List ScriptLine → Bool → List (List Statement) → Type
 IsBlock ws true lanes = IsSeveral ws lanes
 IsBlock ws false lanes = IsAlone ws lanes
 
--- the lines are those of the blocks, one behind the other
+-- the lines are those of the blocks, one after the other
 abbrev pub AreBlocks : List ScriptLine → List Block → Type 0
 AreBlocks ws [] = ws ≡ []
 AreBlocks ws (b ∷ bs) =

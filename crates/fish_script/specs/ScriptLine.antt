@@ -78,7 +78,7 @@ by_of b =
     if bytes_eq (word_of b) (codes "by") && list_all is_blank (words_behind (words_behind b))
     then way_of (word_of (words_behind b)) else None)
 
--- `[KEY N]`: the number, if it is there, and what stands behind
+-- `[KEY N]`: the number, if it is there, and what follows
 unfoldable pub limit_of : List ℕ → List ℕ → Option (Option ℕ × List ℕ)
 limit_of key b =
     if bytes_eq (word_of b) key
@@ -102,9 +102,9 @@ look_of b =
     (value_text (word_of (words_behind (words_behind b))))) (range_of (words_behind (words_behind (words_behind b))))
     else None
 
--- ---- statements, by what stands behind the first word
+-- ---- statements, by what follows the first word
 
--- `NAME as DEF`, where DEF is all that stands behind the blanks, perhaps nothing
+-- `NAME as DEF`, where DEF is all that comes after the blanks, perhaps nothing
 unfoldable pub register_of : List ℕ → Option StatementLine
 register_of b =
     if is_name (word_of b) && bytes_eq (word_of (words_behind b)) (codes "as")
@@ -142,7 +142,7 @@ question_of w behind =
     if bytes_eq w (codes "scan") then option_map (λ (l : Look). does.Scan l) (look_of behind) else (
     if bytes_eq w (codes "explain") then option_map (λ (l : Look). does.Explain l) (look_of behind) else None))
 
--- the statement of a line, by its first word and what stands behind it, or none where it is none
+-- the statement of a line, by its first word and what follows it, or none where it is none
 unfoldable pub statement_line_of : List ℕ → List ℕ → Option StatementLine
 statement_line_of w behind =
     if bytes_eq w (codes "register") then register_of behind else (

@@ -16,12 +16,12 @@ is_comment (c ∷ b) = c == 35
 abbrev pub is_skipped : List ℕ → Bool
 is_skipped b = is_comment (unblank b)
 
--- how many bytes stand in front of the next blank
+-- how many bytes stand before the next blank
 abbrev pub run_length : List ℕ → ℕ
 run_length [] = 0
 run_length (c ∷ b) = if is_blank c then 0 else suc (run_length b)
 
--- how many bytes the word at the front has: up to the next blank, or to the next one behind the string that begins
+-- how many bytes the word at the front has: up to the next blank, or to the next one after the string that begins
 -- there
 unfoldable pub word_size : List ℕ → ℕ
 word_size [] = 0
@@ -32,6 +32,6 @@ word_size (c ∷ b) =
 unfoldable pub word_of : List ℕ → List ℕ
 word_of b = take (word_size (unblank b)) (unblank b)
 
--- what stands behind it
+-- what follows it
 unfoldable pub words_behind : List ℕ → List ℕ
 words_behind b = drop (word_size (unblank b)) (unblank b)

@@ -149,7 +149,7 @@ impl ScriptBuilder {
         }
     }
 
-    /// Puts the lane that has begun behind those that have ended.
+    /// Puts the lane that has begun after those that have ended.
     fn end_lane(&mut self) -> Result<(), AllocError>
         ensures lanes { OnOk result (self.new.lanes ≡ self.old.lanes ++ self.old.lane ∷ []) }
         ensures lane { OnOk result (self.new.lane ≡ []) }
@@ -160,7 +160,7 @@ impl ScriptBuilder {
         self.lanes.push(lane)
     }
 
-    /// Puts the open block behind the others.
+    /// Puts the open block after the others.
     fn close_block(&mut self) -> Result<(), AllocError>
         ensures blocks { OnOk result (self.new.blocks
             ≡ self.old.blocks ++ record { several = true; lanes = self.old.lanes ++ self.old.lane ∷ [] } ∷ []) }
@@ -199,7 +199,7 @@ impl ScriptBuilder {
         Ok(self.push(statement)?)
     }
 
-    /// Puts a statement behind the others: as a block by itself, or in the lane that has begun.
+    /// Puts a statement after the others: as a block by itself, or in the lane that has begun.
     fn push(&mut self, statement: Statement) -> Result<(), AllocError>
         requires { Fits self.old.position statement }
         ensures { OnOk result (Pushes self.old.position statement self.old self.new) }
@@ -217,7 +217,7 @@ impl ScriptBuilder {
         Ok(())
     }
 
-    /// Puts a statement behind the blocks, as one by itself.
+    /// Puts a statement after the blocks, as one by itself.
     fn push_alone(&mut self, statement: Statement) -> Result<(), AllocError>
         ensures { OnOk result (Pushes Outside statement self.old self.new) }
     {
@@ -256,7 +256,7 @@ impl ScriptBuilder {
     }
 }
 
-/// Whether the next line stands in front of the first lane of a block.
+/// Whether the next line stands before the first lane of a block.
 fn is_in_front(position: Position) -> bool
     ensures { IsTrue result ↔ IsInFront position }
 {

@@ -3,7 +3,7 @@
 ghost use Rattle.fish_script.specs.Laws.{NoScriptIsRefused, OneRefusal, OneScript};
 ghost use Rattle.fish_script.specs.Runnable.{ScriptsCanRun};
 
-/// A text is one script, or is refused for one cause, but for want of memory; and none is both.
+/// A text is one script, or is refused for one cause, unless memory runs out; and none is both.
 ///
 /// Its contract is that law.
 pub fn law_one_outcome()

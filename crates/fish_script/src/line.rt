@@ -8,7 +8,7 @@ ghost use Rattle.fish_script.specs.Lines.{lines};
 
 use memchr::memchr;
 
-/// The first line of a text, and what stands behind it.
+/// The first line of a text, and what follows it.
 pub(crate) fn first_line(b: &[u8]) -> (&[u8], &[u8])
     requires { 0 < length b.now }
     ensures lines { lines b.now ≡ result.0.now ∷ lines result.1.now }
@@ -20,7 +20,7 @@ pub(crate) fn first_line(b: &[u8]) -> (&[u8], &[u8])
     }
 }
 
-/// What stands in front of the first LF, and what stands behind it.
+/// What stands before the first LF, and what follows it.
 fn cut(b: &[u8]) -> Option<(&[u8], &[u8])>
     ensures parts { MatchOption result (slice_split is_line_end b.now ≡ b.now ∷ [])
         (λ p. slice_split is_line_end b.now ≡ p.0.now ∷ slice_split is_line_end p.1.now) }

@@ -29,7 +29,7 @@ pub enum ScriptRefusal {
         line: u64,
         refusal: LangRefusal,
     },
-    /// A `register`, `deregister` or `checkpoint` in a lane behind the first.
+    /// A `register`, `deregister` or `checkpoint` in a lane after the first.
     ControlInLane {
         line: u64,
     },

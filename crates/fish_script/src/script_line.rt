@@ -97,7 +97,7 @@ fn mark(word: &[u8]) -> Option<ScriptLine>
     None
 }
 
-/// The statement of a line, by its first word and what stands behind it.
+/// The statement of a line, by its first word and what follows it.
 #[tactic(auto, unfolding(crate::specs::ScriptLine::statement_line_of))]
 fn read_statement_line(
     alloc: Global,
@@ -260,7 +260,7 @@ fn read_range(b: &[u8]) -> Option<Range>
     Some(Range { from, to, by })
 }
 
-/// `[KEY N]`: the number, if it is there, and what stands behind.
+/// `[KEY N]`: the number, if it is there, and what follows.
 #[tactic(auto, unfolding(crate::specs::ScriptLine::limit_of))]
 fn read_limit<'b>(b: &'b [u8], key: &[u8]) -> Option<(Option<u32>, &'b [u8])>
     ensures { option_map (λ p. (p.0, p.1.now)) result ≡ limit_of key.now b.now }

@@ -7,7 +7,7 @@ ghost use Rattle.fish_lang.specs.Token.{is_blank, string_length};
 ghost use Rattle.fish_script.specs.Words.{is_comment, is_skipped, run_length, unblank, word_of, word_size};
 ghost use Rattle.fish_script.specs.Words.{words_behind};
 
-/// The first word of a line, and what stands behind it. The word is empty where there is none.
+/// The first word of a line, and what follows it. The word is empty where there is none.
 #[tactic(auto, unfolding(crate::specs::Words::word_of, crate::specs::Words::words_behind))]
 pub(crate) fn first_word(b: &[u8]) -> (&[u8], &[u8])
     ensures word { result.0.now ≡ word_of b.now }
@@ -85,7 +85,7 @@ fn word_size(b: &[u8]) -> usize
     }
 }
 
-/// How many bytes stand in front of the next blank.
+/// How many bytes stand before the next blank.
 fn run(b: &[u8]) -> usize
     ensures value { result ≡ run_length b.now }
     ensures bound { result ≤ length b.now }
@@ -98,7 +98,7 @@ fn run(b: &[u8]) -> usize
     b.len()
 }
 
-/// How many bytes there are to the end of a string, behind its first `"`; all where it has none.
+/// How many bytes there are to the end of a string, after its first `"`; all where it has none.
 fn string(b: &[u8]) -> usize
     ensures value { result ≡ string_length false b.now }
     ensures bound { result ≤ length b.now }

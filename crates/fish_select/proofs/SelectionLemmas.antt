@@ -44,7 +44,7 @@ Adds-none : (test : List ℕ → Bool) (t u : Found) (os : List (Option (List �
     → Adds test (with_outcome test t None) u os → Adds test t u (None ∷ os)
 Adds-none test t u os h = record { rows = h.rows; count = h.count; none = omega (arith, h.none, refused-none os) }
 
--- rows with one more in front of the others
+-- rows with one more before the others
 rows_with-then : (test : List ℕ → Bool) (n : ℕ) (payload : List ℕ) (rows : List Row)
     → rows_with n (kept_if (test payload) payload) ++ rows ≡ cons_option (row_at test (n, payload)) rows
 rows_with-then test n payload rows =

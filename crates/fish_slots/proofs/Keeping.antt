@@ -61,7 +61,7 @@ same_slot slot at n c d e torn apart before same =
       torn_apart at n lines_at (32 * count) e c torn (inr before) ∙ same.1,
     )
 
--- the parts of one slot lie in front of those of the other or behind them
+-- the parts of one slot lie before those of the other or after them
 body_apart : (t s : ℕ) → t + s ≡ 1 → (body_at t + body_bytes ≤ body_at s) ⊎ (body_at s + body_bytes ≤ body_at t)
 body_apart zero s other = inl (omega (arith, other))
 body_apart (suc t) s other = inr (omega (arith, other))
@@ -112,7 +112,7 @@ pub other_gate : (t s : ℕ) (images : List ℕ → Type 0) (c : List ℕ) → t
 other_gate t s images c other opened from =
     torn_apart (gate_at s) 1 (gate_at t) 1 from.0 c from.2 (gate_apart t s other) ∙ opened from.0 from.1
 
--- a content that is told behind a write is as long as it was
+-- a content that is told after a write is as long as it was
 pub still_long : (old new : Option (List ℕ)) (at m n : ℕ) (piece : List ℕ) → at ≤ m → n ≤ m →
     IfSome old (λ c. m ≤ length c) → HasWritten old new at piece → IfSome new (λ c. n ≤ length c)
 still_long old None at m n piece start short long written = tt

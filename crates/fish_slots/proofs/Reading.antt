@@ -30,7 +30,7 @@ gate_read slot n (x ∷ rest) (Some c) bound one gave =
       (λ opened. eq-eqb x 1 (ap (λ l. get_or l 0 0) (read ∙ opened))),
     )
 
--- where none was read, the file ends in front of the gate
+-- where none was read, the file ends before the gate
 pub gate_missing : (slot n : ℕ) (buf : List ℕ) (content : Option (List ℕ)) →
     length buf ≡ 1 → (n ≡ 1 → ⊥) → Gave content (gate_at slot) n buf
     → IfSome content (λ c. IsTrue (eqb n 1) ↔ IsOpen slot c)

@@ -61,7 +61,7 @@ fn read_gates<D: Disk>(disk: &mut D) -> Result<Gates, Failed>
     Ok(Gates { first, second })
 }
 
-/// A gate behind the file's end is closed.
+/// A gate past the file's end is closed.
 fn is_open<D: Disk>(disk: &mut D, slot: u8) -> Result<bool, Failed>
     ensures gate { IfOk result (λ opened.
         IfSome (D.content disk.new) (λ c. IsTrue opened ↔ IsOpen slot c)) }

@@ -219,7 +219,7 @@ module _
       crash = λ past s still. leaves_part past s;
     }
 
-  -- want of memory leaves the disk and the last commit
+  -- out of memory leaves the disk and the last commit
   pub stays_same : q.disk ≡ p.disk → q.flusher ≡ p.flusher → Stays content images since moment p q
   stays_same disk flusher = record {
     learns = reads.learns;

@@ -49,9 +49,9 @@ module _
   -- where the log is shown
   pub run_shown : (remains : Remains) → IsClosed q.view remains → q.view.lane ≡ 1 → q.view.out ≡ []
       → IsShown (images q.disk) (since q.disk t) past.log q.flusher.count tells remains
-  run_shown remains c main all =
+  run_shown remains c control all =
       let w = behind_table a.next q.view remains c in
-      let may = ends_so a.next q.view remains c a.sound.fits main all in
+      let may = ends_so a.next q.view remains c a.sound.fits control all in
       record {
         view = q.view;
         closed = c;

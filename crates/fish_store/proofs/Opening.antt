@@ -86,7 +86,7 @@ module _ {D : Type 0} (content : D → Option (List ℕ)) (images : D → List �
             (t, entries_are t.image (read t.image t.is) t refl ∙ sym same) in
             record { table = moved.0; entries = moved.1 }
 
-    -- so it is sound, where it stands behind that past
+    -- so it is sound, where it comes after that past
     pub begun_sound : FitsPast past (view o.pass) → ((i : List ℕ) → content disk ≡ Some i → images disk i) → IsSome (content disk)
         → Sound content images (opened_point disk o) past
     begun_sound fits read some =
@@ -111,7 +111,7 @@ module _ {D : Type 0} (content : D → Option (List ℕ)) (images : D → List �
 
 module _ {D : Type 0} (content : D → Option (List ℕ)) (images : D → List ℕ → Type 0) (disk : D) (c : Commit) (log : List Entry) (o : Opened)
     (h : IsOpened (content disk) (images disk) c log o) where
-  -- the table of a store that was opened stands behind the disk's log
+  -- the table of a store that was opened comes after the disk's log
   fits : FitsPast (first_past log o) (view o.pass)
   fits =
       let many = begun_size content images disk 0 c.rows c log o h in

@@ -92,7 +92,7 @@ module _ {D : Type 0} (content : D → Option (List ℕ)) (images : D → List �
   -- its definitions are those at the version that is left
   at_rows : definitions_at v.about x.closed.moment.registry x.remains.version ≡ map listed_of u.about.rows.value
   at_rows =
-      definitions_closed v x.remains x.closed m.alone.main ∙ sym m.rows.listed ∙ sym (all_cut f.count rows)
+      definitions_closed v x.remains x.closed m.alone.control ∙ sym m.rows.listed ∙ sym (all_cut f.count rows)
       ∙ ap (λ (l : List CatRow). map listed_of l)
       (sym (ap (λ (k : Key). k.rows.value) about ∙ first.rows ∙ catalog_is))
 
@@ -107,7 +107,7 @@ module _ {D : Type 0} (content : D → Option (List ℕ)) (images : D → List �
     goes : GoesOn past v next u
     goes = record {
       fits = fits;
-      narrows = narrows_rolled past v u x.remains x.closed s.fits m.alone.main m.alone.all at_version;
+      narrows = narrows_rolled past v u x.remains x.closed s.fits m.alone.control m.alone.all at_version;
       grows = prefix_first past.log x.remains.log;
       known = λ log k. record {
         entries = [];
@@ -200,7 +200,7 @@ module _ {D : Type 0} (content : D → Option (List ℕ)) (images : D → List �
           number = subst (λ (z : Store). z.log.key.number ≡ f.count) same number_is;
           line = subst (λ (z : Store). z.log.key.line ≡ f.line) same line_is;
           version = subst (λ (z : Store). z.log.key.version ≡ v.learned.version) same
-              (first.version ∙ sym x.is ∙ version_closed v x.remains x.closed m.pass.stands m.alone.main);
+              (first.version ∙ sym x.is ∙ version_closed v x.remains x.closed m.pass.stands m.alone.control);
           knows = knows;
           catalog = rows_are ∙ catalog_is;
           rows = subst (λ (z : Store). z.log.key.rows.value ≡ new.registrar.catalog) same (first.rows ∙ sym rows_are);

@@ -20,7 +20,7 @@ use Rattle.fish_rule.specs.declared.view.View.{View}
 use Rattle.fish_store.proofs.Kept.{one_prior}
 use Rattle.fish_store.specs.Sound.{GoesOnHere, HasPast, IsImageOf, IsSoundBehind, MayGoOn, Point, Reaches, Rests, Runs, Sound, Stays}
 use Rattle.fish_whole.proofs.Parts.{fits_later, goes_both, goes_later, known_later}
-use Rattle.fish_whole.specs.Whole.{FitsPast, IsKnown, Later, Whole, Will}
+use Rattle.fish_whole.specs.Whole.{FitsPast, IsKnown, Later, Whole, WillHold}
 
 -- an image stays one of a part of the log
 pub image_on : (past : Whole) (v : View) (next : Whole) (u : View) (least less : ℕ) (c : List ℕ)
@@ -90,9 +90,9 @@ module _
         (t.crash past (h.sound past s before) still));
   }
 
-  -- what goes on in one table goes on, and with it what is told behind every past
+  -- what goes on in one table goes on, and with it what is told after every past
   pub runs_here : (p q : Point D) (Q : Whole → Type 0) → GoesOnHere content images since moment p q → Later p.view q.view
-      → ((past : Whole) → FitsPast past p.view → Will past q.view Q) → Goes p q Q
+      → ((past : Whole) → FitsPast past p.view → WillHold past q.view Q) → Goes p q Q
   runs_here p q Q h later told = record {
     told_before = h.told_before;
     rises = h.rises;
@@ -115,7 +115,7 @@ module _
         record { next = a.next; goes = a.goes; told = λ w may. weaker w (a.told w may); sound = a.sound; crash = a.crash };
   }
 
-  -- a moment that goes on in one table stays sound behind its past, as far as the disk's content is told
+  -- a moment that goes on in one table stays sound after its past, as far as the disk's content is told
   pub behind_on : (p q : Point D) (later : Option (List ℕ)) (past : Whole) → GoesOnHere content images since moment p q
       → IsSoundBehind content images p later past → (IsSome later → IsSome (content q.disk)) → IsSoundBehind content images q later past
   behind_on p q later past h s told = record { sound = h.sound past s.sound (told s.told); told = s.told }

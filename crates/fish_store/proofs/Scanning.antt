@@ -31,7 +31,7 @@ pages_stay content images since moment faults p q learns rows flusher shape read
   table = reads.kept;
 }
 
--- a disk behind which the store was sound carries the table, with what was there before it
+-- a disk after which the store was sound carries the table, with what was there before it
 pub sound_here : {D : Type 0} (content : D → Option (List ℕ)) (images : D → List ℕ → Type 0) (p : Point D) (past : Whole)
     (later : Option (List ℕ)) → IsSoundBehind content images p later past
     → (t : CarriesTable (content p.disk) p.view.about p.cold) × (t.end.entries ≡ past.log)

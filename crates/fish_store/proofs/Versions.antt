@@ -141,14 +141,14 @@ one_version k count later g g' version_of version_of' n m h t from upto from' up
 -- so a closed log is left at the version that its control pass knew
 pub version_closed : (v : View) (remains : Remains) → (c : IsClosed v remains) → Stands v → v.lane ≡ 1
     → remains.version ≡ v.learned.version
-version_closed v remains c s main =
-    let its = (s.rule.registry.each s.seat v s.at).main main in
+version_closed v remains c s control =
+    let its = (s.rule.registry.each s.seat v s.at).control control in
     let was : v.learned.version ≡ version_in s.moment.registry = its.version in
     let is : remains.version ≡ version_in c.moment.registry = c.version in
     let from = c.rule.registry.versions.from in
     let from' = s.rule.registry.versions.from in
     let same : definitions_at v.about c.moment.registry remains.version ≡ definitions_at v.about s.moment.registry v.learned.version =
-    definitions_closed v remains c main ∙ sym its.definitions
+    definitions_closed v remains c control ∙ sym its.definitions
     ∙ ap (λ (z : ℕ). definitions_at v.about s.moment.registry z) (sym was) in
     one_version v.about c.moment.count s.moment.count c.moment.registry s.moment.registry c.rule.version_of s.rule.version_of
     remains.version v.learned.version c.rule.registry.versions s.rule.registry.versions (omega arith) (omega arith) (omega arith)

@@ -25,7 +25,7 @@ StaysCarried = (k : Key) (cold : Cold) (content later : Option (List ℕ)) (h : 
 
 module _ {D : Type 0} (content : D → Option (List ℕ)) (images : D → List ℕ → Type 0) (since : D → ℕ → List ℕ → Type 0)
     (moment : D → ℕ) where
-  -- a store that was opened is sound behind the log for which its disk stood
+  -- a store that was opened is sound after the log for which its disk stood
   abbrev pub OpensSound : Type 0
   OpensSound = (disk : D) (c : Commit) (log : List Entry) (o : Opened) → IsOpened (content disk) (images disk) c log o
       → ((i : List ℕ) → content disk ≡ Some i → images disk i) → IsSome (content disk)

@@ -16,7 +16,7 @@ use Rattle.fish_rule.specs.declared.table.Shape.{Shape}
 use Rattle.fish_rule.specs.declared.view.Key.{Key}
 use Rattle.fish_rule.specs.declared.view.View.{View}
 use Rattle.fish_scan.specs.Colder.{StaysCold}
-use Rattle.fish_whole.specs.Whole.{FitsPast, GoesOn, IsKnown, Whole, Will}
+use Rattle.fish_whole.specs.Whole.{FitsPast, GoesOn, IsKnown, Whole, WillHold}
 
 -- the disk; what is kept of the last commit, and of the pages below the table; the table's shape, the rows of the catalogue, and
 -- what the control pass knows
@@ -63,7 +63,7 @@ pub record HasPast {D : Type 0} (content : D → Option (List ℕ)) (p : Point D
   pub table : CarriesTable (content p.disk) p.view.about p.cold
   pub entries : table.end.entries ≡ past.log
 
--- the table stands behind its past, which the disk has; every image stands for a part of the log that has the last commit's entries,
+-- the table comes after its past, which the disk has; every image stands for a part of the log that has the last commit's entries,
 -- and where no call of the disk failed, for these alone
 pub record Sound {D : Type 0} (content : D → Option (List ℕ)) (images : D → List ℕ → Type 0) (p : Point D) (past : Whole) : Type 0 where
   pub fits : FitsPast past p.view
@@ -71,7 +71,7 @@ pub record Sound {D : Type 0} (content : D → Option (List ℕ)) (images : D �
   pub rests : p.flusher.shut ≡ false → Rests images p past
   pub now : (c : List ℕ) → images p.disk c → IsImageOf past p.view p.flusher.count c
 
--- the store was sound behind this past, of a disk whose content is told later
+-- the store was sound after this past, of a disk whose content is told later
 pub record IsSoundBehind {D : Type 0} (content : D → Option (List ℕ)) (images : D → List ℕ → Type 0) (p : Point D)
     (later : Option (List ℕ)) (past : Whole) : Type 0 where
   pub sound : Sound content images p past
@@ -79,7 +79,7 @@ pub record IsSoundBehind {D : Type 0} (content : D → Option (List ℕ)) (image
 
 -- ---- from one moment to a later one
 
--- to one of the same table, over statements, checkpoints and reads: what is sound stays so behind the same past, as far as the disk's
+-- to one of the same table, over statements, checkpoints and reads: what is sound stays so after the same past, as far as the disk's
 -- content is told, and since the first moment a crash left parts of the log, none shorter than that moment's commit
 pub record GoesOnHere
     {D : Type 0}
@@ -106,7 +106,7 @@ pub record Reaches
     (past : Whole) (p q : Point D) (tells : Whole → Type 0) : Type 0 where
   pub next : Whole
   pub goes : GoesOn past p.view next q.view
-  pub told : Will next q.view tells
+  pub told : WillHold next q.view tells
   pub sound : Sound content images q next
   pub crash : LeavesOnly images since moment p.disk q.disk (IsImageOf next q.view p.flusher.count)
 

@@ -39,7 +39,7 @@ IsAscii-digits [] h i = omega arith
 IsAscii-digits (c ∷ cs) h zero = (digit c (both (is_ascii_digit c) (list_all is_ascii_digit cs) h).0).1
 IsAscii-digits (c ∷ cs) h (suc i) = IsAscii-digits cs (both (is_ascii_digit c) (list_all is_ascii_digit cs) h).1 i
 
--- behind an ASCII byte, ASCII goes on
+-- after an ASCII byte, ASCII goes on
 IsAscii-cons : (c : ℕ) (cs : List ℕ) → c < 128 → IsAscii cs → IsAscii (c ∷ cs)
 IsAscii-cons c cs h hs zero = h
 IsAscii-cons c cs h hs (suc i) = hs i
@@ -61,7 +61,7 @@ positive b h =
     let some = (both (nat_lt 0 (length b)) _ parts.0).0 in
     (grind (arith, nat_tests), parts.1)
 
--- behind a minus, a positive number
+-- after a minus, a positive number
 IsNumberText-minus : (x : ℕ) (xs : List ℕ) → (x == 45) ≡ true → is_positive xs ≡ true → IsNumberText (x ∷ xs)
 IsNumberText-minus x xs minus h =
     let parts = positive xs h in
@@ -74,7 +74,7 @@ IsNumberText-zero : (x : ℕ) (xs : List ℕ) → (length (x ∷ xs) == 1) ≡ t
 IsNumberText-zero x [] h is = IsNumberText-digits x [] (grind (arith, nat_tests))
 IsNumberText-zero x (y ∷ ys) h is = absurd (grind (arith, nat_tests))
 
--- behind the choice between a minus and none
+-- after the choice between a minus and none
 IsNumberText-signed : (x : ℕ) (xs : List ℕ) (minus : Bool) → (x == 45) ≡ minus
     → (if minus then is_positive xs else is_positive (x ∷ xs)) ≡ true → IsNumberText (x ∷ xs)
 IsNumberText-signed x xs true e h = IsNumberText-minus x xs e h

@@ -4,7 +4,7 @@ use Rattle.fish_value.specs.declared.field.Field.TheVariants as field
 use Rattle.fish_value.specs.declared.field.FieldView.{FieldView}
 use Rattle.fish_value.specs.declared.field.FieldView.TheVariants as seen
 
--- the field that is seen: its text is the text that is lent
+-- the field that is seen: its text is the text that is borrowed
 abbrev pub field_seen : FieldView → Field
 field_seen seen.Missing = field.Missing
 field_seen seen.Null = field.Null

@@ -82,7 +82,7 @@ impl Bytes {
         self.inner.truncate(len);
     }
 
-    /// Puts bytes behind the others.
+    /// Puts bytes after the others.
     pub fn append(&mut self, more: &[u8]) -> Result<(), AllocError>
         ensures ok { OnOk result (self.new ≡ self.old ++ more.now) }
         ensures err { OnErr result (self.new ≡ self.old) }

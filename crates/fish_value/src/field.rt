@@ -32,7 +32,7 @@ pub enum Field {
     Other,
 }
 
-/// The same without memory of its own: a text is lent from the record or from its reader.
+/// The same without memory of its own: a text is borrowed from the record or from its reader.
 #[derive(Clone, Copy)]
 pub enum FieldView<'a> {
     /// Nothing.

@@ -5,7 +5,7 @@ ghost use Rattle.std.specs.Char.{is_ascii_digit};
 ghost use Rattle.std.specs.List.{list_all};
 ghost use Rattle.fish_value.specs.Number.{int_of, is_number, is_positive};
 
-/// The number that a text stands for: `0`, or digits that begin with none, perhaps behind a `-`.
+/// The number that a text stands for: `0`, or digits that begin with none, perhaps after a `-`.
 ///
 /// There is none off this form (`007`, `+1`, `-0` and blanks among it), and none outside an `i64`.
 pub fn read_int(b: &[u8]) -> Option<i64>

@@ -41,7 +41,7 @@ impl Path {
         Ok(())
     }
 
-    /// The first name, and those behind it.
+    /// The first name, and those after it.
     pub fn parts(&self) -> (&Text, &[Text])
         ensures { self.now ≡ result.0.now ∷ result.1.now }
     {

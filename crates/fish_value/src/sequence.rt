@@ -1,4 +1,4 @@
-//! The list type that stands behind every small list type of the project. Contracts see the list.
+//! The list type that comes after every small list type of the project. Contracts see the list.
 
 ghost use Rattle.std.specs.Prelude.{◌≡◌, ◌==◌, ◌++◌, ◌∷◌, [], length, reverse, IfOk, OnOk, OnErr};
 
@@ -62,7 +62,7 @@ impl<T> Sequence<T> {
         }
     }
 
-    /// The elements with one more behind them.
+    /// The elements with one more after them.
     fn with(mut self, item: T) -> Result<Sequence<T>, AllocError>
     where
         T: Drop,
@@ -93,7 +93,7 @@ impl<T> Sequence<T> {
         self.items.as_slice()
     }
 
-    /// Puts an element behind the others.
+    /// Puts an element after the others.
     pub fn push(&mut self, item: T) -> Result<(), AllocError>
     where
         T: Drop,

@@ -52,7 +52,7 @@ look_loads v u n lines x e =
 
 -- what was found unpublished before, with one list more in front or not
 module _ (n : ℕ) (last : Opens) (before : List Opens) where
-  -- the list with the number in front of the others, or the others alone
+  -- the list with the number before the others, or the others alone
   abbrev longer : Dec (n < last.count) → List Opens
   longer d = choose d (record { count = last.count; numbers = n ∷ last.numbers } ∷ last ∷ before) (last ∷ before)
 

@@ -62,7 +62,7 @@ module _ (a b c d e : View) (known x settled : ℕ) (to_b : b ≡ after_load_set
   -- a pass that is alone is alone still
   pub alone_still : IsAlone a → IsAlone c
   alone_still alone = subst IsAlone (sym begun_is)
-      (record { main = alone.main; all = alone.all; idle = alone.idle })
+      (record { control = alone.control; all = alone.all; idle = alone.idle })
 
   -- the settled number rises, and else only the tail changes
   pub settles_all : a.learned.settled ≤ known → (count : ℕ) → count ≡ high x → b.learned.count ≤ count

@@ -20,7 +20,7 @@ pub struct Settled {
     pub count: u32,
 }
 
-/// Raises the settled number over the published numbers behind it, up to the first one that is
+/// Raises the settled number over the published numbers after it, up to the first one that is
 /// unfinished or a mark, and answers how far it came. Takes two loads, one more for each number that
 /// it looks at, and at most one raise.
 pub fn settle(log: &Log, pass: &mut Pass) -> Settled

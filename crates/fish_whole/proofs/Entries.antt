@@ -9,7 +9,7 @@ use Rattle.fish_rule.specs.Parts.{IsEntryWord}
 use Rattle.fish_rule.specs.declared.view.View.{View}
 use Rattle.fish_whole.proofs.Prefixes.{back_get, behind_get, front_get, prefix_there}
 use Rattle.fish_whole.proofs.Wholes.{may_hold}
-use Rattle.fish_whole.specs.Whole.{Claim, MayHold, Sure, SureUpTo, Whole, Will}
+use Rattle.fish_whole.specs.Whole.{WholeFact, MayHold, MustHold, MustHoldUpTo, Whole, WillHold}
 
 module _ (past : Whole) (v : View) (w : Whole) (m : MayHold past v w) where
   -- the whole is no shorter
@@ -72,17 +72,17 @@ module _ (past : Whole) (v : View) (w : Whole) (m : MayHold past v w) where
       (behind_get past.log m.remains.log i e in_remains))
 
 -- what is certain up to a settled number holds in the end
-pub up_to_will : (past : Whole) (v : View) (end : ℕ) (Q : Claim) → end ≤ v.learned.settled → SureUpTo past v end Q → Will past v Q
+pub up_to_will : (past : Whole) (v : View) (end : ℕ) (Q : WholeFact) → end ≤ v.learned.settled → MustHoldUpTo past v end Q → WillHold past v Q
 up_to_will past v end Q settled all w m =
     let h = may_hold past v w m in
     all w h (settled_there past v w h end settled)
 
 -- an entry that is told stands in the whole
 pub sure_entry : (past : Whole) (v : View) (n : ℕ) (e : Entry) → length past.log ≤ n → KnowsAs v n e
-    → Sure past v (λ w. slice_get w.log n ≡ Some e)
+    → MustHold past v (λ w. slice_get w.log n ≡ Some e)
 sure_entry past v n e above tells w m = entry_here past v w m n e above
     (always_closed v m.last (λ k x. IsEntry x n e) m.remains m.learns m.closed tells)
 
 -- what is settled is within the whole
-pub sure_settled : (past : Whole) (v : View) (n : ℕ) → n ≤ v.learned.settled → Sure past v (λ w. n ≤ length w.log)
+pub sure_settled : (past : Whole) (v : View) (n : ℕ) → n ≤ v.learned.settled → MustHold past v (λ w. n ≤ length w.log)
 sure_settled past v n less w m = (let a = settled_there past v w m n less in let b = longer past v w m in omega arith)

@@ -11,9 +11,9 @@ use Rattle.fish_rule.specs.declared.view.Key.{Key}
 use Rattle.fish_rule.specs.declared.view.View.{View}
 use Rattle.fish_whole.proofs.Prefixes.{prefix_append, prefix_both, prefix_first, prefix_gets, prefix_self, prefix_shorter}
 use Rattle.fish_whole.proofs.Wholes.{narrows_both, narrows_later}
-use Rattle.fish_whole.specs.Whole.{FitsPast, GoesOn, IsKnown, IsPrefix, Later, Sure, Whole}
+use Rattle.fish_whole.specs.Whole.{FitsPast, GoesOn, IsKnown, IsPrefix, Later, MustHold, Whole}
 
--- a table stands behind what was before it in each of its states
+-- a table comes after what was before it in each of its states
 pub fits_later : (past : Whole) (v u : View) → Learns v u → FitsPast past v → FitsPast past u
 fits_later past v u learns fits = record {
   base = subst (λ (z : Key). z.number ≡ length past.log) (sym learns.about) fits.base;
@@ -27,7 +27,7 @@ told_front past v u remains entries base learns c told = prefix_gets entries rem
     known_closed v u i e remains learns c (subst (λ (z : ℕ). KnowsAs v (z + i) e) (sym base) (told i e at)))
 
 -- each whole begins with what is a part of the log for good
-pub known_sure : (past : Whole) (v : View) (log : List Entry) → IsKnown past v log → Sure past v (λ w. IsPrefix log w.log)
+pub known_sure : (past : Whole) (v : View) (log : List Entry) → IsKnown past v log → MustHold past v (λ w. IsPrefix log w.log)
 known_sure past v log k w m =
     prefix_both log (past.log ++ k.entries) w.log k.front
     (prefix_both (past.log ++ k.entries) (past.log ++ m.remains.log) w.log

@@ -20,7 +20,7 @@ pub prefix_both : {A : Type 0} (xs ys zs : List A) → IsPrefix xs ys → IsPref
 prefix_both {A} xs ys zs p q =
     (p.0 ++ q.0, q.1 ∙ ap (λ (z : List A). z ++ q.0) p.1 ∙ append_assoc xs p.0 q.0)
 
--- the same list in front of both keeps it so
+-- the same list before both keeps it so
 pub prefix_append : {A : Type 0} (xs ys zs : List A) → IsPrefix ys zs → IsPrefix (xs ++ ys) (xs ++ zs)
 prefix_append {A} xs ys zs p = (p.0, ap (λ (z : List A). xs ++ z) p.1 ∙ sym (append_assoc xs ys p.0))
 
@@ -34,7 +34,7 @@ prefix_get {A} [] rest n x e = absurd (no n e)
 prefix_get {A} (y ∷ xs) rest zero x e = e
 prefix_get {A} (y ∷ xs) rest (suc n) x e = prefix_get xs rest n x e
 
--- and one of the second stands behind the first
+-- and one of the second comes after the first
 pub behind_get : {A : Type 0} (xs ys : List A) (n : ℕ) (x : A) → slice_get ys n ≡ Some x
     → slice_get (xs ++ ys) (length xs + n) ≡ Some x
 behind_get {A} [] ys n x e = subst (λ (z : ℕ). slice_get ys z ≡ Some x) (let h : n ≡ 0 + n = omega arith in h) e

@@ -1,4 +1,4 @@
--- A table that is closed: what stands behind it may be in the end, and another table may begin there.
+-- A table that is closed: what follows it may be in the end, and another table may begin there.
 use Rattle.std.proofs.Common.{◌≡◌, ℕ, ◌+◌, ◌<◌, ◌≤◌, [], ◌++◌, length, refl, sym, ap, ◌∙◌, subst, arith, map}
 use Rattle.std.proofs.Math.Decide.{dec_lt}
 use Rattle.std.proofs.lemmas.List.{length-append}
@@ -43,11 +43,11 @@ stands_behind past v remains c fits = record {
 -- what stands when the last table is closed may be in the end
 pub ends_so : (past : Whole) (v : View) (remains : Remains) (c : IsClosed v remains) → FitsPast past v → v.lane ≡ 1
     → v.out ≡ [] → MayEnd past v (behind_table past v remains c)
-ends_so past v remains c fits main all = record {
+ends_so past v remains c fits control all = record {
   last = v;
   remains = remains;
   base = fits.base;
-  main = main;
+  control = control;
   all = all;
   later = later_self v;
   closed = c;
@@ -59,11 +59,11 @@ ends_so past v remains c fits main all = record {
 -- what may be in the end of a table that begins where one was closed might have been in the end of that one
 pub narrows_rolled : (past : Whole) (v u : View) (remains : Remains) (c : IsClosed v remains) → FitsPast past v
     → v.lane ≡ 1 → v.out ≡ [] → u.about.version ≡ remains.version → Narrows past v (behind_table past v remains c) u
-narrows_rolled past v u remains c fits main all version w m = record {
+narrows_rolled past v u remains c fits control all version w m = record {
   last = v;
   remains = remains;
   base = fits.base;
-  main = main;
+  control = control;
   all = all;
   later = later_self v;
   closed = c;
@@ -101,7 +101,7 @@ narrows_rolled past v u remains c fits main all version w m = record {
         subst (λ (z : ℕ). past.rows z ≡ definitions_at v.about c.moment.registry z) (sym e)
         (fits.joins ∙ sym (definitions_first v.about c.moment.registry v.about.version (omega arith)))
 
--- and it stands behind that one, where its rows are those of the last version
+-- and it comes after that one, where its rows are those of the last version
 pub fits_rolled : (past : Whole) (v u : View) (remains : Remains) (c : IsClosed v remains) → FitsPast past v
     → u.about.number ≡ v.about.number + length remains.log → u.about.version ≡ remains.version
     → definitions_at v.about c.moment.registry remains.version ≡ map listed_of u.about.rows.value
@@ -127,11 +127,11 @@ pub goes_rolled : (past : Whole) (v u : View) (remains : Remains) (c : IsClosed 
     → v.out ≡ [] → u.about.number ≡ v.about.number + length remains.log → u.about.version ≡ remains.version
     → definitions_at v.about c.moment.registry remains.version ≡ map listed_of u.about.rows.value
     → (next : Whole) × GoesOn past v next u
-goes_rolled past v u remains c fits main all number version rows = (
+goes_rolled past v u remains c fits control all number version rows = (
   behind_table past v remains c,
   record {
     fits = fits_rolled past v u remains c fits number version rows;
-    narrows = narrows_rolled past v u remains c fits main all version;
+    narrows = narrows_rolled past v u remains c fits control all version;
     grows = prefix_first past.log remains.log;
     known = λ log k. record {
       entries = [];

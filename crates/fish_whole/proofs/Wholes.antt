@@ -9,7 +9,7 @@ use Rattle.fish_rule.specs.Views.{Among}
 use Rattle.fish_rule.specs.declared.view.Key.{Key}
 use Rattle.fish_rule.specs.declared.view.RegistryWord.{RegistryWord}
 use Rattle.fish_rule.specs.declared.view.View.{View}
-use Rattle.fish_whole.specs.Whole.{Claim, Later, MayEnd, MayHold, Narrows, Sure, SureUpTo, Whole, Will}
+use Rattle.fish_whole.specs.Whole.{WholeFact, Later, MayEnd, MayHold, Narrows, MustHold, MustHoldUpTo, Whole, WillHold}
 
 -- ---- later states
 
@@ -43,14 +43,14 @@ narrows_later past v u later w m = record {
   last = m.last;
   remains = m.remains;
   base = m.base;
-  main = m.main;
+  control = m.control;
   all = m.all;
   later = later_both v u m.last later m.later;
   closed = m.closed;
   behind = m.behind;
 }
 
--- and nor may a state that is behind such a one
+-- and nor may a state that is after such a one
 pub narrows_both : (a : Whole) (u : View) (b : Whole) (v : View) (c : Whole) (t : View)
     → Narrows a u b v → Narrows b v c t → Narrows a u c t
 narrows_both a u b v c t p q w m = p w (q w m)
@@ -69,23 +69,23 @@ hold_before past v u w learns m = record {
 }
 
 -- in a state that knows as much
-pub sure_later : (past : Whole) (v u : View) (Q : Claim) → Learns v u → Sure past v Q → Sure past u Q
+pub sure_later : (past : Whole) (v u : View) (Q : WholeFact) → Learns v u → MustHold past v Q → MustHold past u Q
 sure_later past v u Q learns all w m = all w (hold_before past v u w learns m)
 
-pub up_to_later : (past : Whole) (v u : View) (end : ℕ) (Q : Claim) → Learns v u → SureUpTo past v end Q → SureUpTo past u end Q
+pub up_to_later : (past : Whole) (v u : View) (end : ℕ) (Q : WholeFact) → Learns v u → MustHoldUpTo past v end Q → MustHoldUpTo past u end Q
 up_to_later past v u end Q learns all w m far = all w (hold_before past v u w learns m) far
 
 -- to the end that the control pass makes
-pub sure_will : (past : Whole) (v : View) (Q : Claim) → Sure past v Q → Will past v Q
+pub sure_will : (past : Whole) (v : View) (Q : WholeFact) → MustHold past v Q → WillHold past v Q
 sure_will past v Q all w m = all w (may_hold past v w m)
 
 -- in a state that ends in no more
-pub will_narrow : (past : Whole) (v : View) (next : Whole) (u : View) (Q : Claim) → Narrows past v next u → Will past v Q
-    → Will next u Q
+pub will_narrow : (past : Whole) (v : View) (next : Whole) (u : View) (Q : WholeFact) → Narrows past v next u → WillHold past v Q
+    → WillHold next u Q
 will_narrow past v next u Q narrows all w m = all w (narrows w m)
 
 -- in a later one
-pub will_later : (past : Whole) (v u : View) (Q : Claim) → Later v u → Will past v Q → Will past u Q
+pub will_later : (past : Whole) (v u : View) (Q : WholeFact) → Later v u → WillHold past v Q → WillHold past u Q
 will_later past v u Q later = will_narrow past v past u Q (narrows_later past v u later)
 
 -- ---- definitions
@@ -101,7 +101,7 @@ read_fewer g (x ∷ words) all read among = (
 
 -- the definitions that a pass knows at a version are those of the whole
 pub sure_rows : (past : Whole) (v : View) (n : ℕ) (rows : List Listed) → KnowsDefinitions v.about v.learned n rows
-    → Sure past v (λ w. w.rows n ≡ rows)
+    → MustHold past v (λ w. w.rows n ≡ rows)
 sure_rows past v n rows knows w m =
     let c = m.closed in
     let g = c.moment.registry in

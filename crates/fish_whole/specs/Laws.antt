@@ -7,18 +7,18 @@ use Rattle.fish_rule.specs.ClosedLog.{IsClosed}
 use Rattle.fish_rule.specs.Registry.{KnowsDefinitions, definitions_at}
 use Rattle.fish_rule.specs.declared.close.Remains.{Remains}
 use Rattle.fish_rule.specs.declared.view.View.{View}
-use Rattle.fish_whole.specs.Whole.{FitsPast, GoesOn, IsKnown, IsPrefix, MayEnd, Sure, Whole, behind_table}
+use Rattle.fish_whole.specs.Whole.{FitsPast, GoesOn, IsKnown, IsPrefix, MayEnd, MustHold, Whole, behind_table}
 
 -- the definitions that a pass knows at a version are those of the whole
 abbrev pub DefinitionsStay : Type 0
 DefinitionsStay = (past : Whole) (v : View) (n : ℕ) (rows : List Listed) → KnowsDefinitions v.about v.learned n rows
-    → Sure past v (λ w. w.rows n ≡ rows)
+    → MustHold past v (λ w. w.rows n ≡ rows)
 
 -- the whole begins with each part of the log that a pass knows for good
 abbrev pub PartsStay : Type 0
-PartsStay = (past : Whole) (v : View) (log : List Entry) → IsKnown past v log → Sure past v (λ w. IsPrefix log w.log)
+PartsStay = (past : Whole) (v : View) (log : List Entry) → IsKnown past v log → MustHold past v (λ w. IsPrefix log w.log)
 
--- what stands behind a table that its control pass closed may be in the end
+-- what follows a table that its control pass closed may be in the end
 abbrev pub TablesEnd : Type 0
 TablesEnd = (past : Whole) (v : View) (remains : Remains) (c : IsClosed v remains) → FitsPast past v → v.lane ≡ 1 → v.out ≡ []
     → MayEnd past v (behind_table past v remains c)

@@ -21,8 +21,8 @@ pub record Whole : Type 0 where
   pub rows : ℕ → List Listed
 
 -- what is said of the whole
-abbrev pub Claim : Type 1
-Claim = Whole → Type 0
+abbrev pub WholeFact : Type 1
+WholeFact = Whole → Type 0
 
 -- the second list begins with the first
 abbrev pub IsPrefix : {A : Type 0} → List A → List A → Type 0
@@ -69,7 +69,7 @@ pub record MayEnd (past : Whole) (v : View) (w : Whole) : Type 0 where
   pub last : View
   pub remains : Remains
   pub base : last.about.number ≡ length past.log
-  pub main : last.lane ≡ 1
+  pub control : last.lane ≡ 1
   pub all : last.out ≡ []
   pub later : Later v last
   pub closed : IsClosed last remains
@@ -78,16 +78,16 @@ pub record MayEnd (past : Whole) (v : View) (w : Whole) : Type 0 where
 -- ---- what holds in the end
 
 -- the claim holds of each whole that begins with what a pass may leave that knows as much
-abbrev pub Sure : Whole → View → Claim → Type 0
-Sure past v Q = (w : Whole) → MayHold past v w → Q w
+abbrev pub MustHold : Whole → View → WholeFact → Type 0
+MustHold past v Q = (w : Whole) → MayHold past v w → Q w
 
 -- it holds of each whose table leaves all numbers below an end
-abbrev pub SureUpTo : Whole → View → ℕ → Claim → Type 0
-SureUpTo past v end Q = (w : Whole) → (m : MayHold past v w) → end ≤ length past.log + length m.remains.log → Q w
+abbrev pub MustHoldUpTo : Whole → View → ℕ → WholeFact → Type 0
+MustHoldUpTo past v end Q = (w : Whole) → (m : MayHold past v w) → end ≤ length past.log + length m.remains.log → Q w
 
 -- it holds of each that begins with what the control pass may leave in a later state
-abbrev pub Will : Whole → View → Claim → Type 0
-Will past v Q = (w : Whole) → MayEnd past v w → Q w
+abbrev pub WillHold : Whole → View → WholeFact → Type 0
+WillHold past v Q = (w : Whole) → MayEnd past v w → Q w
 
 -- what may be in the end of the second state might have been in the end of the first
 abbrev pub Narrows : Whole → View → Whole → View → Type 0
@@ -95,12 +95,12 @@ Narrows past v past' u = (w : Whole) → MayEnd past' u w → MayEnd past v w
 
 -- ---- states
 
--- a table may stand behind what was before it: it begins behind the last entry, with the definitions of the last version
+-- a table may come after what was before it: it begins past the last entry, with the definitions of the last version
 pub record FitsPast (past : Whole) (v : View) : Type 0 where
   pub base : v.about.number ≡ length past.log
   pub joins : past.rows v.about.version ≡ map listed_of v.about.rows.value
 
--- the list is a part of the log for good: what stood before the table, and entries behind it that the pass was told, begin with it
+-- the list is a part of the log for good: what stood before the table, and entries after it that the pass was told, begin with it
 pub record IsKnown (past : Whole) (v : View) (log : List Entry) : Type 0 where
   pub entries : List Entry
   pub told : AreKnown v (length past.log) entries

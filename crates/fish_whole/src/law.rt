@@ -5,18 +5,19 @@ ghost use Rattle.fish_catalog.specs.declared.entry.Entry.{Entry};
 ghost use Rattle.fish_rule.specs.Logs.{KnowsAs};
 ghost use Rattle.fish_rule.specs.declared.view.View.{View};
 ghost use Rattle.fish_whole.specs.Laws.{DefinitionsStay, PartsStay, TablesEnd, TablesGoOn};
-ghost use Rattle.fish_whole.specs.Whole.{Sure, Whole};
+ghost use Rattle.fish_whole.specs.Whole.{MustHold, Whole};
 
 /// An entry that a pass was told of stands at its number in each whole that may be in the end, whatever stood before the
-/// table and whatever comes behind it; all that it knows to be settled is there; so are the definitions that it knows of a
+/// table and whatever comes after it; all that it knows to be settled is there; so are the definitions that it knows of a
 /// version, and each part of the log that it knows. What stands when a table is closed may be in the end, and another
 /// table may go on from there.
 ///
 /// Its contract is that law.
 pub fn law_whole()
     ensures entries { (past : Whole) (v : View) (n : ℕ) (e : Entry) → length past.log ≤ n → KnowsAs v n e
-        → Sure past v (λ w. slice_get w.log n ≡ Some e) }
-    ensures settled { (past : Whole) (v : View) (n : ℕ) → n ≤ v.learned.settled → Sure past v (λ w. n ≤ length w.log) }
+        → MustHold past v (λ w. slice_get w.log n ≡ Some e) }
+    ensures settled { (past : Whole) (v : View) (n : ℕ) → n ≤ v.learned.settled
+        → MustHold past v (λ w. n ≤ length w.log) }
     ensures definitions { DefinitionsStay }
     ensures parts { PartsStay }
     ensures ends { TablesEnd }

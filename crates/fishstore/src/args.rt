@@ -27,7 +27,7 @@ pub fn words_of(alloc: Global, args: io::Result<Args>) -> Result<Texts, Fault>
     }
 }
 
-/// The words behind the first, which is the program's name.
+/// The words after the first, which is the program's name.
 fn behind_name(alloc: Global, args: Args) -> Result<Texts, AllocError>
     ensures { IfOk result (λ words. words ≡ map string_bytes (drop 1 (into_iter_items args))) }
 {

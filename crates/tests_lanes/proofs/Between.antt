@@ -18,7 +18,7 @@ use Rattle.fish_store.specs.Sound.{MayGoOn}
 use Rattle.fish_store.specs.declared.store.Store.{Store}
 use Rattle.tests_lanes.specs.Blocks.{IsBetween}
 
--- behind a block whose first lane did all its statements the definitions are known
+-- after a block whose first lane did all its statements the definitions are known
 block_known : (v t : View) (r s : Registrar) (x : Lane) (end : BlockEnd) → HasRegistered v t r s x end
     → x.fault ≡ cause.None → KnowsRegistry t (registry_of t s)
 block_known v t r s x end h whole =

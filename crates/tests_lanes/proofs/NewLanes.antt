@@ -3,7 +3,7 @@ use Rattle.std.proofs.Common.{◌≤◌, ◌+◌, ◌++◌, ℕ, zero, suc, List
 use Rattle.std.proofs.lemmas.List.Elements.{All-weaker}
 use Rattle.std.proofs.lemmas.List.{length-append}
 use Rattle.fish_lanes.proofs.Lists.{some_once}
-use Rattle.fish_lanes.specs.Blocks.{AreLanes, At}
+use Rattle.fish_lanes.specs.Blocks.{AreLanes, EachLane}
 use Rattle.fish_lanes.specs.Registering.{IsAcceptable}
 use Rattle.fish_lanes.specs.Running.{IsShared}
 use Rattle.fish_lanes.specs.declared.lane.Lane.{Lane}
@@ -23,8 +23,8 @@ allowed_shared number w shared = record { acceptable = any w shared; shared = λ
     any (work.Explain ask) h = tt
     any work.Checkpoint h = elim h [ ]
 
--- what each lane meets at its place, and one more behind them
-pub at_push : (P : ℕ → Lane → Type 0) (xs : List Lane) (x : Lane) → At P xs → P (length xs) x → At P (xs ++ x ∷ [])
+-- what each lane meets at its place, and one more after them
+pub at_push : (P : ℕ → Lane → Type 0) (xs : List Lane) (x : Lane) → EachLane P xs → P (length xs) x → EachLane P (xs ++ x ∷ [])
 at_push P [] x each last zero y at = subst (P 0) (some_once x y at) last
 at_push P [] x each last (suc i) y at = absurd cc
 at_push P (z ∷ xs) x each last zero y at = each zero y at

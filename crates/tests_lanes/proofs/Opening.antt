@@ -28,7 +28,7 @@ use Rattle.tests_lanes.specs.Blocks.{IsBetween}
 first_end : (v : View) (k : Key) → v ≡ first_view k → k.line < 68719476736 → HasEnd v k.number
 unfolding high low
 first_end v k is few = subst (λ (z : View). HasEnd z k.number) (sym is) (record {
-  alone = record { main = refl; all = refl; idle = refl };
+  alone = record { control = refl; all = refl; idle = refl };
   outside = refl;
   above = omega arith;
   settled = omega arith;

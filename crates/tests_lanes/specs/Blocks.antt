@@ -2,7 +2,7 @@
 use Rattle.std.specs.Prelude.{ℕ, ◌≡◌, ◌+◌, ◌<◌, List, All, Some, length}
 use Rattle.fish_disk.specs.Sure.{content_in}
 use Rattle.fish_disk.specs.declared.sure.SureDisk.{SureDisk}
-use Rattle.fish_lanes.specs.Blocks.{At, IsNewLane}
+use Rattle.fish_lanes.specs.Blocks.{EachLane, IsNewLane}
 use Rattle.fish_lanes.specs.Controlling.{CanControl}
 use Rattle.fish_lanes.specs.Ending.{HasEnd}
 use Rattle.fish_lanes.specs.Registering.{IsAcceptable, KnowsRegistry, registry_of}
@@ -28,7 +28,7 @@ pub record IsMade (number : ℕ) (x : Lane) : Type 0 where
 -- so many lanes, with the numbers from 1 on
 pub record AreNew (count : ℕ) (lanes : List Lane) : Type 0 where
   pub many : length lanes ≡ count
-  pub each : At (λ i x. IsMade (i + 1) x) lanes
+  pub each : EachLane (λ i x. IsMade (i + 1) x) lanes
 
 -- the control pass knows where the log ends and what its registrar keeps, a checkpoint may follow, and the file has
 -- what is older than the table

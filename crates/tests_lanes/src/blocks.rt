@@ -1,4 +1,4 @@
-//! Blocks of lanes on threads: what their items tell, and the log that is closed behind them.
+//! Blocks of lanes on threads: what their items tell, and the log that is closed after them.
 
 ghost use Rattle.std.specs.Prelude.{◌≤◌, OnOk, length};
 ghost use Rattle.tests_lanes.specs.Blocks.{IsHeld};
@@ -247,7 +247,7 @@ const SECOND_BLOCK: &[Script] = &[
     &[Plain::Scan("kind", "k1"), Plain::Records(0, 10, 2)],
 ];
 
-/// How far a log reaches behind each of two blocks, and how many records each lane has in it.
+/// How far a log reaches after each of two blocks, and how many records each lane has in it.
 type Ends = ([u32; 2], [usize; 3]);
 
 /// Runs the first block. How far the log then reaches.
@@ -261,7 +261,7 @@ fn first_end<R: Threads + Sync>(rt: &R, alloc: Global, held: &mut Open) -> Resul
     Ok(end)
 }
 
-/// Runs both. How far the log reaches behind the first, and the second.
+/// Runs both. How far the log reaches after the first, and the second.
 fn run_both<R: Threads + Sync>(
     rt: &R,
     alloc: Global,
@@ -296,7 +296,7 @@ fn stored_by_each(alloc: Global, entries: &Entries) -> Result<[usize; 3], Cause>
     Ok(stored)
 }
 
-/// How far the log reaches behind each block, and how many records each lane has in it.
+/// How far the log reaches after each block, and how many records each lane has in it.
 fn ends_of(alloc: Global, end: u32, left: &Left) -> Result<Ends, Cause> {
     let stored = stored_by_each(alloc, &left.entries)?;
     Ok(([end, left.block.end.to], stored))

@@ -27,7 +27,7 @@ const ALONE: &[Script] = &[&[
     Plain::Register("t", "take kind"),
 ]];
 
-/// What it tells, and what it leaves in the log. Behind its end a name still means the newest definition that had it.
+/// What it tells, and what it leaves in the log. After its end a name still means the newest definition that had it.
 const ALONE_TOLD: &str = "lane 1\n\
 registered t id 0 from 0\n\
 ingested lines stored 3 refused 0\n\
@@ -90,7 +90,7 @@ fn begun_in(lane: &Lane, numbers: u32) -> (usize, usize) {
     (begun, bound)
 }
 
-/// The same with the boundary that was found behind the block.
+/// The same with the boundary that was found after the block.
 fn begun_by(block: &Block) -> (usize, usize) {
     let Some(lane) = block.lanes.as_slice().first() else {
         return (0, 0);
@@ -102,7 +102,7 @@ fn begun_by(block: &Block) -> (usize, usize) {
     }
 }
 
-/// What stands behind it: none waits.
+/// What follows it: none waits.
 const BEHIND: &[Script] = &[&[Plain::Register("t", "take lane"), Plain::Deregister("t")]];
 
 const BEHIND_TOLD: &str = "lane 1\n\
@@ -126,7 +126,7 @@ fn expect_beside<R: Threads + Sync + Abort>(
     Ok(())
 }
 
-/// Asserts what the registry is behind it.
+/// Asserts what the registry is after it.
 fn expect_behind<R: Threads + Sync + Abort>(
     rt: &R,
     alloc: Global,

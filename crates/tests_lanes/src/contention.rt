@@ -1,5 +1,5 @@
 //! Eight lanes that store and scan at once, the first of which registers definitions, ends them and commits meanwhile,
-//! run after run: each scan is a plain filter of the log that is closed behind it, whatever the lanes' order was.
+//! run after run: each scan is a plain filter of the log that is closed after it, whatever the lanes' order was.
 
 use crate::blocks::{right_scans, stored_in_order};
 use crate::expecting::expect;

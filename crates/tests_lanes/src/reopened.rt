@@ -27,7 +27,7 @@ const BOTH: &[Script] = &[
     &[Plain::Scan("kind", "k1"), Plain::Scan("kind", "k2")],
 ];
 
-/// What they tell. The second lane stays in front of its scan until the first one has ended.
+/// What they tell. The second lane stays before its scan until the first one has ended.
 const BOTH_TOLD: &str = "lane 1\n\
 ingested lines stored 1 refused 0\n\
 scan kind = \"k1\" in 0..4 found 3 open none\n\
@@ -81,7 +81,7 @@ fn commit<R: Threads + Sync>(rt: &R, alloc: Global, held: &mut Open) -> Result<(
     Ok(())
 }
 
-/// A store that was opened again behind it.
+/// A store that was opened again after it.
 fn committed<R: Threads + Sync>(rt: &R, alloc: Global) -> Result<Open, Cause>
     ensures { IfOk result (λ o. IsHeld o.disk o.store) }
 {

@@ -1,4 +1,4 @@
-//! Blocks of lanes, one after the other, over a store of one page in memory, and its log that is closed behind them.
+//! Blocks of lanes, one after the other, over a store of one page in memory, and its log that is closed after them.
 
 ghost use Rattle.std.specs.Prelude.{◌≡◌, ◌≤◌, IfOk, OnOk, Some, length, slice_get, true};
 ghost use Rattle.fish_lanes.specs.Blocks.{AreLanes};
@@ -24,7 +24,7 @@ const ASKED: Asked = Asked {
     bucket_bits: Some(4),
 };
 
-/// How many bytes a disk has room for: those in front of the lines, and several pages.
+/// How many bytes a disk has room for: those before the lines, and several pages.
 const ROOM: u64 = 8_388_608;
 
 /// An open store between two blocks, and its disk.
@@ -73,7 +73,7 @@ pub(crate) fn opened_again(alloc: Global, held: Open) -> Result<Open, Cause>
     open_on(alloc, disk)
 }
 
-/// What stands behind a block, and its lanes.
+/// What follows a block, and its lanes.
 #[derive(Drop)]
 pub(crate) struct Block {
     pub(crate) end: BlockEnd,
@@ -168,14 +168,14 @@ pub(crate) fn defined<R: Threads + Sync>(rt: &R, alloc: Global) -> Result<Open, 
     }
 }
 
-/// A block, and the log that was closed behind it.
+/// A block, and the log that was closed after it.
 #[derive(Drop)]
 pub(crate) struct Left {
     pub(crate) block: Block,
     pub(crate) entries: Entries,
 }
 
-/// Closes a log behind a block.
+/// Closes a log after a block.
 pub(crate) fn close_behind(alloc: Global, held: Open, block: Block) -> Result<Left, Cause>
     requires { IsHeld held.disk held.store }
 {
@@ -230,7 +230,7 @@ pub(crate) fn ran<R: Threads + Sync>(
     ran_over(rt, alloc, held, scripts)
 }
 
-/// Puts the items of a lane behind a text.
+/// Puts the items of a lane after a text.
 fn push_lane(alloc: Global, text: &mut String, lane: &Lane) -> Result<(), Cause> {
     write!(text, "lane {}\n", lane.number)?;
     for item in lane.items.as_slice() {
@@ -239,7 +239,7 @@ fn push_lane(alloc: Global, text: &mut String, lane: &Lane) -> Result<(), Cause>
     Ok(())
 }
 
-/// Puts an entry behind a text: its lane and its payload.
+/// Puts an entry after a text: its lane and its payload.
 fn push_entry(text: &mut String, entry: &Entry) -> Result<(), Cause> {
     match entry {
         Entry::Stored { lane, payload, .. } => {

@@ -22,7 +22,7 @@ pub(crate) enum Plain {
     Deregister(&'static str),
     /// Store the lines of a file, whose name is `lines`.
     Lines(&'static str),
-    /// Store the rows of a file behind its header, whose name is `rows`.
+    /// Store the rows of a file after its header, whose name is `rows`.
     Rows(&'static str),
     /// Store records of the lane: the place of the first, how many, and how many words each has.
     Records(usize, usize, usize),
@@ -72,7 +72,7 @@ pub(crate) fn record_of(
     }
 }
 
-/// Puts records of a lane behind a file, a line each.
+/// Puts records of a lane after a file, a line each.
 fn push_records(
     file: &mut Bytes,
     alloc: Global,
@@ -222,7 +222,7 @@ fn work_of(alloc: Global, lane: u8, plain: Plain) -> Result<Work, Cause>
     }
 }
 
-/// Puts the statements of a table behind others.
+/// Puts the statements of a table after others.
 fn push_works(alloc: Global, lane: u8, plains: &[Plain], works: &mut Works) -> Result<(), Cause>
     requires { All (IsAllowed lane) works.old }
     ensures { OnOk result (All (IsAllowed lane) works.new) }

@@ -260,7 +260,7 @@ fn entries(rt: HostRuntime) -> Result<(), Fail> {
     Ok(())
 }
 
-/// The words that are not 0 in hexadecimal digits, each behind its place.
+/// The words that are not 0 in hexadecimal digits, each after its place.
 fn put_words(alloc: Global, told: &mut String, words: &[u64]) -> Result<(), AllocError> {
     for (position, word) in words.iter().enumerate() {
         if *word != 0 {

@@ -78,7 +78,7 @@ pub fn item_of(alloc: Global, plain: &Plain) -> Result<Item, AllocError> {
     }
 }
 
-/// Puts items behind the others.
+/// Puts items after the others.
 pub fn put_items(alloc: Global, items: &mut Items, plain: &[Plain]) -> Result<(), AllocError> {
     for one in plain {
         let item = item_of(alloc, one)?;

@@ -16,13 +16,13 @@ const STATEMENTS: &[(&str, &str)] = &[
     ("checkpoint", "checkpoint;"),
     (" \tcheckpoint\t \n", "checkpoint;"),
     ("checkpoint\r\ncheckpoint\n", "checkpoint; checkpoint;"),
-    // a CR is dropped in front of an LF alone, and once
+    // a CR is dropped before an LF alone, and once
     ("checkpoint\r", "unexpected line 1"),
     ("checkpoint\r\r\n", "unexpected line 1"),
     ("\r\n", ""),
     ("checkpoint # now", "unexpected line 1"),
     ("Checkpoint", "unexpected line 1"),
-    // definitions: what stands behind the blanks behind `as`
+    // definitions: what follows the blanks after `as`
     ("register t as take type", "register t take type;"),
     (
         "register\tt  as \t take  \"type\"  when not ( n<3 or n >5)",
@@ -127,7 +127,7 @@ const STATEMENTS: &[(&str, &str)] = &[
     ("checkpoint\n\n#\nend\nlane", "unexpected line 4"),
 ];
 
-/// Texts with lanes. A block is told in braces, with a bar behind each lane.
+/// Texts with lanes. A block is told in braces, with a bar after each lane.
 const LANES: &[(&str, &str)] = &[
     ("lanes\nlane\nend", "{ | }"),
     (
@@ -152,7 +152,7 @@ const LANES: &[(&str, &str)] = &[
     ("lanes\n", "unexpected line 2"),
     ("lanes\nlane\n\n#", "unexpected line 5"),
     ("lanes\nlane\n\n", "unexpected line 4"),
-    // control in a lane behind the first
+    // control in a lane after the first
     (
         "lanes\nlane\ningest json a\nlane\ncheckpoint\nend",
         "control in lane line 5",
@@ -188,7 +188,7 @@ const BYTES: &[(&[u8], &str)] = &[
     (b"lanes\nregister t as \xff", "not text line 2"),
 ];
 
-/// What stands in front, a line, how often it stands there, what stands behind, and the number of blocks
+/// What stands in front, a line, how often it stands there, what follows, and the number of blocks
 /// and lanes, or the refusal.
 const REPEATED: &[((&str, &str, usize, &str), &str)] = &[
     (("lanes\n", "lane\n", 16, "end"), "1 blocks 16 lanes"),

@@ -150,7 +150,7 @@ const CONDITIONS: &[((&str, &str), &str)] = &[
     (("flag when a > \"a\"", "{\"a\":\"ab\"}"), "true"),
     (("flag when a < \"a\"", "{\"a\":\"B\"}"), "true"),
     (("flag when a < \"z\"", "{\"a\":\"é\"}"), "false"),
-    // By the bytes U+FFFD comes before U+1F600, by the units of UTF-16 behind it.
+    // By the bytes U+FFFD comes before U+1F600, by the units of UTF-16 after it.
     (("flag when a < \"😀\"", "{\"a\":\"\\ufffd\"}"), "true"),
     (("flag when a exists", "{\"a\":null}"), "true"),
     (("flag when a exists", "{\"a\":{}}"), "true"),
@@ -177,7 +177,7 @@ fn values_on<R: Parsed>(alloc: Global, def: &Def, rec: &R) -> Result<String, All
     told
 }
 
-/// The record that a line is. One that is none counts as want of memory, so that it shows.
+/// The record that a line is. One that is none counts as memory that ran out, so that it shows.
 fn record_of(alloc: Global, line: &str) -> Result<JsonRecord, AllocError> {
     match JsonRecord::read(alloc, line.as_bytes()) {
         Ok(record) => Ok(record),

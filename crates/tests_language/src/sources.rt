@@ -3,7 +3,7 @@
 use fish_lang::{Def, parse_def};
 use std::alloc::{AllocError, Global};
 
-/// The definition that a text is. One that is none counts as want of memory, so that it shows.
+/// The definition that a text is. One that is none counts as memory that ran out, so that it shows.
 pub(crate) fn definition(alloc: Global, source: &str) -> Result<Def, AllocError> {
     match parse_def(alloc, source.as_bytes()) {
         Ok(def) => Ok(def),

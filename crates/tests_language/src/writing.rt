@@ -12,7 +12,7 @@ use std::test::Fail;
 /// How many rows a selection has and how many bytes each payload, the number of the write that fails; and what the sink
 /// got. The head of a selection of 1 to 9 rows has 30 bytes and that of 40 has 32.
 const PIECES: &[((u32, usize, u64), &str)] = &[
-    // lines of 4,104 bytes, and from the tenth row on of 4,105: a piece ends behind rows 15 and 31
+    // lines of 4,104 bytes, and from the tenth row on of 4,105: a piece ends after rows 15 and 31
     (
         (40, 4_096, 0),
         "failed at 0 of 164222 bytes, 1 writes, 1 faults",

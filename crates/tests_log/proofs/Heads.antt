@@ -4,7 +4,7 @@ use Rattle.std.proofs.lemmas.List.{length-append}
 use Rattle.fish_rule.specs.Parts.{IsOlder}
 use Rattle.tests_log.specs.Heads.{AreOlder}
 
--- behind the last head stands 0
+-- after the last head stands 0
 older_behind : (line x : ℕ) (heads : List ℕ) → IsOlder line x → ((b : ℕ) → IsOlder line (slice_index heads b))
     → (b : ℕ) → IsOlder line (slice_index (heads ++ x ∷ []) b)
 older_behind line x [] is all zero = is

@@ -1,4 +1,4 @@
--- The control pass and its registrar behind a call of the registrar.
+-- The control pass and its registrar after a call of the registrar.
 use Rattle.std.proofs.Common.{◌≡◌, ◌∙◌, ap, arith}
 use Rattle.fish_epoch.proofs.Reading.{defs_later}
 use Rattle.fish_epoch.specs.declared.definitions.Defs.{Defs}
@@ -26,7 +26,7 @@ kept_on log p q r s h of knows changes =
 pub working_on : (log : Log) (p q : Pass) (r s : Registrar) (defs : Defs) → IsWorking log p r defs → IsKept log q s
     → Changes (view p) (view q) → IsWorking log q s defs
 working_on log p q r s defs h kept changes =
-    let main = kept.knows.main in
+    let control = kept.knows.control in
     record {
       kept = kept;
       ready = record {
@@ -38,12 +38,12 @@ working_on log p q r s defs h kept changes =
 
 -- a record more changes nothing that the registrar knows
 pub working_stored : (log : Log) (p q : Pass) (r : Registrar) (defs : Defs) → IsKept log p r → CanIngest log q defs
-    → (view q).lane ≡ (view p).lane → (view q).rows ≡ (view p).rows → (view q).main_words ≡ (view p).main_words
+    → (view q).lane ≡ (view p).lane → (view q).rows ≡ (view p).rows → (view q).control_words ≡ (view p).control_words
     → (view q).round ≡ (view p).round → Learns (view p) (view q) → IsWorking log q r defs
-working_stored log p q r defs h ready lane rows main_words round learns = record {
+working_stored log p q r defs h ready lane rows control_words round learns = record {
   kept = record {
     of = ready.of;
-    knows = knows_on (view p) (view q) r lane rows main_words round learns h.knows;
+    knows = knows_on (view p) (view q) r lane rows control_words round learns h.knows;
     outside = ready.start.outside;
   };
   ready = ready;
@@ -59,7 +59,7 @@ beside_on log p q r s h kept changes = record {
   out = ap (λ (z : View). z.out) changes.frame ∙ h.out;
 }
 
--- ---- behind a scan, once the pass has left
+-- ---- after a scan, once the pass has left
 
 -- the registrar keeps what it keeps
 pub kept_scanned : (log : Log) (p q : Pass) (r : Registrar) (defs : Defs) → IsKept log p r → CanIngest log q defs
@@ -67,7 +67,7 @@ pub kept_scanned : (log : Log) (p q : Pass) (r : Registrar) (defs : Defs) → Is
 kept_scanned log p q r defs h ready only = record {
   of = ready.of;
   knows = knows_on (view p) (view q) r (ap (λ (z : View). z.lane) only.frame) (ap (λ (z : View). z.rows) only.frame)
-      (ap (λ (z : View). z.main_words) only.frame) (ap (λ (z : View). z.round) only.frame) only.learns h.knows;
+      (ap (λ (z : View). z.control_words) only.frame) (ap (λ (z : View). z.round) only.frame) only.learns h.knows;
   outside = ready.start.outside;
 }
 

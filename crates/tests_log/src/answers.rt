@@ -112,7 +112,7 @@ fn expect_left<R: Abort>(rt: &R, left: &Left) {
         &[RECORDS, RECORDS, RECORDS],
     );
     expect(rt, "entries", &entries.len(), &720);
-    expect_answers(rt, entries, answers.main.as_slice(), &[2, 2, 4]);
+    expect_answers(rt, entries, answers.control.as_slice(), &[2, 2, 4]);
     expect_answers(rt, entries, answers.second.as_slice(), &[3, 3, 7]);
     expect_answers(rt, entries, answers.third.as_slice(), &[3, 3, 7]);
     expect_answers(rt, entries, answers.fourth.as_slice(), &[3, 3, 7]);

@@ -1,4 +1,4 @@
-//! Logs that begin at a base, behind older records: two records of one bucket, the walk over them that
+//! Logs that begin at a base, after older records: two records of one bucket, the walk over them that
 //! goes on at the head which the bucket had at the start, and the closed log.
 //!
 //! The one definition gives true for every payload here. A record of one entry and at most 8 bytes has 6
@@ -131,7 +131,7 @@ fn expect_entries<R: Abort>(rt: &R, alloc: Global, entries: &Entries) {
     expect(rt, "the same entries", &[first, second], &[true; 2]);
 }
 
-/// Asserts what else is left: the base, the line behind two records of two lines, the heads, one page with
+/// Asserts what else is left: the base, the line after two records of two lines, the heads, one page with
 /// regions, and the version.
 fn expect_left<R: Abort>(rt: &R, case: &Case, remains: &Remains) {
     let Base { number, line } = case.base;
@@ -258,13 +258,13 @@ fn expect_closed<R: Abort>(
     rt: &R,
     alloc: Global,
     log: Log,
-    main: Pass,
+    control: Pass,
     case: &Case,
 ) -> Result<(), Cause>
-    requires pass { IsPassOf log main }
-    requires alone { IsAlone (view main) }
+    requires pass { IsPassOf log control }
+    requires alone { IsAlone (view control) }
 {
-    let remains = left(alloc, log, main)?;
+    let remains = left(alloc, log, control)?;
     let entries = listed(alloc, &remains)?;
     expect_entries(rt, alloc, &entries);
     drop(entries);
@@ -275,11 +275,11 @@ fn expect_closed<R: Abort>(
 
 /// Asserts the open and the closed log of one case.
 fn expect_case<R: Abort>(rt: &R, alloc: Global, case: &Case) -> Result<(), Cause> {
-    let (log, mut main) = opened(alloc, case)?;
-    match expect_open(rt, alloc, &log, &mut main, case) {
-        Ok(()) => expect_closed(rt, alloc, log, main, case),
+    let (log, mut control) = opened(alloc, case)?;
+    match expect_open(rt, alloc, &log, &mut control, case) {
+        Ok(()) => expect_closed(rt, alloc, log, control, case),
         Err(fail) => {
-            drop((log, main));
+            drop((log, control));
             Err(fail)
         }
     }

@@ -159,21 +159,21 @@ fn stores_second(alloc: Global, log: &Log, other: Pass, payload: &str) -> bool
 fn link_older_last(
     alloc: Global,
     log: &Log,
-    main: &mut Pass,
+    control: &mut Pass,
     defs: &[ActiveDef],
     case: &Case,
 ) -> Result<(), Cause>
-    requires pass { IsPassOf log.now main.old }
-    requires can { CanSplitPass (view main.old) 2 }
-    requires out { CanStart (view main.old) }
+    requires pass { IsPassOf log.now control.old }
+    requires can { CanSplitPass (view control.old) 2 }
+    requires out { CanStart (view control.old) }
     requires active { AreActive log.now.key.rows.value defs.now }
     requires defs { AreDefs defs.now }
-    ensures { IsPassOf log.now main.new }
+    ensures { IsPassOf log.now control.new }
 {
-    let other = split_lane(log, main, 2);
-    let first = claimed(alloc, log, main, defs, case.older.as_bytes())?;
+    let other = split_lane(log, control, 2);
+    let first = claimed(alloc, log, control, defs, case.older.as_bytes())?;
     let second = stores_second(alloc, log, other, case.newer);
-    publish_record(log, main, first);
+    publish_record(log, control, first);
     if second {
         Ok(())
     } else {
@@ -210,13 +210,13 @@ fn expect_case<R: Abort>(
     requires active { AreActive start.now.catalog defs.now }
     requires defs { AreDefs defs.now }
 {
-    let (log, mut main) = open_log(alloc, ONE_PAGE, start)?;
-    let linked = link_older_last(alloc, &log, &mut main, defs, case);
+    let (log, mut control) = open_log(alloc, ONE_PAGE, start)?;
+    let linked = link_older_last(alloc, &log, &mut control, defs, case);
     let done = match linked {
-        Ok(()) => expect_walks(rt, alloc, &log, &mut main, case),
+        Ok(()) => expect_walks(rt, alloc, &log, &mut control, case),
         Err(fail) => Err(fail),
     };
-    drop((log, main));
+    drop((log, control));
     done
 }
 

@@ -56,7 +56,7 @@ fn expect_row<R: Abort>(rt: &R, log: &Log, pass: &mut Pass)
     }
 }
 
-/// A word of the row with id 0, or none where its place isn't behind the boundaries.
+/// A word of the row with id 0, or none where its place isn't after the boundaries.
 fn first_row_word(log: &Log, pass: &mut Pass, place: u64) -> Option<u64>
     requires pass { IsPassOf log.now pass.old }
     requires row { 0 < length (view pass.old).about.rows.value }
@@ -83,11 +83,11 @@ fn one_row_log(alloc: Global, name: &str, source: &str) -> Result<(Log, Pass), C
 
 #[test]
 fn a_log_has_the_words_of_its_catalog(rt: HostRuntime) -> Result<(), Fail> {
-    let (log, mut main) = one_row_log(rt.alloc(), "kind", "take type")?;
-    let rows = load_opened(&log, &mut main);
+    let (log, mut control) = one_row_log(rt.alloc(), "kind", "take type")?;
+    let rows = load_opened(&log, &mut control);
     expect(&rt, "rows", &rows, &1);
-    expect_row(&rt, &log, &mut main);
-    drop((log, main));
+    expect_row(&rt, &log, &mut control);
+    drop((log, control));
     Ok(())
 }
 
@@ -125,29 +125,29 @@ fn expect_read<R: Abort>(
     rt: &R,
     alloc: Global,
     log: &Log,
-    main: &mut Pass,
+    control: &mut Pass,
     defs: &mut Defs,
 ) -> Result<(), Cause>
-    requires pass { IsPassOf log.now main.old }
-    requires first { view main.old ≡ first_view log.now.key }
+    requires pass { IsPassOf log.now control.old }
+    requires first { view control.old ≡ first_view log.now.key }
     requires defs { IsUnread defs.old.known }
 {
     expect_active(rt, alloc, defs, 0, &[]);
-    let version = enter(log, main);
-    defs.refresh(log, main, version)?;
+    let version = enter(log, control);
+    defs.refresh(log, control, version)?;
     expect_active(rt, alloc, defs, 0, TEXTS);
-    defs.refresh(log, main, version)?;
+    defs.refresh(log, control, version)?;
     expect_active(rt, alloc, defs, 0, TEXTS);
-    leave(log, main);
+    leave(log, control);
     Ok(())
 }
 
 #[test]
 fn the_definitions_of_version_0(rt: HostRuntime) -> Result<(), Fail> {
     let alloc = rt.alloc();
-    let (log, mut main) = defined_log(alloc, TEXTS)?;
+    let (log, mut control) = defined_log(alloc, TEXTS)?;
     let mut defs = Defs::new(alloc);
-    let done = expect_read(&rt, alloc, &log, &mut main, &mut defs);
-    drop((log, main, defs));
+    let done = expect_read(&rt, alloc, &log, &mut control, &mut defs);
+    drop((log, control, defs));
     Ok(done?)
 }

@@ -159,16 +159,16 @@ fn both_stored(alloc: Global, log: &Log, pass: &mut Pass) -> Result<(u32, u32), 
 }
 
 /// A lane that is given out stores both payloads, and is taken back. Their numbers.
-fn both_by_lane(alloc: Global, log: &Log, main: &mut Pass) -> Result<(u32, u32), Cause>
-    requires pass { IsPassOf log.now main.old }
-    requires first { view main.old ≡ first_view log.now.key }
-    ensures pass { IsPassOf log.now main.new }
-    ensures alone { IfOk result (λ _. IsAlone (view main.new)) }
+fn both_by_lane(alloc: Global, log: &Log, control: &mut Pass) -> Result<(u32, u32), Cause>
+    requires pass { IsPassOf log.now control.old }
+    requires first { view control.old ≡ first_view log.now.key }
+    ensures pass { IsPassOf log.now control.new }
+    ensures alone { IfOk result (λ _. IsAlone (view control.new)) }
 {
-    let mut other = split_lane(log, main, LANE);
+    let mut other = split_lane(log, control, LANE);
     match both_stored(alloc, log, &mut other) {
         Ok(numbers) => {
-            take_back(log, main, other, LANE)?;
+            take_back(log, control, other, LANE)?;
             Ok(numbers)
         }
         Err(fail) => {
@@ -180,11 +180,11 @@ fn both_by_lane(alloc: Global, log: &Log, main: &mut Pass) -> Result<(u32, u32),
 
 /// A log in which a lane stored both payloads, as it is closed, and their numbers.
 fn closed_behind_both(alloc: Global) -> Result<(Entries, (u32, u32)), Cause> {
-    let (log, mut main) = defined_log(alloc, &["take type", "take $1"])?;
-    match both_by_lane(alloc, &log, &mut main) {
-        Ok(numbers) => Ok((closed(alloc, log, main)?, numbers)),
+    let (log, mut control) = defined_log(alloc, &["take type", "take $1"])?;
+    match both_by_lane(alloc, &log, &mut control) {
+        Ok(numbers) => Ok((closed(alloc, log, control)?, numbers)),
         Err(fail) => {
-            drop((log, main));
+            drop((log, control));
             Err(fail)
         }
     }

@@ -1,6 +1,6 @@
 //! A record whose claim, words and publication are calls of their own.
 //!
-//! What can't be fails as a want of memory does.
+//! What can't be fails as if memory ran out.
 
 ghost use Rattle.std.specs.Prelude.{◌≡◌, ◌<◌, IfOk, None, ℕ};
 ghost use Rattle.fish_ingest.specs.Preparation.{AreDefs};

@@ -16,14 +16,14 @@ use fish_value::{Form, Text};
 use std::alloc::{AllocError, Global};
 
 /// The pass of a lane, which the control pass gives out.
-pub(crate) fn split_lane(log: &Log, main: &mut Pass, number: u8) -> Pass
-    requires pass { IsPassOf log.now main.old }
-    requires can { CanSplitPass (view main.old) number }
-    ensures pass { IsPassOf log.now main.new }
-    ensures left { view main.new ≡ split_left number (view main.old) }
+pub(crate) fn split_lane(log: &Log, control: &mut Pass, number: u8) -> Pass
+    requires pass { IsPassOf log.now control.old }
+    requires can { CanSplitPass (view control.old) number }
+    ensures pass { IsPassOf log.now control.new }
+    ensures left { view control.new ≡ split_left number (view control.old) }
     ensures out { IsOutOf log.now result }
 {
-    split_pass(log, main, number)
+    split_pass(log, control, number)
 }
 
 /// A payload that was written.
@@ -51,7 +51,7 @@ pub(crate) fn store_as(
     ensures lane { (view pass.new).lane ≡ (view pass.old).lane }
     ensures out { (view pass.new).out ≡ (view pass.old).out }
     ensures rows { (view pass.new).rows ≡ (view pass.old).rows }
-    ensures main_words { (view pass.new).main_words ≡ (view pass.old).main_words }
+    ensures control_words { (view pass.new).control_words ≡ (view pass.old).control_words }
     ensures round { (view pass.new).round ≡ (view pass.old).round }
     ensures learns { Learns (view pass.old) (view pass.new) }
 {
@@ -71,7 +71,7 @@ pub(crate) fn store(
     ensures lane { (view pass.new).lane ≡ (view pass.old).lane }
     ensures out { (view pass.new).out ≡ (view pass.old).out }
     ensures rows { (view pass.new).rows ≡ (view pass.old).rows }
-    ensures main_words { (view pass.new).main_words ≡ (view pass.old).main_words }
+    ensures control_words { (view pass.new).control_words ≡ (view pass.old).control_words }
     ensures round { (view pass.new).round ≡ (view pass.old).round }
     ensures learns { Learns (view pass.old) (view pass.new) }
 {
@@ -79,19 +79,19 @@ pub(crate) fn store(
 }
 
 /// The control pass takes back a lane.
-pub(crate) fn take_back(log: &Log, main: &mut Pass, other: Pass, lane: u8) -> Result<(), Cause>
-    requires main { IsPassOf log.now main.old }
+pub(crate) fn take_back(log: &Log, control: &mut Pass, other: Pass, lane: u8) -> Result<(), Cause>
+    requires control { IsPassOf log.now control.old }
     requires other { IsOutOf log.now other }
-    requires control { (view main.old).lane ≡ 1 }
-    requires out { Among lane (view main.old).out }
+    requires control { (view control.old).lane ≡ 1 }
+    requires out { Among lane (view control.old).out }
     requires above { 2 ≤ lane }
-    ensures pass { IsPassOf log.now main.new }
-    ensures kept { ((view main.new).lane ≡ 1) × ((view main.new).flight ≡ (view main.old).flight) }
-    ensures left { IfOk result (λ _. (view main.new).out ≡ without lane (view main.old).out) }
+    ensures pass { IsPassOf log.now control.new }
+    ensures kept { ((view control.new).lane ≡ 1) × ((view control.new).flight ≡ (view control.old).flight) }
+    ensures left { IfOk result (λ _. (view control.new).out ≡ without lane (view control.old).out) }
 {
     if lane_of(&other) != lane || in_flight(&other).is_some() {
         return Err(Cause("not the lane, or a record in flight"));
     }
-    join_pass(log, main, other);
+    join_pass(log, control, other);
     Ok(())
 }

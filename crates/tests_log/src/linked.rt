@@ -25,7 +25,7 @@ pub(crate) struct Linked {
     pub key: usize,
 }
 
-/// The entries of a record behind those of others.
+/// The entries of a record after those of others.
 fn push_links(
     alloc: Global,
     defs: &[ActiveDef],
@@ -42,7 +42,7 @@ fn push_links(
     Ok(done?)
 }
 
-/// Key entries of a record behind those of others.
+/// Key entries of a record after those of others.
 fn push_keys(keys: &[KeyValue], number: u32, links: &mut Vec<Linked>) -> Result<(), AllocError> {
     for (key, value) in keys.iter().enumerate() {
         links.push(Linked {
@@ -55,7 +55,7 @@ fn push_keys(keys: &[KeyValue], number: u32, links: &mut Vec<Linked>) -> Result<
     Ok(())
 }
 
-/// The key entries of an entry of the log behind those of others.
+/// The key entries of an entry of the log after those of others.
 fn push_entry<P: Ledger>(
     alloc: Global,
     defs: &[ActiveDef],
@@ -101,7 +101,7 @@ pub(crate) fn links_of(
     links_with::<Brand>(alloc, Blank::new(1), defs, entries)
 }
 
-/// The entries of one bucket, newest first, behind those of others.
+/// The entries of one bucket, newest first, after those of others.
 fn push_chain(links: &[Linked], bucket: u64, chains: &mut Vec<Linked>) -> Result<(), AllocError> {
     for link in links.iter().rev() {
         if link.bucket == bucket {
@@ -120,7 +120,7 @@ pub(crate) fn links_in(alloc: Global, links: &[Linked]) -> Result<Vec<Linked>, A
     Ok(chains)
 }
 
-/// What a walk down a bucket's chain gave, behind what walks down others did.
+/// What a walk down a bucket's chain gave, after what walks down others did.
 pub(crate) fn push_nodes(
     bucket: u32,
     nodes: &[Node],

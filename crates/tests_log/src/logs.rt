@@ -68,11 +68,11 @@ pub fn parsed(alloc: Global, source: &str) -> Result<(Def, Text), LangRefusal>
 }
 
 /// Closes a log. Its entries.
-pub fn closed(alloc: Global, log: Log, main: Pass) -> Result<Entries, Cause>
-    requires pass { IsPassOf log main }
-    requires alone { IsAlone (view main) }
+pub fn closed(alloc: Global, log: Log, control: Pass) -> Result<Entries, Cause>
+    requires pass { IsPassOf log control }
+    requires alone { IsAlone (view control) }
 {
-    let remains = left(alloc, log, main)?;
+    let remains = left(alloc, log, control)?;
     listed(alloc, &remains)
 }
 
@@ -85,11 +85,11 @@ pub(crate) fn listed(alloc: Global, remains: &Remains) -> Result<Entries, Cause>
 }
 
 /// Closes a log. What is left of it.
-pub(crate) fn left(alloc: Global, log: Log, main: Pass) -> Result<Remains, Cause>
-    requires pass { IsPassOf log main }
-    requires alone { IsAlone (view main) }
+pub(crate) fn left(alloc: Global, log: Log, control: Pass) -> Result<Remains, Cause>
+    requires pass { IsPassOf log control }
+    requires alone { IsAlone (view control) }
 {
-    match close_log(alloc, log, main) {
+    match close_log(alloc, log, control) {
         Ok(remains) => Ok(remains),
         Err(want) => {
             drop(want);

@@ -22,7 +22,7 @@ use std::sync::ledger::{Blank, Ledger};
 /// The bucket of true under id 0 among sixteen: FNV-1a of the bytes 0 0 1 leaves 4.
 pub(crate) const BUCKET: u32 = 4;
 
-/// Gives all nodes of a walk that was begun, behind others.
+/// Gives all nodes of a walk that was begun, after others.
 fn push_all<L: Ledger>(
     log: &Log,
     pass: &mut Pass,

@@ -160,7 +160,7 @@ fn told(alloc: Global, parts: &BodyParts) -> Result<String, Cause> {
     Ok(text)
 }
 
-/// A key entry as a text behind others: id, value, and the place of the previous one.
+/// A key entry as a text after others: id, value, and the place of the previous one.
 fn push_key(alloc: Global, key: &KeyPart, text: &mut String) -> Result<(), Cause> {
     let value = print_value(alloc, &key.value)?;
     Ok(write!(text, "{} {} {};", key.id, value.as_str(), key.prev)?)

@@ -23,7 +23,7 @@ use fish_scan::How;
 use std::alloc::Global;
 use std::test::Fail;
 
-/// What lane 2 asks behind its three records, and the plan.
+/// What lane 2 asks after its three records, and the plan.
 const PLANS: &[(Question, &str)] = &[
     (PUSHES, "0..3 index 0..3 by 0"),
     (
@@ -60,20 +60,20 @@ fn told_plan(alloc: Global, log: &Log, lane: &mut Lane, question: Question) -> R
     text
 }
 
-/// The same behind three records of the lane, by an index that begins before them.
+/// The same after three records of the lane, by an index that begins before them.
 fn told_behind(
     alloc: Global,
     log: &Log,
-    main: &mut Pass,
+    control: &mut Pass,
     registrar: &mut Registrar,
     lane: &mut Lane,
     question: Question,
 ) -> Result<String, Cause>
-    requires kept { IsKept log.now main.old registrar.old }
+    requires kept { IsKept log.now control.old registrar.old }
     requires ready { CanIngest log.now lane.old.pass lane.old.defs }
 {
-    let begun = begin(alloc, log, main, registrar, "t", "take type")?;
-    let found = poll(log, main, registrar);
+    let begun = begin(alloc, log, control, registrar, "t", "take type")?;
+    let found = poll(log, control, registrar);
     if begun != Ok(0) || found != (Poll::Bound { id: 0, from: 0 }) {
         return Err(Cause("not registered, or not bound"));
     }
@@ -87,25 +87,25 @@ fn told_behind(
 fn told_by_lane(
     alloc: Global,
     log: &Log,
-    main: &mut Pass,
+    control: &mut Pass,
     registrar: &mut Registrar,
     question: Question,
 ) -> Result<String, Cause>
-    requires kept { IsKept log.now main.old registrar.old }
-    requires first { view main.old ≡ first_view log.now.key }
+    requires kept { IsKept log.now control.old registrar.old }
+    requires first { view control.old ≡ first_view log.now.key }
 {
-    let mut lane = lane_of(alloc, log, main, registrar, 2);
-    let text = told_behind(alloc, log, main, registrar, &mut lane, question);
+    let mut lane = lane_of(alloc, log, control, registrar, 2);
+    let text = told_behind(alloc, log, control, registrar, &mut lane, question);
     drop(lane);
     text
 }
 
 /// The same on a log of its own.
 fn told_alone(alloc: Global, question: Question) -> Result<String, Cause> {
-    let (log, mut main) = empty_log(alloc, ONE_PAGE, FIRST)?;
+    let (log, mut control) = empty_log(alloc, ONE_PAGE, FIRST)?;
     let mut registrar = Registrar::new(Catalog::new(alloc));
-    let text = told_by_lane(alloc, &log, &mut main, &mut registrar, question);
-    drop((log, main, registrar));
+    let text = told_by_lane(alloc, &log, &mut control, &mut registrar, question);
+    drop((log, control, registrar));
     text
 }
 

@@ -77,7 +77,7 @@ pub(crate) struct Kept {
     pub(crate) answer: Answer,
 }
 
-/// Keeps what a scan answered behind so many records of its lane. A definition may not be there yet, and an index may
+/// Keeps what a scan answered after so many records of its lane. A definition may not be there yet, and an index may
 /// miss a number.
 pub(crate) fn keep(
     kept: &mut Vec<Kept>,

@@ -86,7 +86,7 @@ fn store_place(
     Ok(stored)
 }
 
-/// A lane scans behind so many of its records.
+/// A lane scans after so many of its records.
 fn scan_at(
     alloc: Global,
     log: &Log,
@@ -105,7 +105,7 @@ fn scan_at(
     keep(kept, lane_of(pass), stored, asked, answer)
 }
 
-/// Stores the record of a place, and scans behind each eighth.
+/// Stores the record of a place, and scans after each eighth.
 fn step(
     alloc: Global,
     log: &Log,
@@ -174,15 +174,15 @@ fn run_all<R: Threads + Sync>(rt: &R, alloc: Global, log: &Log, racers: &mut [Ra
 fn scan_beside(
     alloc: Global,
     log: &Log,
-    main: &mut Pass,
+    control: &mut Pass,
     registrar: &Registrar,
     ask: &Ask,
 ) -> Result<Answer, ScanRefusal>
-    requires { IsBeside log.now main.old registrar.now }
-    ensures { IsBeside log.now main.new registrar.now }
+    requires { IsBeside log.now control.old registrar.now }
+    ensures { IsBeside log.now control.new registrar.now }
 {
     let mut defs = Defs::new(alloc);
-    let answer = scan_between(alloc, log, main, &mut defs, ask);
+    let answer = scan_between(alloc, log, control, &mut defs, ask);
     drop(defs);
     answer
 }
@@ -191,17 +191,17 @@ fn scan_beside(
 fn scan_in_turn(
     alloc: Global,
     log: &Log,
-    main: &mut Pass,
+    control: &mut Pass,
     registrar: &Registrar,
     turn: usize,
     kept: &mut Vec<Kept>,
 ) -> Result<(), Cause>
-    requires { IsBeside log.now main.old registrar.now }
-    ensures { IsBeside log.now main.new registrar.now }
+    requires { IsBeside log.now control.old registrar.now }
+    ensures { IsBeside log.now control.new registrar.now }
 {
     let asked = turn % ASKED.len();
     let ask = ask_at(alloc, asked)?;
-    let answer = scan_beside(alloc, log, main, registrar, &ask);
+    let answer = scan_beside(alloc, log, control, registrar, &ask);
     drop(ask);
     Ok(keep(kept, 1, 0, asked, answer)?)
 }
@@ -210,34 +210,34 @@ fn scan_in_turn(
 fn change(
     alloc: Global,
     log: &Log,
-    main: &mut Pass,
+    control: &mut Pass,
     registrar: &mut Registrar,
     turn: usize,
 ) -> Result<(), Cause>
-    requires { IsBeside log.now main.old registrar.old }
-    ensures { IsBeside log.now main.new registrar.new }
+    requires { IsBeside log.now control.old registrar.old }
+    ensures { IsBeside log.now control.new registrar.new }
 {
     let definition = CHANGING[turn % 2];
-    if turn < 2 || end_beside(alloc, log, main, registrar, definition.0)? {
-        return begin_beside(alloc, log, main, registrar, definition);
+    if turn < 2 || end_beside(alloc, log, control, registrar, definition.0)? {
+        return begin_beside(alloc, log, control, registrar, definition);
     }
     Err(Cause("not ended"))
 }
 
-/// Definitions come and go, and a scan is made behind each change.
+/// Definitions come and go, and a scan is made after each change.
 fn change_all(
     alloc: Global,
     log: &Log,
-    main: &mut Pass,
+    control: &mut Pass,
     registrar: &mut Registrar,
     kept: &mut Vec<Kept>,
 ) -> Result<(), Cause>
-    requires { IsBeside log.now main.old registrar.old }
-    ensures { IsBeside log.now main.new registrar.new }
+    requires { IsBeside log.now control.old registrar.old }
+    ensures { IsBeside log.now control.new registrar.new }
 {
     for turn in 0..CHANGES {
-        change(alloc, log, main, registrar, turn)?;
-        scan_in_turn(alloc, log, main, registrar, turn, kept)?;
+        change(alloc, log, control, registrar, turn)?;
+        scan_in_turn(alloc, log, control, registrar, turn, kept)?;
     }
     Ok(())
 }
@@ -247,20 +247,20 @@ fn change_beside<R: Threads + Sync>(
     rt: &R,
     alloc: Global,
     log: &Log,
-    main: &mut Pass,
+    control: &mut Pass,
     registrar: &mut Registrar,
     racers: &mut [Racer],
     kept: &mut Vec<Kept>,
 ) -> Result<(), Cause>
-    requires beside { IsBeside log.now main.old registrar.old }
+    requires beside { IsBeside log.now control.old registrar.old }
     requires racers { AreOut log.now racers.old (λ racer. racer.seat.pass) }
-    ensures beside { IsBeside log.now main.new registrar.new }
+    ensures beside { IsBeside log.now control.new registrar.new }
     ensures racers { AreOut log.now racers.new (λ racer. racer.seat.pass) }
 {
-    begin_beside(alloc, log, main, registrar, KIND)?;
+    begin_beside(alloc, log, control, registrar, KIND)?;
     let (done, ()) = join_mut(
         rt,
-        &mut || change_all(alloc, log, main, registrar, kept),
+        &mut || change_all(alloc, log, control, registrar, kept),
         &mut || -> ()
             requires { IsSync R.row × AreOut log.now racers.now (λ racer. racer.seat.pass) }
             ensures { AreOut log.entry.now racers.exit.now (λ racer. racer.seat.pass) }
@@ -296,7 +296,7 @@ fn racer_of(alloc: Global, log: &Log, seat: Seat) -> Racer
 /// What scans answered: those of the control pass, and of lanes 2 to 4.
 #[derive(Drop)]
 pub(crate) struct Answers {
-    pub(crate) main: Vec<Kept>,
+    pub(crate) control: Vec<Kept>,
     pub(crate) second: Vec<Kept>,
     pub(crate) third: Vec<Kept>,
     pub(crate) fourth: Vec<Kept>,
@@ -312,27 +312,27 @@ pub(crate) struct Raced {
 /// The control pass takes back the seats.
 fn take_racers(
     log: &Log,
-    main: &mut Pass,
+    control: &mut Pass,
     racers: [Racer; 3],
     kept: Vec<Kept>,
 ) -> Result<Raced, Cause>
-    requires main { IsPassOf log.now main.old }
+    requires control { IsPassOf log.now control.old }
     requires racers { AreOut log.now racers (λ racer. racer.seat.pass) }
-    requires control { (view main.old).lane ≡ 1 }
-    requires idle { (view main.old).flight ≡ None }
-    requires out { (view main.old).out ≡ 4 ∷ 3 ∷ 2 ∷ [] }
-    ensures pass { IsPassOf log.now main.new }
-    ensures alone { OnOk result (IsAlone (view main.new)) }
+    requires control { (view control.old).lane ≡ 1 }
+    requires idle { (view control.old).flight ≡ None }
+    requires out { (view control.old).out ≡ 4 ∷ 3 ∷ 2 ∷ [] }
+    ensures pass { IsPassOf log.now control.new }
+    ensures alone { OnOk result (IsAlone (view control.new)) }
 {
     let [second, third, fourth] = racers;
     let seats = [second.seat, third.seat, fourth.seat];
     let answers = Answers {
-        main: kept,
+        control: kept,
         second: second.kept,
         third: third.kept,
         fourth: fourth.kept,
     };
-    match take_three(log, main, seats) {
+    match take_three(log, control, seats) {
         Ok(stored) => Ok(Raced { stored, answers }),
         Err(fail) => {
             drop(answers);
@@ -346,19 +346,19 @@ fn race<R: Threads + Sync>(
     rt: &R,
     alloc: Global,
     log: &Log,
-    main: &mut Pass,
+    control: &mut Pass,
     registrar: &mut Registrar,
 ) -> Result<Raced, Cause>
-    requires kept { IsKept log.now main.old registrar.old }
-    requires first { view main.old ≡ first_view log.now.key }
-    ensures pass { IsPassOf log.now main.new }
-    ensures alone { OnOk result (IsAlone (view main.new)) }
+    requires kept { IsKept log.now control.old registrar.old }
+    requires first { view control.old ≡ first_view log.now.key }
+    ensures pass { IsPassOf log.now control.new }
+    ensures alone { OnOk result (IsAlone (view control.new)) }
 {
-    let seats = split_beside(log, main, registrar);
+    let seats = split_beside(log, control, registrar);
     let mut racers = racers_of(alloc, log, seats);
     let mut kept = Vec::new(alloc);
-    match change_beside(rt, alloc, log, main, registrar, &mut racers, &mut kept) {
-        Ok(()) => take_racers(log, main, racers, kept),
+    match change_beside(rt, alloc, log, control, registrar, &mut racers, &mut kept) {
+        Ok(()) => take_racers(log, control, racers, kept),
         Err(fail) => {
             drop((racers, kept));
             Err(fail)
@@ -373,12 +373,12 @@ pub(crate) struct Left {
     pub(crate) entries: Entries,
 }
 
-/// Closes a log behind a race.
-fn close_raced(alloc: Global, log: Log, main: Pass, raced: Raced) -> Result<Left, Cause>
-    requires pass { IsPassOf log main }
-    requires alone { IsAlone (view main) }
+/// Closes a log after a race.
+fn close_raced(alloc: Global, log: Log, control: Pass, raced: Raced) -> Result<Left, Cause>
+    requires pass { IsPassOf log control }
+    requires alone { IsAlone (view control) }
 {
-    match closed(alloc, log, main) {
+    match closed(alloc, log, control) {
         Ok(entries) => Ok(Left { raced, entries }),
         Err(fail) => {
             drop(raced);
@@ -389,14 +389,14 @@ fn close_raced(alloc: Global, log: Log, main: Pass, raced: Raced) -> Result<Left
 
 /// A race on a log of its own.
 pub(crate) fn raced_log<R: Threads + Sync>(rt: &R, alloc: Global) -> Result<Left, Cause> {
-    let (log, mut main) = empty_log(alloc, ONE_PAGE, FIRST)?;
+    let (log, mut control) = empty_log(alloc, ONE_PAGE, FIRST)?;
     let mut registrar = Registrar::new(Catalog::new(alloc));
-    let raced = race(rt, alloc, &log, &mut main, &mut registrar);
+    let raced = race(rt, alloc, &log, &mut control, &mut registrar);
     drop(registrar);
     match raced {
-        Ok(raced) => close_raced(alloc, log, main, raced),
+        Ok(raced) => close_raced(alloc, log, control, raced),
         Err(fail) => {
-            drop((log, main));
+            drop((log, control));
             Err(fail)
         }
     }

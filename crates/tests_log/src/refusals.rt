@@ -1,7 +1,7 @@
 //! Payloads that are stored, and those that are refused, under `take type`: by one pass, and by two that are joined.
 //!
 //! A payload of 524,000 bytes takes 16,376 lines, one of 600 bytes 19 and one of 700 bytes 23, so a third record doesn't
-//! fit behind two on the first page of 32,768 lines.
+//! fit after two on the first page of 32,768 lines.
 
 ghost use Rattle.std.specs.Prelude.{◌≡◌, ◌∷◌, [], IfOk};
 ghost use Rattle.fish_ingest.specs.Ingestion.{CanIngest};
@@ -30,7 +30,7 @@ const FULL: IngestRefusal = IngestRefusal::Full {
     end: 32_768,
 };
 
-/// A pass that is refused behind it: its claim begins where that of the first ends.
+/// A pass that is refused after it: its claim begins where that of the first ends.
 const FULL_BEHIND: IngestRefusal = IngestRefusal::Full {
     line: 32_771,
     lines: 23,
@@ -74,7 +74,7 @@ const FULL_LOG: Answers = &[
     (Payload::Text("{}"), Err(FULL)),
 ];
 
-/// What lane 2 is answered, and lane 3 behind it, and lane 2 again.
+/// What lane 2 is answered, and lane 3 after it, and lane 2 again.
 const SECOND: Answers = &[
     (Payload::Long(524_000), Ok(0)),
     (Payload::Long(524_000), Ok(1)),
@@ -187,7 +187,7 @@ fn expect_lane<R: Abort>(
     done
 }
 
-/// Asserts what two lanes are answered, one behind the other.
+/// Asserts what two lanes are answered, one after the other.
 fn expect_lanes<R: Abort>(
     rt: &R,
     alloc: Global,
@@ -206,16 +206,16 @@ fn expect_lanes<R: Abort>(
 }
 
 /// The control pass takes back lanes 2 and 3.
-fn take_two(log: &Log, main: &mut Pass, second: Pass, third: Pass) -> Result<(), Cause>
-    requires main { IsPassOf log.now main.old }
+fn take_two(log: &Log, control: &mut Pass, second: Pass, third: Pass) -> Result<(), Cause>
+    requires control { IsPassOf log.now control.old }
     requires second { IsOutOf log.now second }
     requires third { IsOutOf log.now third }
-    requires control { (view main.old).lane ≡ 1 }
-    requires out { (view main.old).out ≡ 3 ∷ 2 ∷ [] }
-    ensures { IsPassOf log.now main.new }
+    requires control { (view control.old).lane ≡ 1 }
+    requires out { (view control.old).out ≡ 3 ∷ 2 ∷ [] }
+    ensures { IsPassOf log.now control.new }
 {
-    match take_back(log, main, second, 2) {
-        Ok(()) => take_back(log, main, third, 3),
+    match take_back(log, control, second, 2) {
+        Ok(()) => take_back(log, control, third, 3),
         Err(fail) => {
             drop(third);
             Err(fail)
@@ -224,27 +224,32 @@ fn take_two(log: &Log, main: &mut Pass, second: Pass, third: Pass) -> Result<(),
 }
 
 /// Asserts what two lanes are answered, and which of their claims the control pass has afterwards.
-fn expect_joined<R: Abort>(rt: &R, alloc: Global, log: &Log, main: &mut Pass) -> Result<(), Cause>
-    requires pass { IsPassOf log.now main.old }
-    requires first { view main.old ≡ first_view log.now.key }
+fn expect_joined<R: Abort>(
+    rt: &R,
+    alloc: Global,
+    log: &Log,
+    control: &mut Pass,
+) -> Result<(), Cause>
+    requires pass { IsPassOf log.now control.old }
+    requires first { view control.old ≡ first_view log.now.key }
 {
-    let mut second = split_lane(log, main, 2);
-    let mut third = split_lane(log, main, 3);
+    let mut second = split_lane(log, control, 2);
+    let mut third = split_lane(log, control, 3);
     match expect_lanes(rt, alloc, log, &mut second, &mut third) {
-        Ok(()) => take_two(log, main, second, third)?,
+        Ok(()) => take_two(log, control, second, third)?,
         Err(fail) => {
             drop((second, third));
             return Err(fail);
         }
     }
-    expect(rt, "the claim that shut it", &is_shut(main), &Some(SHUT));
+    expect(rt, "the claim that shut it", &is_shut(control), &Some(SHUT));
     Ok(())
 }
 
 #[test]
 fn full_lanes_are_compared(rt: HostRuntime) -> Result<(), Fail> {
-    let (log, mut main) = defined_log(rt.alloc(), &["take type"])?;
-    let done = expect_joined(&rt, rt.alloc(), &log, &mut main);
-    drop((log, main));
+    let (log, mut control) = defined_log(rt.alloc(), &["take type"])?;
+    let done = expect_joined(&rt, rt.alloc(), &log, &mut control);
+    drop((log, control));
     Ok(done?)
 }

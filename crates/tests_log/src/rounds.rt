@@ -1,5 +1,5 @@
 //! Registrations beside a lane that has a record in flight: one that entered before is waited for, and one that entered
-//! behind is not.
+//! after is not.
 
 ghost use Rattle.std.specs.Prelude.{◌≡◌};
 ghost use Rattle.fish_ingest.specs.Ingestion.{CanIngest};
@@ -28,7 +28,7 @@ use std::test::Fail;
 /// The payload of each record.
 const PUSH: &[u8] = b"{\"type\":\"Push\",\"n\":1}";
 
-/// What the control pass finds as it registers a definition while a lane has a record in flight, and behind it.
+/// What the control pass finds as it registers a definition while a lane has a record in flight, and after it.
 #[derive(Clone, Copy, Debug, PartialEq, Eq)]
 struct Seen {
     begun: Result<u16, RegRefusal>,
@@ -42,23 +42,23 @@ struct Seen {
 fn seen_in_flight(
     alloc: Global,
     log: &Log,
-    main: &mut Pass,
+    control: &mut Pass,
     registrar: &mut Registrar,
     other: &mut Pass,
     defs: &mut Defs,
 ) -> Result<Seen, Cause>
-    requires kept { IsKept log.now main.old registrar.old }
+    requires kept { IsKept log.now control.old registrar.old }
     requires other { CanIngest log.now other.old defs.old }
-    ensures { IsKept log.now main.new registrar.new }
+    ensures { IsKept log.now control.new registrar.new }
 {
     let Ok(pending) = start(alloc, log, other, defs, Form::Json, PUSH) else {
         return Err(Cause("not started"));
     };
-    let begun = begin(alloc, log, main, registrar, "t", "take type");
-    let flying = poll(log, main, registrar);
+    let begun = begin(alloc, log, control, registrar, "t", "take type");
+    let flying = poll(log, control, registrar);
     let number = finish(log, other, pending);
-    let landed = poll(log, main, registrar);
-    let later = poll(log, main, registrar);
+    let landed = poll(log, control, registrar);
+    let later = poll(log, control, registrar);
     Ok(Seen {
         begun: begun?,
         flying,
@@ -72,16 +72,16 @@ fn seen_in_flight(
 fn seen_with_lane(
     alloc: Global,
     log: &Log,
-    main: &mut Pass,
+    control: &mut Pass,
     registrar: &mut Registrar,
 ) -> Result<Seen, Cause>
-    requires kept { IsKept log.now main.old registrar.old }
-    requires can { CanSplitPass (view main.old) 2 }
-    ensures { IsKept log.now main.new registrar.new }
+    requires kept { IsKept log.now control.old registrar.old }
+    requires can { CanSplitPass (view control.old) 2 }
+    ensures { IsKept log.now control.new registrar.new }
 {
-    let mut other = split_kept(log, main, registrar, 2);
+    let mut other = split_kept(log, control, registrar, 2);
     let mut defs = Defs::new(alloc);
-    let seen = seen_in_flight(alloc, log, main, registrar, &mut other, &mut defs);
+    let seen = seen_in_flight(alloc, log, control, registrar, &mut other, &mut defs);
     drop((other, defs));
     seen
 }
@@ -90,13 +90,13 @@ fn seen_with_lane(
 fn told_pushes(
     alloc: Global,
     log: &Log,
-    main: &mut Pass,
+    control: &mut Pass,
     registrar: &Registrar,
 ) -> Result<String, Cause>
-    requires { IsKept log.now main.old registrar.now }
+    requires { IsKept log.now control.old registrar.now }
 {
     let mut defs = Defs::new(alloc);
-    let text = told_scanned(alloc, log, main, registrar, &mut defs, PUSHES);
+    let text = told_scanned(alloc, log, control, registrar, &mut defs, PUSHES);
     drop(defs);
     text
 }
@@ -105,23 +105,23 @@ fn told_pushes(
 fn seen_and_found(
     alloc: Global,
     log: &Log,
-    main: &mut Pass,
+    control: &mut Pass,
     registrar: &mut Registrar,
 ) -> Result<(Seen, String), Cause>
-    requires kept { IsKept log.now main.old registrar.old }
-    requires can { CanSplitPass (view main.old) 2 }
+    requires kept { IsKept log.now control.old registrar.old }
+    requires can { CanSplitPass (view control.old) 2 }
 {
-    let seen = seen_with_lane(alloc, log, main, registrar)?;
-    Ok((seen, told_pushes(alloc, log, main, registrar)?))
+    let seen = seen_with_lane(alloc, log, control, registrar)?;
+    Ok((seen, told_pushes(alloc, log, control, registrar)?))
 }
 
 #[test]
 fn a_lane_in_flight_is_waited_for(rt: HostRuntime) -> Result<(), Fail> {
     let alloc = rt.alloc();
-    let (log, mut main) = empty_log(alloc, ONE_PAGE, FIRST)?;
+    let (log, mut control) = empty_log(alloc, ONE_PAGE, FIRST)?;
     let mut registrar = Registrar::new(Catalog::new(alloc));
-    let seen = seen_and_found(alloc, &log, &mut main, &mut registrar);
-    drop((log, main, registrar));
+    let seen = seen_and_found(alloc, &log, &mut control, &mut registrar);
+    drop((log, control, registrar));
     let (seen, found) = seen?;
     let want = Seen {
         begun: Ok(0),
@@ -169,7 +169,7 @@ pub(crate) struct Lane {
     pub(crate) defs: Defs,
 }
 
-/// What comes of a registration behind 90 records, where one lane enters behind it and is in flight, and another stores
+/// What comes of a registration after 90 records, where one lane enters after it and is in flight, and another stores
 /// nine records more.
 #[derive(Clone, Copy, Debug, PartialEq, Eq)]
 struct Behind {
@@ -181,28 +181,28 @@ struct Behind {
     number: u32,
 }
 
-/// Registers a definition behind 90 records, in front of a lane that is in flight.
+/// Registers a definition after 90 records, before a lane that is in flight.
 fn seen_behind(
     alloc: Global,
     log: &Log,
-    main: &mut Pass,
+    control: &mut Pass,
     registrar: &mut Registrar,
     second: &mut Lane,
     third: &mut Lane,
 ) -> Result<Behind, Cause>
-    requires kept { IsKept log.now main.old registrar.old }
+    requires kept { IsKept log.now control.old registrar.old }
     requires second { CanIngest log.now second.old.pass second.old.defs }
     requires third { CanIngest log.now third.old.pass third.old.defs }
 {
     let before = store_pushes(alloc, log, &mut third.pass, &mut third.defs, 90);
-    let begun = begin(alloc, log, main, registrar, "t", "take type")?;
+    let begun = begin(alloc, log, control, registrar, "t", "take type")?;
     let lane = &mut second.pass;
     let Ok(pending) = start(alloc, log, lane, &mut second.defs, Form::Json, PUSH) else {
         return Err(Cause("not started"));
     };
     let beside = store_pushes(alloc, log, &mut third.pass, &mut third.defs, 9);
-    let found = poll(log, main, registrar);
-    let ended = end(alloc, log, main, registrar, "t");
+    let found = poll(log, control, registrar);
+    let ended = end(alloc, log, control, registrar, "t");
     let number = finish(log, &mut second.pass, pending);
     Ok(Behind {
         before,
@@ -218,17 +218,17 @@ fn seen_behind(
 pub(crate) fn lane_of(
     alloc: Global,
     log: &Log,
-    main: &mut Pass,
+    control: &mut Pass,
     registrar: &Registrar,
     lane: u8,
 ) -> Lane
-    requires kept { IsKept log.now main.old registrar.now }
-    requires can { CanSplitPass (view main.old) lane }
-    ensures kept { IsKept log.now main.new registrar.now }
-    ensures left { view main.new ≡ split_left lane (view main.old) }
+    requires kept { IsKept log.now control.old registrar.now }
+    requires can { CanSplitPass (view control.old) lane }
+    ensures kept { IsKept log.now control.new registrar.now }
+    ensures left { view control.new ≡ split_left lane (view control.old) }
     ensures ready { CanIngest log.now result.pass result.defs }
 {
-    let pass = split_kept(log, main, registrar, lane);
+    let pass = split_kept(log, control, registrar, lane);
     Lane {
         pass,
         defs: Defs::new(alloc),
@@ -239,15 +239,15 @@ pub(crate) fn lane_of(
 fn seen_with_two(
     alloc: Global,
     log: &Log,
-    main: &mut Pass,
+    control: &mut Pass,
     registrar: &mut Registrar,
 ) -> Result<Behind, Cause>
-    requires kept { IsKept log.now main.old registrar.old }
-    requires first { view main.old ≡ first_view log.now.key }
+    requires kept { IsKept log.now control.old registrar.old }
+    requires first { view control.old ≡ first_view log.now.key }
 {
-    let mut second = lane_of(alloc, log, main, registrar, 2);
-    let mut third = lane_of(alloc, log, main, registrar, 3);
-    let seen = seen_behind(alloc, log, main, registrar, &mut second, &mut third);
+    let mut second = lane_of(alloc, log, control, registrar, 2);
+    let mut third = lane_of(alloc, log, control, registrar, 3);
+    let seen = seen_behind(alloc, log, control, registrar, &mut second, &mut third);
     drop((second, third));
     seen
 }
@@ -255,10 +255,10 @@ fn seen_with_two(
 #[test]
 fn a_lane_that_entered_behind_is_not_waited_for(rt: HostRuntime) -> Result<(), Fail> {
     let alloc = rt.alloc();
-    let (log, mut main) = empty_log(alloc, ONE_PAGE, FIRST)?;
+    let (log, mut control) = empty_log(alloc, ONE_PAGE, FIRST)?;
     let mut registrar = Registrar::new(Catalog::new(alloc));
-    let seen = seen_with_two(alloc, &log, &mut main, &mut registrar);
-    drop((log, main, registrar));
+    let seen = seen_with_two(alloc, &log, &mut control, &mut registrar);
+    drop((log, control, registrar));
     let want = Behind {
         before: 90,
         begun: Ok(0),

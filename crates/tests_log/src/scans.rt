@@ -71,7 +71,7 @@ fn explain_between(
     explain(alloc, log, pass, defs, ask)
 }
 
-/// A piece of a plan as a text behind others.
+/// A piece of a plan as a text after others.
 fn push_piece(text: &mut String, piece: Piece) -> Result<(), Cause> {
     match piece {
         Piece::Index { id, from, to } => Ok(write!(text, " index {from}..{to} by {id}")?),

@@ -23,73 +23,77 @@ pub(crate) struct Seat {
 }
 
 /// The seat of a lane, which the control pass gives out.
-fn split_seat(log: &Log, main: &mut Pass, lane: u8) -> Seat
-    requires pass { IsPassOf log.now main.old }
-    requires can { CanSplitPass (view main.old) lane }
-    ensures pass { IsPassOf log.now main.new }
-    ensures left { view main.new ≡ split_left lane (view main.old) }
+fn split_seat(log: &Log, control: &mut Pass, lane: u8) -> Seat
+    requires pass { IsPassOf log.now control.old }
+    requires can { CanSplitPass (view control.old) lane }
+    ensures pass { IsPassOf log.now control.new }
+    ensures left { view control.new ≡ split_left lane (view control.old) }
     ensures seat { IsOutOf log.now result.pass }
 {
-    let pass = split_lane(log, main, lane);
+    let pass = split_lane(log, control, lane);
     Seat { pass, stored: 0 }
 }
 
 /// The seats of lanes 2 to 4.
-pub(crate) fn split_three(log: &Log, main: &mut Pass) -> [Seat; 3]
-    requires pass { IsPassOf log.now main.old }
-    requires first { view main.old ≡ first_view log.now.key }
-    ensures pass { IsPassOf log.now main.new }
-    ensures left { view main.new ≡ split_left 4 (split_left 3 (split_left 2 (view main.old))) }
-    ensures control { ((view main.new).lane ≡ 1) × ((view main.new).flight ≡ None) }
-    ensures start { CanStart (view main.new) }
-    ensures out { (view main.new).out ≡ 4 ∷ 3 ∷ 2 ∷ [] }
+pub(crate) fn split_three(log: &Log, control: &mut Pass) -> [Seat; 3]
+    requires pass { IsPassOf log.now control.old }
+    requires first { view control.old ≡ first_view log.now.key }
+    ensures pass { IsPassOf log.now control.new }
+    ensures left { view control.new ≡ split_left 4 (split_left 3 (split_left 2 (view control.old))) }
+    ensures control { ((view control.new).lane ≡ 1) × ((view control.new).flight ≡ None) }
+    ensures start { CanStart (view control.new) }
+    ensures out { (view control.new).out ≡ 4 ∷ 3 ∷ 2 ∷ [] }
     ensures seats { AreOut log.now result (λ seat. seat.pass) }
 {
-    let second = split_seat(log, main, 2);
-    let third = split_seat(log, main, 3);
-    let fourth = split_seat(log, main, 4);
+    let second = split_seat(log, control, 2);
+    let third = split_seat(log, control, 3);
+    let fourth = split_seat(log, control, 4);
     [second, third, fourth]
 }
 
 /// The same beside a registrar, which keeps what it knows.
-pub(crate) fn split_beside(log: &Log, main: &mut Pass, registrar: &Registrar) -> [Seat; 3]
-    requires kept { IsKept log.now main.old registrar.now }
-    requires first { view main.old ≡ first_view log.now.key }
-    ensures beside { IsBeside log.now main.new registrar.now }
+pub(crate) fn split_beside(log: &Log, control: &mut Pass, registrar: &Registrar) -> [Seat; 3]
+    requires kept { IsKept log.now control.old registrar.now }
+    requires first { view control.old ≡ first_view log.now.key }
+    ensures beside { IsBeside log.now control.new registrar.now }
     ensures seats { AreOut log.now result (λ seat. seat.pass) }
 {
-    split_three(log, main)
+    split_three(log, control)
 }
 
 /// The control pass takes back a seat. How many records were stored there.
-fn take_seat(log: &Log, main: &mut Pass, seat: Seat, lane: u8) -> Result<usize, Cause>
-    requires main { IsPassOf log.now main.old }
+fn take_seat(log: &Log, control: &mut Pass, seat: Seat, lane: u8) -> Result<usize, Cause>
+    requires control { IsPassOf log.now control.old }
     requires seat { IsOutOf log.now seat.pass }
-    requires control { (view main.old).lane ≡ 1 }
-    requires out { Among lane (view main.old).out }
+    requires control { (view control.old).lane ≡ 1 }
+    requires out { Among lane (view control.old).out }
     requires above { 2 ≤ lane }
-    ensures pass { IsPassOf log.now main.new }
-    ensures kept { ((view main.new).lane ≡ 1) × ((view main.new).flight ≡ (view main.old).flight) }
-    ensures left { IfOk result (λ _. (view main.new).out ≡ without lane (view main.old).out) }
+    ensures pass { IsPassOf log.now control.new }
+    ensures kept { ((view control.new).lane ≡ 1) × ((view control.new).flight ≡ (view control.old).flight) }
+    ensures left { IfOk result (λ _. (view control.new).out ≡ without lane (view control.old).out) }
 {
     let Seat { pass, stored } = seat;
-    take_back(log, main, pass, lane)?;
+    take_back(log, control, pass, lane)?;
     Ok(stored)
 }
 
 /// The control pass takes back lanes 2 to 4. How many records each stored.
-pub(crate) fn take_three(log: &Log, main: &mut Pass, seats: [Seat; 3]) -> Result<[usize; 3], Cause>
-    requires main { IsPassOf log.now main.old }
+pub(crate) fn take_three(
+    log: &Log,
+    control: &mut Pass,
+    seats: [Seat; 3],
+) -> Result<[usize; 3], Cause>
+    requires control { IsPassOf log.now control.old }
     requires seats { AreOut log.now seats (λ seat. seat.pass) }
-    requires control { (view main.old).lane ≡ 1 }
-    requires idle { (view main.old).flight ≡ None }
-    requires out { (view main.old).out ≡ 4 ∷ 3 ∷ 2 ∷ [] }
-    ensures pass { IsPassOf log.now main.new }
-    ensures alone { OnOk result (IsAlone (view main.new)) }
+    requires control { (view control.old).lane ≡ 1 }
+    requires idle { (view control.old).flight ≡ None }
+    requires out { (view control.old).out ≡ 4 ∷ 3 ∷ 2 ∷ [] }
+    ensures pass { IsPassOf log.now control.new }
+    ensures alone { OnOk result (IsAlone (view control.new)) }
 {
     let [second, third, fourth] = seats;
-    let second = take_seat(log, main, second, 2)?;
-    let third = take_seat(log, main, third, 3)?;
-    let fourth = take_seat(log, main, fourth, 4)?;
+    let second = take_seat(log, control, second, 2)?;
+    let third = take_seat(log, control, third, 3)?;
+    let fourth = take_seat(log, control, fourth, 4)?;
     Ok([second, third, fourth])
 }

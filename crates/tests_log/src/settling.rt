@@ -77,16 +77,16 @@ fn settled_around(
 fn settled_by_two(
     alloc: Global,
     log: &Log,
-    main: &mut Pass,
+    control: &mut Pass,
     second: &mut Pass,
 ) -> Result<[Settled; 4], Cause>
-    requires main { IsPassOf log.now main.old }
+    requires control { IsPassOf log.now control.old }
     requires second { IsPassOf log.now second.old }
     requires rows { log.now.key.rows.value ≡ [] }
 {
     let first = settled_by(log, second)?;
-    let (before, after) = settled_around(alloc, log, main, second)?;
-    let other = settled_by(log, main)?;
+    let (before, after) = settled_around(alloc, log, control, second)?;
+    let other = settled_by(log, control)?;
     Ok([first, before, after, other])
 }
 
@@ -111,10 +111,10 @@ const AROUND: [Settled; 4] = [
 
 #[test]
 fn stops_at_a_record_in_flight(rt: HostRuntime) -> Result<(), Fail> {
-    let (log, mut main) = empty_log(rt.alloc(), ONE_PAGE, FIRST)?;
-    let mut second = split_pass(&log, &mut main, 2);
-    let found = settled_by_two(rt.alloc(), &log, &mut main, &mut second);
-    drop((log, main, second));
+    let (log, mut control) = empty_log(rt.alloc(), ONE_PAGE, FIRST)?;
+    let mut second = split_pass(&log, &mut control, 2);
+    let found = settled_by_two(rt.alloc(), &log, &mut control, &mut second);
+    drop((log, control, second));
     expect(&rt, "settled", &found?, &AROUND);
     Ok(())
 }
@@ -127,17 +127,17 @@ const TO_THE_END: &[u64] = &[1, 16_383, 16_383, 19, 2, 16_383, 16_383];
 fn settled_at_the_end(
     alloc: Global,
     log: &Log,
-    main: &mut Pass,
+    control: &mut Pass,
     second: &mut Pass,
 ) -> Result<[Settled; 2], Cause>
-    requires main { IsPassOf log.now main.old }
+    requires control { IsPassOf log.now control.old }
     requires second { IsPassOf log.now second.old }
     requires rows { log.now.key.rows.value ≡ [] }
 {
     for &lines in TO_THE_END {
-        store_lines(alloc, log, main, lines)?;
+        store_lines(alloc, log, control, lines)?;
     }
-    let one_mark = settled_by(log, main)?;
+    let one_mark = settled_by(log, control)?;
     store_lines(alloc, log, second, 1)?;
     Ok([one_mark, settled_by(log, second)?])
 }
@@ -155,10 +155,10 @@ const AT_THE_END: [Settled; 2] = [
 
 #[test]
 fn stops_at_the_first_mark(rt: HostRuntime) -> Result<(), Fail> {
-    let (log, mut main) = empty_log(rt.alloc(), TWO_PAGES, FIRST)?;
-    let mut second = split_pass(&log, &mut main, 2);
-    let found = settled_at_the_end(rt.alloc(), &log, &mut main, &mut second);
-    drop((log, main, second));
+    let (log, mut control) = empty_log(rt.alloc(), TWO_PAGES, FIRST)?;
+    let mut second = split_pass(&log, &mut control, 2);
+    let found = settled_at_the_end(rt.alloc(), &log, &mut control, &mut second);
+    drop((log, control, second));
     expect(&rt, "settled", &found?, &AT_THE_END);
     Ok(())
 }

@@ -1,4 +1,4 @@
-//! Statements of one pass, one behind the other on an empty log of sixteen buckets, and what each of them answers.
+//! Statements of one pass, one after the other on an empty log of sixteen buckets, and what each of them answers.
 
 ghost use Rattle.std.specs.Prelude.{◌≡◌};
 ghost use Rattle.tests_log.specs.Registering.{IsWorking};
@@ -26,15 +26,15 @@ use std::test::Fail;
 fn told_store_word(
     alloc: Global,
     log: &Log,
-    main: &mut Pass,
+    control: &mut Pass,
     registrar: &Registrar,
     defs: &mut Defs,
     payload: &[u8],
 ) -> Result<String, Cause>
-    requires { IsWorking log.now main.old registrar.now defs.old }
-    ensures { IsWorking log.now main.new registrar.now defs.new }
+    requires { IsWorking log.now control.old registrar.now defs.old }
+    ensures { IsWorking log.now control.new registrar.now defs.new }
 {
-    match store_kept(alloc, log, main, registrar, defs, payload) {
+    match store_kept(alloc, log, control, registrar, defs, payload) {
         Ok(number) => Ok(format!(in alloc; "{number}")?),
         Err(refusal) => Ok(format!(in alloc; "{refusal}")?),
     }
@@ -44,16 +44,16 @@ fn told_store_word(
 fn told_long_store(
     alloc: Global,
     log: &Log,
-    main: &mut Pass,
+    control: &mut Pass,
     registrar: &Registrar,
     defs: &mut Defs,
     size: usize,
 ) -> Result<String, Cause>
-    requires { IsWorking log.now main.old registrar.now defs.old }
-    ensures { IsWorking log.now main.new registrar.now defs.new }
+    requires { IsWorking log.now control.old registrar.now defs.old }
+    ensures { IsWorking log.now control.new registrar.now defs.new }
 {
     let payload = long_payload(alloc, size)?;
-    let text = told_store_word(alloc, log, main, registrar, defs, payload.as_bytes());
+    let text = told_store_word(alloc, log, control, registrar, defs, payload.as_bytes());
     drop(payload);
     text
 }
@@ -72,15 +72,15 @@ fn long_payload(alloc: Global, size: usize) -> Result<String, Cause> {
 fn told_begin(
     alloc: Global,
     log: &Log,
-    main: &mut Pass,
+    control: &mut Pass,
     registrar: &mut Registrar,
     defs: &Defs,
     definition: (&str, &str),
 ) -> Result<String, Cause>
-    requires { IsWorking log.now main.old registrar.old defs.now }
-    ensures { IsWorking log.now main.new registrar.new defs.now }
+    requires { IsWorking log.now control.old registrar.old defs.now }
+    ensures { IsWorking log.now control.new registrar.new defs.now }
 {
-    match begin_between(alloc, log, main, registrar, defs, definition)? {
+    match begin_between(alloc, log, control, registrar, defs, definition)? {
         Ok(id) => Ok(format!(in alloc; "id {id}")?),
         Err(refusal) => Ok(format!(in alloc; "{refusal}")?),
     }
@@ -104,15 +104,15 @@ fn told_poll(alloc: Global, found: Poll) -> Result<String, Cause> {
 fn told_end(
     alloc: Global,
     log: &Log,
-    main: &mut Pass,
+    control: &mut Pass,
     registrar: &mut Registrar,
     defs: &Defs,
     name: &str,
 ) -> Result<String, Cause>
-    requires { IsWorking log.now main.old registrar.old defs.now }
-    ensures { IsWorking log.now main.new registrar.new defs.now }
+    requires { IsWorking log.now control.old registrar.old defs.now }
+    ensures { IsWorking log.now control.new registrar.new defs.now }
 {
-    match end_between(alloc, log, main, registrar, defs, name)? {
+    match end_between(alloc, log, control, registrar, defs, name)? {
         Ok((id, to)) => told_boundary(alloc, id, "to", to),
         Err(refusal) => Ok(format!(in alloc; "{refusal}")?),
     }
@@ -122,16 +122,16 @@ fn told_end(
 pub(crate) fn told_scanned(
     alloc: Global,
     log: &Log,
-    main: &mut Pass,
+    control: &mut Pass,
     registrar: &Registrar,
     defs: &mut Defs,
     question: Question,
 ) -> Result<String, Cause>
-    requires { IsWorking log.now main.old registrar.now defs.old }
-    ensures { IsWorking log.now main.new registrar.now defs.new }
+    requires { IsWorking log.now control.old registrar.now defs.old }
+    ensures { IsWorking log.now control.new registrar.now defs.new }
 {
     let ask = ask_of(alloc, question)?;
-    let text = told_scan(alloc, log, main, defs, &ask);
+    let text = told_scan(alloc, log, control, defs, &ask);
     drop(ask);
     text
 }
@@ -140,16 +140,16 @@ pub(crate) fn told_scanned(
 fn told_explained(
     alloc: Global,
     log: &Log,
-    main: &mut Pass,
+    control: &mut Pass,
     registrar: &Registrar,
     defs: &mut Defs,
     question: Question,
 ) -> Result<String, Cause>
-    requires { IsWorking log.now main.old registrar.now defs.old }
-    ensures { IsWorking log.now main.new registrar.now defs.new }
+    requires { IsWorking log.now control.old registrar.now defs.old }
+    ensures { IsWorking log.now control.new registrar.now defs.new }
 {
     let ask = ask_of(alloc, question)?;
-    let text = told_explain(alloc, log, main, defs, &ask);
+    let text = told_explain(alloc, log, control, defs, &ask);
     drop(ask);
     text
 }
@@ -158,22 +158,22 @@ fn told_explained(
 fn told(
     alloc: Global,
     log: &Log,
-    main: &mut Pass,
+    control: &mut Pass,
     registrar: &mut Registrar,
     defs: &mut Defs,
     statement: Statement,
 ) -> Result<String, Cause>
-    requires { IsWorking log.now main.old registrar.old defs.old }
-    ensures { IsWorking log.now main.new registrar.new defs.new }
+    requires { IsWorking log.now control.old registrar.old defs.old }
+    ensures { IsWorking log.now control.new registrar.new defs.new }
 {
     match statement {
-        Store(payload) => told_store_word(alloc, log, main, registrar, defs, payload),
-        StoreLong(size) => told_long_store(alloc, log, main, registrar, defs, size),
-        Begin(name, source) => told_begin(alloc, log, main, registrar, defs, (name, source)),
-        Look => told_poll(alloc, poll_between(log, main, registrar, defs)),
-        End(name) => told_end(alloc, log, main, registrar, defs, name),
-        Explain(question) => told_explained(alloc, log, main, registrar, defs, question),
-        Scan(question) => told_scanned(alloc, log, main, registrar, defs, question),
+        Store(payload) => told_store_word(alloc, log, control, registrar, defs, payload),
+        StoreLong(size) => told_long_store(alloc, log, control, registrar, defs, size),
+        Begin(name, source) => told_begin(alloc, log, control, registrar, defs, (name, source)),
+        Look => told_poll(alloc, poll_between(log, control, registrar, defs)),
+        End(name) => told_end(alloc, log, control, registrar, defs, name),
+        Explain(question) => told_explained(alloc, log, control, registrar, defs, question),
+        Scan(question) => told_scanned(alloc, log, control, registrar, defs, question),
     }
 }
 
@@ -182,16 +182,16 @@ fn expect_story<R: Abort>(
     rt: &R,
     alloc: Global,
     log: &Log,
-    main: &mut Pass,
+    control: &mut Pass,
     registrar: &mut Registrar,
     defs: &mut Defs,
     story: Story,
 ) -> Result<(), Cause>
-    requires { IsWorking log.now main.old registrar.old defs.old }
-    ensures { IsWorking log.now main.new registrar.new defs.new }
+    requires { IsWorking log.now control.old registrar.old defs.old }
+    ensures { IsWorking log.now control.new registrar.new defs.new }
 {
     for &(statement, want) in story {
-        let text = told(alloc, log, main, registrar, defs, statement)?;
+        let text = told(alloc, log, control, registrar, defs, statement)?;
         expect_text(rt, "a statement", text.as_str(), want);
     }
     Ok(())
@@ -199,11 +199,19 @@ fn expect_story<R: Abort>(
 
 /// Asserts them on a log of their own.
 fn expect_alone<R: Abort>(rt: &R, alloc: Global, story: Story) -> Result<(), Cause> {
-    let (log, mut main) = empty_log(alloc, ONE_PAGE, FIRST)?;
+    let (log, mut control) = empty_log(alloc, ONE_PAGE, FIRST)?;
     let mut registrar = Registrar::new(Catalog::new(alloc));
     let mut defs = Defs::new(alloc);
-    let done = expect_story(rt, alloc, &log, &mut main, &mut registrar, &mut defs, story);
-    drop((log, main, registrar, defs));
+    let done = expect_story(
+        rt,
+        alloc,
+        &log,
+        &mut control,
+        &mut registrar,
+        &mut defs,
+        story,
+    );
+    drop((log, control, registrar, defs));
     done
 }
 
@@ -237,16 +245,16 @@ const VALUES: u32 = 17;
 fn store_values(
     alloc: Global,
     log: &Log,
-    main: &mut Pass,
+    control: &mut Pass,
     registrar: &Registrar,
     defs: &mut Defs,
 ) -> Result<(), Cause>
-    requires { IsWorking log.now main.old registrar.now defs.old }
-    ensures { IsWorking log.now main.new registrar.now defs.new }
+    requires { IsWorking log.now control.old registrar.now defs.old }
+    ensures { IsWorking log.now control.new registrar.now defs.new }
 {
     for number in 0..VALUES {
         let payload = format!(in alloc; "{{\"v\":{number}}}")?;
-        if store_kept(alloc, log, main, registrar, defs, payload.as_bytes()) != Ok(number) {
+        if store_kept(alloc, log, control, registrar, defs, payload.as_bytes()) != Ok(number) {
             return Err(Cause("not stored"));
         }
     }
@@ -258,13 +266,13 @@ fn expect_values<R: Abort>(
     rt: &R,
     alloc: Global,
     log: &Log,
-    main: &mut Pass,
+    control: &mut Pass,
     registrar: &Registrar,
     defs: &mut Defs,
     named: (&'static str, u16),
 ) -> Result<(), Cause>
-    requires { IsWorking log.now main.old registrar.now defs.old }
-    ensures { IsWorking log.now main.new registrar.now defs.new }
+    requires { IsWorking log.now control.old registrar.now defs.old }
+    ensures { IsWorking log.now control.new registrar.now defs.new }
 {
     let (name, id) = named;
     for number in 0..VALUES {
@@ -275,7 +283,7 @@ fn expect_values<R: Abort>(
             to: None,
             how: How::Index,
         };
-        let text = told_scanned(alloc, log, main, registrar, defs, question)?;
+        let text = told_scanned(alloc, log, control, registrar, defs, question)?;
         let want = format!(in alloc; "0..17 index 0..17 by {id}; {number} {{\"v\":{number}}}")?;
         expect_text(rt, "a value", text.as_str(), want.as_str());
     }
@@ -286,16 +294,16 @@ fn expect_values<R: Abort>(
 fn register_named(
     alloc: Global,
     log: &Log,
-    main: &mut Pass,
+    control: &mut Pass,
     registrar: &mut Registrar,
     defs: &Defs,
 ) -> Result<(), Cause>
-    requires { IsWorking log.now main.old registrar.old defs.now }
-    ensures { IsWorking log.now main.new registrar.new defs.now }
+    requires { IsWorking log.now control.old registrar.old defs.now }
+    ensures { IsWorking log.now control.new registrar.new defs.now }
 {
     for &(name, source, _) in NAMED {
-        told_begin(alloc, log, main, registrar, defs, (name, source))?;
-        poll_between(log, main, registrar, defs);
+        told_begin(alloc, log, control, registrar, defs, (name, source))?;
+        poll_between(log, control, registrar, defs);
     }
     Ok(())
 }
@@ -305,16 +313,16 @@ fn expect_named<R: Abort>(
     rt: &R,
     alloc: Global,
     log: &Log,
-    main: &mut Pass,
+    control: &mut Pass,
     registrar: &mut Registrar,
     defs: &mut Defs,
 ) -> Result<(), Cause>
-    requires { IsWorking log.now main.old registrar.old defs.old }
+    requires { IsWorking log.now control.old registrar.old defs.old }
 {
-    register_named(alloc, log, main, registrar, defs)?;
-    store_values(alloc, log, main, registrar, defs)?;
+    register_named(alloc, log, control, registrar, defs)?;
+    store_values(alloc, log, control, registrar, defs)?;
     for &(name, _, id) in NAMED {
-        expect_values(rt, alloc, log, main, registrar, defs, (name, id))?;
+        expect_values(rt, alloc, log, control, registrar, defs, (name, id))?;
     }
     Ok(())
 }
@@ -322,10 +330,10 @@ fn expect_named<R: Abort>(
 #[test]
 fn values_that_share_a_bucket_are_told_apart(rt: HostRuntime) -> Result<(), Fail> {
     let alloc = rt.alloc();
-    let (log, mut main) = empty_log(alloc, ONE_PAGE, FIRST)?;
+    let (log, mut control) = empty_log(alloc, ONE_PAGE, FIRST)?;
     let mut registrar = Registrar::new(Catalog::new(alloc));
     let mut defs = Defs::new(alloc);
-    let done = expect_named(&rt, alloc, &log, &mut main, &mut registrar, &mut defs);
-    drop((log, main, registrar, defs));
+    let done = expect_named(&rt, alloc, &log, &mut control, &mut registrar, &mut defs);
+    drop((log, control, registrar, defs));
     Ok(done?)
 }

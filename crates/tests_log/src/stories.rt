@@ -40,7 +40,7 @@ pub(crate) const PUSHES: Question = Question {
     how: How::Auto,
 };
 
-/// Three records in front of a registration and three behind it.
+/// Three records before a registration and three after it.
 pub(crate) const BEHIND_RECORDS: Story = &[
     (Store(FIRST_PUSH), "0"),
     (Store(OPEN), "1"),
@@ -65,7 +65,7 @@ pub(crate) const BEHIND_RECORDS: Story = &[
     ),
 ];
 
-/// Three records before a definition ends, three behind its end, and three once it is registered again in other words.
+/// Three records before a definition ends, three past its end, and three once it is registered again in other words.
 pub(crate) const AGAIN: Story = &[
     (Begin("t", "take type"), "id 0"),
     (Look, "id 0 from 0"),
@@ -127,7 +127,7 @@ pub(crate) const WAITING: Story = &[
     (Look, "none waits"),
 ];
 
-/// A range and a way, for each of which the question is asked behind five numbers, where the index begins at the
+/// A range and a way, for each of which the question is asked after five numbers, where the index begins at the
 /// second one.
 pub(crate) const RANGES: Story = &[
     (Store(b"{\"type\":\"a\"}"), "0"),
@@ -212,7 +212,7 @@ const LETTER: Question = Question {
     how: How::Auto,
 };
 
-/// Ranges that begin at the end of a log, or past it, which is full behind two records: a mark stands there.
+/// Ranges that begin at the end of a log, or past it, which is full after two records: a mark stands there.
 pub(crate) const PAST_THE_END: Story = &[
     (Begin("t", "take type"), "id 0"),
     (Look, "id 0 from 0"),

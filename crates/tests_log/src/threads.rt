@@ -94,7 +94,7 @@ fn fill_log(alloc: Global, log: &Log, pass: &mut Pass) -> Result<usize, AllocErr
     stored
 }
 
-/// Stores records until the log is full. A want of memory counts as no record, so that it shows.
+/// Stores records until the log is full. That memory ran out counts as no record, so that it shows.
 fn fill_seat(alloc: Global, log: &Log, seat: &mut Seat)
     requires { IsOutOf log.now seat.old.pass }
     ensures { IsOutOf log.now seat.new.pass }
@@ -117,25 +117,25 @@ fn ingest_by_three<R: Threads + Sync>(
     rt: &R,
     alloc: Global,
     log: &Log,
-    main: &mut Pass,
+    control: &mut Pass,
     defs: &[ActiveDef],
 ) -> Result<[usize; 3], Cause>
-    requires pass { IsPassOf log.now main.old }
-    requires first { view main.old ≡ first_view log.now.key }
+    requires pass { IsPassOf log.now control.old }
+    requires first { view control.old ≡ first_view log.now.key }
     requires active { AreActive log.now.key.rows.value defs.now }
     requires defs { AreDefs defs.now }
-    ensures pass { IsPassOf log.now main.new }
-    ensures alone { OnOk result (IsAlone (view main.new)) }
+    ensures pass { IsPassOf log.now control.new }
+    ensures alone { OnOk result (IsAlone (view control.new)) }
 {
     let payload = payload_of(alloc, 1, 0)?;
-    let mut seats = split_three(log, main);
-    let first = claimed(alloc, log, main, defs, payload.as_bytes());
+    let mut seats = split_three(log, control);
+    let first = claimed(alloc, log, control, defs, payload.as_bytes());
     drop(payload);
     match first {
         Ok(first) => {
             fill_seats(rt, alloc, log, &mut seats);
-            publish_record(log, main, first);
-            take_three(log, main, seats)
+            publish_record(log, control, first);
+            take_three(log, control, seats)
         }
         Err(error) => {
             drop(seats);
@@ -183,18 +183,18 @@ fn fill_open<R: Threads + Sync>(
     rt: &R,
     alloc: Global,
     log: &Log,
-    main: &mut Pass,
+    control: &mut Pass,
     defs: &[ActiveDef],
 ) -> Result<Seen, Cause>
-    requires pass { IsPassOf log.now main.old }
-    requires first { view main.old ≡ first_view log.now.key }
+    requires pass { IsPassOf log.now control.old }
+    requires first { view control.old ≡ first_view log.now.key }
     requires active { AreActive log.now.key.rows.value defs.now }
     requires defs { AreDefs defs.now }
-    ensures pass { IsPassOf log.now main.new }
-    ensures alone { OnOk result (IsAlone (view main.new)) }
+    ensures pass { IsPassOf log.now control.new }
+    ensures alone { OnOk result (IsAlone (view control.new)) }
 {
-    let stored = ingest_by_three(rt, alloc, log, main, defs)?;
-    let (nodes, settled) = walks(alloc, log, main)?;
+    let stored = ingest_by_three(rt, alloc, log, control, defs)?;
+    let (nodes, settled) = walks(alloc, log, control)?;
     Ok(Seen {
         stored,
         nodes,
@@ -203,11 +203,11 @@ fn fill_open<R: Threads + Sync>(
 }
 
 /// Closes a log that was filled.
-fn close_filled(alloc: Global, log: Log, main: Pass, seen: Seen) -> Result<Left, Cause>
-    requires pass { IsPassOf log main }
-    requires alone { IsAlone (view main) }
+fn close_filled(alloc: Global, log: Log, control: Pass, seen: Seen) -> Result<Left, Cause>
+    requires pass { IsPassOf log control }
+    requires alone { IsAlone (view control) }
 {
-    match closed(alloc, log, main) {
+    match closed(alloc, log, control) {
         Ok(entries) => Ok(Left { seen, entries }),
         Err(fail) => {
             drop(seen);
@@ -227,11 +227,11 @@ fn filled<R: Threads + Sync>(
     requires active { AreActive start.now.catalog defs.now }
     requires defs { AreDefs defs.now }
 {
-    let (log, mut main) = open_log(alloc, THREE_PAGES, start)?;
-    match fill_open(rt, alloc, &log, &mut main, defs) {
-        Ok(seen) => close_filled(alloc, log, main, seen),
+    let (log, mut control) = open_log(alloc, THREE_PAGES, start)?;
+    match fill_open(rt, alloc, &log, &mut control, defs) {
+        Ok(seen) => close_filled(alloc, log, control, seen),
         Err(fail) => {
-            drop((log, main));
+            drop((log, control));
             Err(fail)
         }
     }

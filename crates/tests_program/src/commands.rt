@@ -17,7 +17,7 @@ const RUN: &str = "run|store|script|--pages|1|";
 /// The words of a selection.
 const SELECT: &str = "select|take type|\"a\"|events|";
 
-/// The files: three records, lines of which one is no record, and rows behind a header.
+/// The files: three records, lines of which one is no record, and rows after a header.
 const FILES: &[(&str, &str)] = &[
     (
         "a",

@@ -20,7 +20,7 @@ const FILES: &[(&str, &str)] = &[
     ("c", "{\"type\":\"Push\",\"n\":6}\n"),
 ];
 
-/// Two lanes, behind a registration and in front of a scan.
+/// Two lanes, after a registration and before a scan.
 const TWO: &str = "register t as take type\n\
 lanes\n\
 lane\n\
@@ -48,7 +48,7 @@ scan t = \"Push\" in 0..2 found 2 open none\n\
 0 21 {\"type\":\"Push\",\"n\":6}\n\
 closed 2\n";
 
-/// The first lane waits in front of its first statement behind the registration until the second one has claimed, and
+/// The first lane waits before its first statement after the registration until the second one has claimed, and
 /// the second one waits there until the first one has scanned.
 const TWO_HOLDS: &[Hold] = &[
     Hold {

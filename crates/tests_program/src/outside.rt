@@ -54,7 +54,7 @@ fn numbers_of(alloc: Global, number: Option<u64>) -> Result<Numbers64, AllocErro
     Ok(numbers)
 }
 
-/// The words of a line, each with a bar behind it.
+/// The words of a line, each with a bar after it.
 pub(crate) fn words_of(alloc: Global, line: &str) -> Result<Texts, AllocError> {
     let mut words = Texts::new(alloc);
     for word in line.split_terminator('|') {

@@ -55,7 +55,7 @@ scan t = \"Push\" in 0..3 found 2 open none\n\
 end\n\
 closed 3\n";
 
-/// A definition whose index begins behind the first three records.
+/// A definition whose index begins after the first three records.
 const BETWEEN: &str = "ingest json a\nregister t as take type\ningest json a\n\
 explain t = \"Push\"\nscan t = \"Push\"\n";
 

@@ -80,7 +80,7 @@ module _ (images : List ℕ → Type 0) (log : Log) (control : Control) (h : IsF
 
   -- what the pass learns leaves all that is asked of it
   pub flushing_on : (defs : Defs) → CanIngest log pass defs → after.lane ≡ before.lane → after.rows ≡ before.rows
-      → after.main_words ≡ before.main_words → Learns before after
+      → after.control_words ≡ before.control_words → Learns before after
       → IsFlushing images log (record control { pass = pass; defs = defs })
   flushing_on defs ready lane listed words learns = record {
     ready = ready;
@@ -111,7 +111,7 @@ module _ (images : List ℕ → Type 0) (log : Log) (control : Control) (h : IsF
       let lane = ap (λ (z : View). z.lane) left in
       let learns = learns_same before after (ap (λ (z : View). z.about) left) (ap (λ (z : View). z.learned) left) in
       flushing_on control.defs (ready_on of lane (ap (λ (z : View). z.epoch) left) learns) lane (ap (λ (z : View). z.rows) left)
-      (ap (λ (z : View). z.main_words) left) learns
+      (ap (λ (z : View). z.control_words) left) learns
 
   -- a commit is the last one from then on
   pub committed_on : (images' : List ℕ → Type 0) (flusher : Flusher) (n : ℕ) → IsPassOf log pass → Reads before after
@@ -125,7 +125,7 @@ module _ (images : List ℕ → Type 0) (log : Log) (control : Control) (h : IsF
         ready = ready_on of lane (ap (λ (z : View). z.epoch) frame) reads.learns;
         live = committed.live;
         held = holds_on before after control.start.catalog lane (ap (λ (z : View). z.rows) frame)
-            (ap (λ (z : View). z.main_words) frame) h.held;
+            (ap (λ (z : View). z.control_words) frame) h.held;
         commit = commit_of flusher log.shape control.start.catalog;
         entries = h.entries ++ more.0;
         carries = more.2;

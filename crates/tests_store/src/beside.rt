@@ -107,27 +107,27 @@ fn commit_beside<R: Threads + Sync>(
 }
 
 /// The pass of a lane, which the control pass gives out.
-fn seat_of(log: &Log, main: &mut Pass, lane: u8) -> Seat
-    requires pass { IsPassOf log.now main.old }
-    requires can { CanSplitPass (view main.old) lane }
-    ensures pass { IsPassOf log.now main.new }
-    ensures left { view main.new ≡ split_left lane (view main.old) }
+fn seat_of(log: &Log, control: &mut Pass, lane: u8) -> Seat
+    requires pass { IsPassOf log.now control.old }
+    requires can { CanSplitPass (view control.old) lane }
+    ensures pass { IsPassOf log.now control.new }
+    ensures left { view control.new ≡ split_left lane (view control.old) }
     ensures seat { IsOutOf log.now result.pass }
 {
-    let pass = split_pass(log, main, lane);
+    let pass = split_pass(log, control, lane);
     Seat { pass, stored: 0 }
 }
 
 /// The passes of lanes 2 and 3.
-fn split_two(log: &Log, main: &mut Pass) -> [Seat; 2]
-    requires pass { IsPassOf log.now main.old }
-    requires first { view main.old ≡ first_view log.now.key }
-    ensures pass { IsPassOf log.now main.new }
-    ensures left { view main.new ≡ split_left 3 (split_left 2 (view main.old)) }
+fn split_two(log: &Log, control: &mut Pass) -> [Seat; 2]
+    requires pass { IsPassOf log.now control.old }
+    requires first { view control.old ≡ first_view log.now.key }
+    ensures pass { IsPassOf log.now control.new }
+    ensures left { view control.new ≡ split_left 3 (split_left 2 (view control.old)) }
     ensures seats { AreOut log.now result }
 {
-    let second = seat_of(log, main, 2);
-    let third = seat_of(log, main, 3);
+    let second = seat_of(log, control, 2);
+    let third = seat_of(log, control, 3);
     [second, third]
 }
 

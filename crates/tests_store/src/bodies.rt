@@ -63,11 +63,11 @@ const CHANGES: &[((usize, u8), &str)] = &[
     ),
     ((67, 0x10), "none"),
     ((72, 9), "none"),
-    // the name: none, a shorter one with a byte behind, and no text
+    // the name: none, a shorter one with a byte after, and no text
     ((80, 0), "none"),
     ((80, 3), "none"),
     ((82, 0xff), "none"),
-    // the text: no definition, a byte behind it, and the end of the row
+    // the text: no definition, a byte after it, and the end of the row
     ((128, b'T'), "none"),
     ((137, b' '), "none"),
     ((383, 1), "none"),

@@ -137,7 +137,7 @@ fn story(alloc: Global, disk: &mut MemoryDisk) -> Result<String, AllocError> {
     told
 }
 
-/// Puts what each of eight picks leaves behind a text.
+/// Puts what each of eight picks leaves after a text.
 fn put_states(alloc: Global, told: &mut String, disk: &MemoryDisk) -> Result<(), AllocError> {
     told.push(' ')?;
     for pick in 0..8 {

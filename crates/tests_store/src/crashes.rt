@@ -1,4 +1,4 @@
-//! What a crash leaves of a disk in memory, by the choice that `pick` makes for each write behind the last sync.
+//! What a crash leaves of a disk in memory, by the choice that `pick` makes for each write after the last sync.
 
 use crate::told::{expect_all, numbers, put_bytes};
 use fish_disk::{Disk, MemoryDisk};

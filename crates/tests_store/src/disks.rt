@@ -6,7 +6,7 @@ use fish_value::Bytes;
 use std::alloc::{AllocError, Global};
 use std::test::Fail;
 
-/// Puts what a read of three bytes at a place gives behind a text.
+/// Puts what a read of three bytes at a place gives after a text.
 fn put_read<D: Disk>(told: &mut String, disk: &mut D, at: u64) -> Result<(), AllocError> {
     let mut buf = *b"...";
     match disk.read(at, &mut buf) {
@@ -16,7 +16,7 @@ fn put_read<D: Disk>(told: &mut String, disk: &mut D, at: u64) -> Result<(), All
     told.push_str(" ")
 }
 
-/// Puts what a sync and the length answer behind a text.
+/// Puts what a sync and the length answer after a text.
 fn put_length<D: Disk>(alloc: Global, told: &mut String, disk: &mut D) -> Result<(), AllocError> {
     told.push_str(if disk.sync().is_ok() {
         "synced "
@@ -35,7 +35,7 @@ fn memory(alloc: Global, fail: u64) -> Result<MemoryDisk, AllocError> {
     Ok(MemoryDisk::new(alloc, bytes, fails))
 }
 
-/// What reads at three places, a write of `xyz` over the end and behind it, a read, a sync and the length answer.
+/// What reads at three places, a write of `xyz` over the end and after it, a read, a sync and the length answer.
 fn calls_told(alloc: Global, disk: &mut MemoryDisk) -> Result<String, AllocError> {
     let mut told = String::new(alloc);
     for at in [0, 2, 5] {
@@ -76,7 +76,7 @@ fn memory_disks(rt: HostRuntime) -> Result<(), Fail> {
 }
 
 /// A place, a piece, and the bytes that a disk with room for four has after this write and those before. The
-/// fourth doesn't fit, so that the disk tells no more; the last is behind its end.
+/// fourth doesn't fit, so that the disk tells no more; the last is past its end.
 const WRITES: &[(u64, &[u8])] = &[
     (0, b"ab"),
     (1, b"xy"),

@@ -53,12 +53,12 @@ const CASES: &[(Case, &str)] = &[
     ((3, 6, None, 0, 0), "heads 5:17 6:9 starts 0 at 0"),
     ((2, 4, None, 0, 0), "heads 5:1 6:9 starts 0 at 0"),
     ((0, 0, None, 0, 0), "heads starts"),
-    // fewer entries than lines, more entries than there are, and lines that end within the last or behind it
+    // fewer entries than lines, more entries than there are, and lines that end within the last or after it
     ((2, 6, None, 0, 0), "damaged behind 2 entries"),
     ((4, 6, None, 0, 0), "damaged behind 3 entries"),
     ((3, 5, None, 0, 0), "damaged behind 2 entries"),
     ((3, 7, None, 0, 0), "damaged behind 3 entries"),
-    // a key entry is wanted from the second record on, and behind the last
+    // a key entry is wanted from the second record on, and after the last
     ((3, 6, Some(1), 0, 0), "damaged behind 1 entries"),
     ((3, 6, Some(3), 0, 0), "heads 5:17 6:9 starts 0 at 0"),
     // the value of a key, the payload, a previous node, the record's number, and padding

@@ -10,7 +10,7 @@ use fish_value::Bytes;
 use std::alloc::{AllocError, Global};
 use std::test::Fail;
 
-/// From one gate to the other, and behind that to the first body.
+/// From one gate to the other, and after that to the first body.
 const GATE_STEP: usize = 4_096;
 
 /// A slot: its gate, its turn, and how many entries and lines it counts.

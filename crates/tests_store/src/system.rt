@@ -26,7 +26,7 @@ fn written(rt: &HostRuntime, disk: &mut FileDisk<HostRuntime>) -> Result<String,
     format!(in rt.alloc(); "{empty:?} {first:?} {second:?} {synced:?} {length:?} ")
 }
 
-/// What a read of four bytes from the third on answers, and one behind the end.
+/// What a read of four bytes from the third on answers, and one past the end.
 fn put_read(
     rt: &HostRuntime,
     told: &mut String,
@@ -47,7 +47,7 @@ fn told_first(rt: &HostRuntime, path: &Text) -> Result<String, AllocError> {
     told
 }
 
-/// Puts behind it what a second disk there answers, and how often that has failed.
+/// Puts after it what a second disk there answers, and how often that has failed.
 fn put_second(rt: &HostRuntime, told: &mut String, path: &Text) -> Result<(), AllocError> {
     let mut disk = FileDisk::at(*rt, path.again(rt.alloc())?);
     let done = put_read(rt, told, &mut disk);
@@ -71,7 +71,7 @@ fn keeps_bytes(rt: HostRuntime) -> Result<(), Fail> {
     Ok(())
 }
 
-/// Puts behind it what the length of a new disk at a path answers.
+/// Puts after it what the length of a new disk at a path answers.
 fn put_length(rt: &HostRuntime, told: &mut String, path: &Text) -> Result<(), AllocError> {
     let mut disk = FileDisk::at(*rt, path.again(rt.alloc())?);
     let length = disk.length();
@@ -79,7 +79,7 @@ fn put_length(rt: &HostRuntime, told: &mut String, path: &Text) -> Result<(), Al
     write!(told, "{length:?} ")
 }
 
-/// Puts behind it what a disk's length answers, and before that, what one of a second disk there does.
+/// Puts after it what a disk's length answers, and before that, what one of a second disk there does.
 fn put_both(rt: &HostRuntime, told: &mut String, path: &Text) -> Result<(), AllocError> {
     let mut disk = FileDisk::at(*rt, path.again(rt.alloc())?);
     let length = disk.length();

@@ -35,7 +35,7 @@ pub fn numbers(alloc: Global, all: &[u64]) -> Result<Numbers64, AllocError> {
     Ok(numbers)
 }
 
-/// Puts bytes that are letters behind a text.
+/// Puts bytes that are letters after a text.
 pub fn put_bytes(told: &mut String, bytes: &[u8]) -> Result<(), AllocError> {
     for byte in bytes {
         told.push(char::from(*byte))?;

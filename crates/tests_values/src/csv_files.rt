@@ -5,7 +5,7 @@ use fish_csv::{CsvRows, rows};
 use std::alloc::{AllocError, Global};
 use std::test::Fail;
 
-/// Files, whether they have a header, and the payloads, each with a `|` behind it, and how many rows
+/// Files, whether they have a header, and the payloads, each with a `|` after it, and how many rows
 /// are refused.
 const FILES: &[((&str, bool), &str)] = &[
     (("h1,h2\r\n1,2\n", true), "1,2| 0"),
@@ -42,7 +42,7 @@ const BYTES: &[((&[u8], bool), &str)] = &[
     ((b"\"\xc3\"\xa9,1\n", false), "é,1| 0"),
 ];
 
-/// The payloads of a file, each with a `|` behind it, and how many rows are refused; or why the file
+/// The payloads of a file, each with a `|` after it, and how many rows are refused; or why the file
 /// is.
 fn told(alloc: Global, file: &[u8], header: bool) -> Result<String, AllocError> {
     match rows(alloc, file, header) {

@@ -111,7 +111,7 @@ fn fields(rt: HostRuntime) -> Result<(), Fail> {
     Ok(())
 }
 
-/// The bytes of a row whose second field begins behind two, and what is told of that field.
+/// The bytes of a row whose second field begins after two, and what is told of that field.
 const LONG: &[(usize, &str)] = &[
     (524_288, "524291 bytes"),
     (524_289, "a record has at most 524288 bytes"),

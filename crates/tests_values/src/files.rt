@@ -6,7 +6,7 @@ use fish_value::Form;
 use std::alloc::{AllocError, Global};
 use std::test::Fail;
 
-/// Forms, headers, files, and the payloads with a bar behind each and how many lines or rows are refused.
+/// Forms, headers, files, and the payloads with a bar after each and how many lines or rows are refused.
 const FILES: &[((Form, bool, &str), &str)] = &[
     (
         (
@@ -40,7 +40,7 @@ const FILES: &[((Form, bool, &str), &str)] = &[
     ((Form::Csv, false, "x\n\u{feff}\ny\n"), "x|y| 1"),
 ];
 
-/// The same of files that are no texts. A mark in front of a later line is no JSON either.
+/// The same of files that are no texts. A mark before a later line is no JSON either.
 const BYTES: &[((Form, bool, &[u8]), &str)] = &[
     (
         (
@@ -53,7 +53,7 @@ const BYTES: &[((Form, bool, &[u8]), &str)] = &[
     ((Form::Csv, false, b"a,\xff\nb\n"), "b| 1"),
 ];
 
-/// The payloads of a file with a bar behind each and how many lines or rows are refused, or why the file
+/// The payloads of a file with a bar after each and how many lines or rows are refused, or why the file
 /// is.
 fn told(alloc: Global, form: Form, header: bool, b: &[u8]) -> Result<String, AllocError> {
     match records(alloc, form, header, b) {

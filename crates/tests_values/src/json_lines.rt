@@ -139,7 +139,7 @@ fn fields(rt: HostRuntime) -> Result<(), Fail> {
     Ok(())
 }
 
-/// Arrays in an object and bytes of the line with the blanks behind it, and what is wanted.
+/// Arrays in an object and bytes of the line with the blanks after it, and what is wanted.
 const SIZES: &[((usize, usize), &str)] = &[
     ((125, 0), "other"),
     ((126, 0), "other"),
@@ -148,7 +148,7 @@ const SIZES: &[((usize, usize), &str)] = &[
     ((1, 524_289), TOO_LONG),
 ];
 
-/// An object whose one member is that many arrays, each in the other, with blanks behind it.
+/// An object whose one member is that many arrays, each in the other, with blanks after it.
 fn nested(alloc: Global, arrays: usize, len: usize) -> Result<String, AllocError> {
     let mut line = String::new(alloc);
     line.push_str("{\"a\":")?;

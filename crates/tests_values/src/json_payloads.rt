@@ -83,7 +83,7 @@ const VALUES: &[&str] = &[
 /// Blanks, mostly none.
 const BLANKS: &[&str] = &["", "", "", "", " ", "\t", "\r", "\n "];
 
-/// How a value is put into a larger one: what stands before it and behind it.
+/// How a value is put into a larger one: what stands before it and after it.
 const ROUND: &[(&str, &str)] = &[
     ("[", "]"),
     ("[1,", "]"),
@@ -95,7 +95,7 @@ const ROUND: &[(&str, &str)] = &[
     ("{\"a\":{\"a\":", "}}"),
 ];
 
-/// Puts a piece behind the others, between blanks.
+/// Puts a piece after the others, between blanks.
 fn put(seeded: &mut Seeded, text: &mut String, piece: &str) -> Result<(), AllocError> {
     text.push_str(pick(seeded, BLANKS))?;
     text.push_str(piece)?;

@@ -6,14 +6,14 @@ use fish_value::Bytes;
 use std::alloc::{AllocError, Global};
 use std::test::Fail;
 
-/// A file, and its lines with a bar behind each, with a character of that number for each byte.
+/// A file, and its lines with a bar after each, with a character of that number for each byte.
 const FILES: &[(&str, &str)] = &[
     (
         "{\"type\":\"Push\",\"n\":1}\n{\"type\":\"Open\",\"n\":2}\n{\"type\":\"Push\",\"n\":3}\n",
         "{\"type\":\"Push\",\"n\":1}|{\"type\":\"Open\",\"n\":2}|{\"type\":\"Push\",\"n\":3}|",
     ),
     ("", ""),
-    // One CR is dropped in front of an LF and at the end, and no other.
+    // One CR is dropped before an LF and at the end, and no other.
     ("a\r\nb\r\r\nc\rd\ne\r", "a|b\r|c\rd|e|"),
     // Blank lines count nowhere, with an LF or at the end.
     ("\n \t\r\r\n\r\na\n\n\r \r", "a|"),
@@ -44,7 +44,7 @@ fn lines_in_two(alloc: Global, b: &[u8], at: usize) -> Result<LineList, AllocErr
     lines_of_pieces(alloc, pieces.as_slice())
 }
 
-/// Lines with a bar behind each. One that is too long is `*`.
+/// Lines with a bar after each. One that is too long is `*`.
 fn joined(alloc: Global, lines: &[Line]) -> Result<String, AllocError> {
     let mut told = String::new(alloc);
     for line in lines {
@@ -94,7 +94,7 @@ fn lines_of_every_cutting(rt: HostRuntime) -> Result<(), Fail> {
     Ok(())
 }
 
-/// A byte, how often it stands in a file, what stands behind, whole lines and lines too long.
+/// A byte, how often it stands in a file, what follows, whole lines and lines too long.
 const LONG: &[((u8, usize, &str), &str)] = &[
     ((b'x', 524_288, ""), "1 0"),
     ((b'x', 524_288, "\r\nx"), "2 0"),

@@ -18,7 +18,7 @@ fn put_bytes(alloc: Global, told: &mut String, bytes: &Bytes) -> Result<(), Allo
     told.push_str(if bytes.is_empty() { "empty; " } else { "" })
 }
 
-/// Puts a second copy of them behind a text.
+/// Puts a second copy of them after a text.
 fn put_again(alloc: Global, told: &mut String, bytes: &Bytes) -> Result<(), AllocError> {
     let again = bytes.again(alloc)?;
     put_bytes(alloc, told, &again)
@@ -78,7 +78,7 @@ fn path_of(alloc: Global, first: &str, more: &[&str]) -> Result<Path, AllocError
     Ok(path)
 }
 
-/// The names of a path, each with a bar behind it, and whether the first is a text.
+/// The names of a path, each with a bar after it, and whether the first is a text.
 fn names_of(alloc: Global, path: &Path, text: &Text) -> Result<String, AllocError> {
     let (first, more) = path.parts();
     let mut told = format!(in alloc; "{} {}|", first.is(text), first.as_str())?;

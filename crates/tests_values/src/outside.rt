@@ -39,13 +39,13 @@ fn host_failing(alloc: Global, call: u64) -> Result<MemoryHost, AllocError> {
     Ok(MemoryHost::new(files(alloc)?, fails))
 }
 
-/// Puts behind a text how many calls there were and how many faults.
+/// Puts after a text how many calls there were and how many faults.
 fn put_plan(alloc: Global, told: &mut String, plan: &FaultPlan) -> Result<(), AllocError> {
     let text = format!(in alloc; "{} calls, {} faults", plan.calls, plan.faults)?;
     told.push_str(text.as_str())
 }
 
-/// Puts bytes behind a text.
+/// Puts bytes after a text.
 fn put_bytes(told: &mut String, bytes: &[u8]) -> Result<(), AllocError> {
     for byte in bytes {
         told.push(char::from(*byte))?;

@@ -25,7 +25,7 @@ fn value_of(alloc: Global, string: &Text) -> Result<String, AllocError> {
     told
 }
 
-/// The JSON string of a text behind `text `, whose value is that text.
+/// The JSON string of a text after `text `, whose value is that text.
 fn string_for(alloc: Global, told: &&str) -> Result<String, AllocError> {
     let text = Text::copy_of(alloc, told.strip_prefix("text ").unwrap_or(""))?;
     let string = json_text(alloc, &text)?;

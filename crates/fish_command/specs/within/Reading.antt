@@ -31,12 +31,12 @@ abbrev pub with_option : Word → Word → Found → Option Found
 with_option name value f =
     option_map (λ o. record f { options = o }) (option_and_then (with_choice f.options) (choice_of name value))
 
--- plain words behind `--`
+-- plain words after `--`
 abbrev pub with_words : List Word → Found → Option Found
 with_words [] f = Some f
 with_words (word ∷ more) f = if is_mark word then None else with_words more (with_word word f)
 
--- what stands behind `--`: at least a plain word
+-- what follows `--`: at least a plain word
 abbrev pub with_behind : List Word → Found → Option Found
 with_behind [] f = None
 with_behind (word ∷ more) f = with_words (word ∷ more) f
@@ -46,13 +46,13 @@ pub data Place : Type 0 where
   at_part : Found → Place
   at_value : Word → Found → Place
 
--- an option, and how the words behind it are read
+-- an option, and how the words after it are read
 abbrev pub read_option : Option (Word × Option Word) → Found → (Place → Option Found) → Option Found
 read_option None f next = None
 read_option (Some (name, None)) f next = next (at_value name f)
 read_option (Some (name, Some v)) f next = option_and_then (λ g. next (at_part g)) (with_option name v f)
 
--- a part, with the words behind it and how they are read
+-- a part, with the words after it and how they are read
 abbrev pub read_part : Word → List Word → Found → (Place → Option Found) → Option Found
 read_part word more f next = if is_mark word then with_behind more f else
     (if starts_with_minus word then read_option (long_of word) f next
@@ -71,7 +71,7 @@ select_of (def ∷ value ∷ file ∷ []) o = if is_some o.pages || is_some o.bi
     Some (select def value file (unwrap_or o.layout json_lines))
 select_of _ o = None
 
--- a line as the parts of `run`, behind the store
+-- a line as the parts of `run`, after the store
 abbrev pub run_of : Word → List Word → Options → Option Request
 run_of store (script ∷ []) o = if is_some o.layout then None else Some (run store script o.pages o.bits)
 run_of store _ o = None
@@ -82,17 +82,17 @@ sample_of (word ∷ []) o = if is_some o.layout || (is_some o.pages || is_some o
     option_map sample (within 0 most_records (int_of word))
 sample_of _ o = None
 
--- the words behind `select`
+-- the words after `select`
 abbrev pub select_in : List Word → Option Request
 select_in behind = option_and_then (λ f. select_of f.plain f.options) (read behind (at_part nothing_found))
 
--- the words behind `run`
+-- the words after `run`
 abbrev pub run_in : List Word → Option Request
 run_in [] = None
 run_in (store ∷ behind) = if starts_with_minus store then None else
     option_and_then (λ f. run_of store f.plain f.options) (read behind (at_part nothing_found))
 
--- the words behind `sample`
+-- the words after `sample`
 abbrev pub sample_in : List Word → Option Request
 sample_in behind = option_and_then (λ f. sample_of f.plain f.options) (read behind (at_part nothing_found))
 
@@ -109,7 +109,7 @@ has_one_minus [] = false
 has_one_minus (a ∷ []) = a == 45
 has_one_minus (a ∷ b ∷ rest) = a == 45 && not (b == 45)
 
--- words may be behind `--`: there are some, and none is `--`
+-- words may be after `--`: there are some, and none is `--`
 abbrev pub are_placed_after : List Word → Bool
 are_placed_after [] = false
 are_placed_after (word ∷ more) = list_all (λ w. not (is_mark w)) (word ∷ more)

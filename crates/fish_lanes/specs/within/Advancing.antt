@@ -18,7 +18,7 @@ use Rattle.fish_lanes.specs.Spans.{IsAnswer, Span, answers, behind, made_by}
 use Rattle.fish_lanes.specs.within.Spans.{IsWithinSpan}
 use Rattle.fish_lanes.specs.Telling.{SaysItem, content_of, count_of}
 use Rattle.fish_lanes.specs.declared.lane.Lane.{Lane}
-use Rattle.fish_lanes.specs.declared.lane.Seated.{Seated}
+use Rattle.fish_lanes.specs.declared.lane.LanePass.{LanePass}
 use Rattle.fish_lanes.specs.declared.statements.Stop.{Stop}
 use Rattle.fish_lanes.specs.declared.work.LaneFault.{LaneFault}
 use Rattle.fish_lanes.specs.declared.work.LaneFault.TheVariants as fault
@@ -30,7 +30,7 @@ use Rattle.fish_rule.specs.Views.{AllOf, Among}
 use Rattle.fish_rule.specs.declared.table.Log.{Log}
 use Rattle.fish_rule.specs.declared.view.Key.{Key}
 use Rattle.fish_rule.specs.declared.view.View.{View}
-use Rattle.fish_whole.specs.Whole.{SureUpTo, Whole}
+use Rattle.fish_whole.specs.Whole.{MustHoldUpTo, Whole}
 
 -- all that items show
 abbrev pub shown_in : List Item → List Shown
@@ -53,12 +53,12 @@ SaysAll z s before shown rows (w ∷ works) (x ∷ items) = (mine : List LaneRow
     × SaysItem z s before shown w x
     × SaysAll z (behind x s) (before ++ mine) (shown ++ shown_by x) rest works items
 
--- the statements so far are told by as many items, behind each such past
+-- the statements so far are told by as many items, after each such past
 pub record HasAnswered (Past : Whole → Type 0) (v u : View) (works : List Work) (items : List Item) : Type 0 where
   pub rows : List LaneRow
   pub gains : Gains v u rows
   pub tells : (past : Whole) → Past past → (s : Span) → IsWithinSpan v u s → s.full ≡ v.shut
-      → SureUpTo past u s.to (λ w. SaysAll w s [] [] rows works items)
+      → MustHoldUpTo past u s.to (λ w. SaysAll w s [] [] rows works items)
   pub shown : (n : ℕ) (s : Shown) → Among s (shown_in items) → IsShown n s → u.about.number ≤ n → IsPublished u n
   pub settles : (m : ℕ) → Among (settled m) (shown_in items) → m ≤ u.learned.settled
   pub size : length items ≡ length works
@@ -66,7 +66,7 @@ pub record HasAnswered (Past : Whole → Type 0) (v u : View) (works : List Work
   pub versions : v.learned.version + made items ≤ u.learned.version
   pub shuts : SaysShut v u items
 
--- so many items answer the statements so far, and the definitions are the same behind them
+-- so many items answer the statements so far, and the definitions are the same after them
 pub record HasSaid (v u : View) (works : List Work) (items : List Item) : Type 0 where
   pub size : length (answers items) ≡ length works
   pub same : (r : Registry) → after_all r items ≡ r
@@ -96,7 +96,7 @@ abbrev pub GoesOnBy : View → View → List Work → List Item → List Item �
 GoesOnBy v u works old new why = (start : View) (content : Option (List ℕ)) (k : Key) (cold : Cold) (later : Option (List ℕ))
     → IsSoFar (WasHere content k cold later) start v works old → IsOn (WasHere content k cold later) start u works new why
 
--- the same behind such pasts alone
+-- the same after such pasts alone
 abbrev pub FinishesBy : (Whole → Type 0) → View → View → List Work → List Item → List Item → LaneFault → Type 0
 FinishesBy Past v u works old new why = (start : View) → IsSoFar Past start v works old → IsOn Past start u works new why
 
@@ -105,15 +105,15 @@ abbrev pub HasNext : View → View → Work → List Item → List Item → Resu
 HasNext v u w old new (Ok done) = (x : Item) × (new ≡ old ++ x ∷ []) × IsItem anywhere v u w x
 HasNext v u w old new (Err why) = (new ≡ old) × IsStopped v u w why
 
--- a lane stops without its disk for want of memory alone
+-- a lane stops without its disk where memory runs out, and only then
 abbrev pub IsShort : LaneFault → Type 0
 IsShort why = (why ≡ fault.None) ⊎ (why ≡ fault.Memory)
 
 -- the lane has its pass, with the same number and statements, and went on, whatever its disk tells
 pub record HasGone (log : Log) (old new : Lane) : Type 0 where
-  pub before : Seated
+  pub before : LanePass
   pub before_is : old.seat ≡ Some before
-  pub after : Seated
+  pub after : LanePass
   pub after_is : new.seat ≡ Some after
   pub can : CanBegin log after.pass
   pub works : new.works ≡ old.works
@@ -126,11 +126,11 @@ pub record HasGone (log : Log) (old new : Lane) : Type 0 where
   pub answers : AllOf IsAnswer old.items → AllOf IsAnswer new.items
 
 -- it has no statement without an item, but for those that it hands back since it found the log full, unless it was so when the block
--- began; or it stopped at a fault; behind each such past, whichever pass had begun it
+-- began; or it stopped at a fault; after each such past, whichever pass had begun it
 pub record HasFinished (Past : Whole → Type 0) (full : Bool) (log : Log) (old new : Lane) : Type 0 where
-  pub before : Seated
+  pub before : LanePass
   pub before_is : old.seat ≡ Some before
-  pub after : Seated
+  pub after : LanePass
   pub after_is : new.seat ≡ Some after
   pub can : CanBegin log after.pass
   pub works : old.works ≡ new.works ++ new.left

@@ -12,7 +12,7 @@ use Rattle.fish_lanes.specs.within.Running.{CanBegin, HasDone, IsReady}
 use Rattle.fish_lanes.specs.Spans.{Span}
 use Rattle.fish_lanes.specs.Telling.{SaysLane}
 use Rattle.fish_lanes.specs.declared.lane.Lane.{Lane}
-use Rattle.fish_lanes.specs.declared.lane.Seated.{Seated}
+use Rattle.fish_lanes.specs.declared.lane.LanePass.{LanePass}
 use Rattle.fish_rule.specs.Logs.{Learns}
 use Rattle.fish_rule.specs.Passes.{IsPassOf, view}
 use Rattle.fish_rule.specs.LoadSteps.{after_load_tail}
@@ -25,29 +25,29 @@ use Rattle.fish_rule.specs.declared.table.Log.{Log}
 use Rattle.fish_rule.specs.declared.view.Epoch.TheVariants.{Out}
 use Rattle.fish_rule.specs.declared.view.Own.{Own}
 use Rattle.fish_rule.specs.declared.view.View.{View}
-use Rattle.fish_whole.specs.Whole.{Claim, Whole}
-use Rattle.fish_lanes.specs.Blocks.{At, Both, IsNewLane}
+use Rattle.fish_whole.specs.Whole.{WholeFact, Whole}
+use Rattle.fish_lanes.specs.Blocks.{EachLane, EachLanePair, IsNewLane}
 
 -- the lane got a pass with this view
 pub record HasSeat (log : Log) (u : View) (x y : Lane) : Type 0 where
-  pub seat : Seated
+  pub seat : LanePass
   pub is : y ≡ record x { seat = Some seat }
   pub of : IsPassOf log seat.pass
   pub view_is : view seat.pass ≡ u
 
 -- the control pass has all lanes, and is out with nothing in flight
 pub record CanGive (v : View) (lanes : List Lane) : Type 0 where
-  pub main : v.lane ≡ 1
+  pub control : v.lane ≡ 1
   pub all : v.out ≡ []
   pub idle : v.flight ≡ None
   pub outside : v.epoch ≡ Out
   pub few : length lanes < 16
-  pub new : At (λ i x. IsNewLane (i + 2) x) lanes
-  pub shared : At (λ i x. All IsShared x.works) lanes
+  pub new : EachLane (λ i x. IsNewLane (i + 2) x) lanes
+  pub shared : EachLane (λ i x. All IsShared x.works) lanes
 
 -- it gave out the lanes from 2 on, so many, and is else as it was
 pub record HasGiven (v m : View) (many : ℕ) : Type 0 where
-  pub main : m.lane ≡ 1
+  pub control : m.lane ≡ 1
   pub idle : m.flight ≡ None
   pub outside : m.epoch ≡ Out
   pub about : m.about ≡ v.about
@@ -62,7 +62,7 @@ pub record HasGiven (v m : View) (many : ℕ) : Type 0 where
 
 -- a lane has a pass that knows what the control pass knew, and the records of this lane among its own
 pub record IsSeated (log : Log) (v : View) (i : ℕ) (x y : Lane) : Type 0 where
-  pub seat : Seated
+  pub seat : LanePass
   pub is : y ≡ record x { seat = Some seat }
   pub can : CanBegin log seat.pass
   pub lane : (view seat.pass).lane ≡ i + 2
@@ -72,7 +72,7 @@ pub record IsSeated (log : Log) (v : View) (i : ℕ) (x y : Lane) : Type 0 where
   pub own : (o : Own) → Among o (view seat.pass).own → Among o v.own × (o.lane ≡ i + 2)
 
 abbrev pub AreSeated : Log → View → List Lane → List Lane → Type 0
-AreSeated log v old new = Both (IsSeated log v) old new
+AreSeated log v old new = EachLanePair (IsSeated log v) old new
 
 abbrev pub AreReady : Log → List Lane → Type 0
 AreReady log lanes = All (IsReady log) lanes
@@ -83,7 +83,7 @@ pub record AreGone (log : Log) (old new : List Lane) : Type 0 where
 
 -- they did them
 abbrev pub AreDone : (Whole → Type 0) → Log → List Lane → List Lane → Type 0
-AreDone Past log old new = Both (λ i x y. HasDone Past log x y) old new
+AreDone Past log old new = EachLanePair (λ i x y. HasDone Past log x y) old new
 
 -- the control pass may do the statements of the first lane
 pub record IsFirst (v : View) (r : Registrar) (x : Lane) : Type 0 where
@@ -102,20 +102,20 @@ pub record HasRunFirst (Past : Whole → Type 0) (v u : View) (r s : Registrar) 
 
 -- the lane has a pass that may come back
 pub record CanTake (log : Log) (m : View) (x : Lane) : Type 0 where
-  pub seat : Seated
+  pub seat : LanePass
   pub seat_is : x.seat ≡ Some seat
   pub of : IsPassOf log seat.pass
   pub can : CanJoinPass m (view seat.pass)
 
 -- it came back
-pub record HasTakenSeat (m u : View) (seat : Seated) : Type 0 where
+pub record HasTakenSeat (m u : View) (seat : LanePass) : Type 0 where
   pub found : ℕ
   pub view_is : u ≡ after_load_tail (join_both m (view seat.pass)) found
   pub learns : Learns m u
   pub learned : Learns (view seat.pass) u
 
 abbrev pub HasTaken : View → View → Lane → Type 0
-HasTaken m u x = (seat : Seated) → x.seat ≡ Some seat → HasTakenSeat m u seat
+HasTaken m u x = (seat : LanePass) → x.seat ≡ Some seat → HasTakenSeat m u seat
 
 -- a lane keeps all but its pass
 pub record WasTaken (x y : Lane) : Type 0 where
@@ -127,11 +127,11 @@ pub record WasTaken (x y : Lane) : Type 0 where
   pub left : y.left ≡ x.left
 
 abbrev pub WereTaken : List Lane → List Lane → Type 0
-WereTaken old new = Both (λ i x y. WasTaken x y) old new
+WereTaken old new = EachLanePair (λ i x y. WasTaken x y) old new
 
 -- the lane at a position has a pass of its number that is out with nothing in flight
 pub record IsBack (log : Log) (i : ℕ) (x : Lane) : Type 0 where
-  pub seat : Seated
+  pub seat : LanePass
   pub seat_is : x.seat ≡ Some seat
   pub of : IsPassOf log seat.pass
   pub lane : (view seat.pass).lane ≡ i + 2
@@ -140,18 +140,18 @@ pub record IsBack (log : Log) (i : ℕ) (x : Lane) : Type 0 where
 
 -- exactly these lanes are out, and may come back
 pub record AreJoined (log : Log) (m : View) (lanes : List Lane) : Type 0 where
-  pub main : m.lane ≡ 1
+  pub control : m.lane ≡ 1
   pub idle : m.flight ≡ None
   pub outside : m.epoch ≡ Out
   pub out_of : (l : ℕ) → Among l m.out → (2 ≤ l) × (l < length lanes + 2)
   pub all_out : (l : ℕ) → 2 ≤ l → l < length lanes + 2 → Among l m.out
-  pub back : At (IsBack log) lanes
+  pub back : EachLane (IsBack log) lanes
 
 -- one of the first so many lanes has this among its own records
 pub record IsOfLane (lanes : List Lane) (many : ℕ) (o : Own) : Type 0 where
   pub position : ℕ
   pub lane : Lane
-  pub seat : Seated
+  pub seat : LanePass
   pub below : position < many
   pub lane_is : slice_get lanes position ≡ Some lane
   pub seat_is : lane.seat ≡ Some seat
@@ -161,7 +161,7 @@ pub record IsOfLane (lanes : List Lane) (many : ℕ) (o : Own) : Type 0 where
 pub record IsShutOfLane (lanes : List Lane) (many : ℕ) (s : Shut) : Type 0 where
   pub position : ℕ
   pub lane : Lane
-  pub seat : Seated
+  pub seat : LanePass
   pub below : position < many
   pub lane_is : slice_get lanes position ≡ Some lane
   pub seat_is : lane.seat ≡ Some seat
@@ -169,17 +169,17 @@ pub record IsShutOfLane (lanes : List Lane) (many : ℕ) (s : Shut) : Type 0 whe
 
 -- so many of them came back
 pub record HasTakenAll (m u : View) (lanes : List Lane) (many : ℕ) : Type 0 where
-  pub main : u.lane ≡ 1
+  pub control : u.lane ≡ 1
   pub idle : u.flight ≡ None
   pub outside : u.epoch ≡ Out
   pub learns : Learns m u
   pub registry : KeepsRegistry m u
-  pub learned : (i : ℕ) (x : Lane) (seat : Seated) → i < many → slice_get lanes i ≡ Some x → x.seat ≡ Some seat
+  pub learned : (i : ℕ) (x : Lane) (seat : LanePass) → i < many → slice_get lanes i ≡ Some x → x.seat ≡ Some seat
       → Learns (view seat.pass) u
   pub own : (o : Own) → Among o u.own → Among o m.own ⊎ IsOfLane lanes many o
   pub shut : (s : Shut) → u.shut ≡ Some s → (m.shut ≡ Some s) ⊎ IsShutOfLane lanes many s
   pub keeps : KeepsShut m u
-  pub shuts : (i : ℕ) (x : Lane) (seat : Seated) (s : Shut) → i < many → slice_get lanes i ≡ Some x → x.seat ≡ Some seat
+  pub shuts : (i : ℕ) (x : Lane) (seat : LanePass) (s : Shut) → i < many → slice_get lanes i ≡ Some x → x.seat ≡ Some seat
       → (view seat.pass).shut ≡ Some s → WasShut u
   pub clock : IsLater m.clock u.clock
   pub out_of : (l : ℕ) → Among l u.out → (many + 2 ≤ l) × (l < length lanes + 2)
@@ -187,8 +187,8 @@ pub record HasTakenAll (m u : View) (lanes : List Lane) (many : ℕ) : Type 0 wh
   pub none : many ≡ 0 → u ≡ m
 
 -- the same of the first lane, and of the others
-abbrev pub SaysFirst : Span → Lane → Claim
+abbrev pub SaysFirst : Span → Lane → WholeFact
 SaysFirst s x w = SaysLane w s (rows_of_lane w.log s.from s.to 1) x.works x.items
 
-abbrev pub SaysOthers : Span → List Lane → Claim
-SaysOthers s lanes w = At (λ i x. SaysLane w s (rows_of_lane w.log s.from s.to (i + 2)) x.works x.items) lanes
+abbrev pub SaysOthers : Span → List Lane → WholeFact
+SaysOthers s lanes w = EachLane (λ i x. SaysLane w s (rows_of_lane w.log s.from s.to (i + 2)) x.works x.items) lanes

@@ -26,7 +26,7 @@ abbrev pub or_stop : {T E : Type 0} → Result T E → Result T Stop
 or_stop (Ok x) = Ok x
 or_stop (Err e) = Err stop.Memory
 
--- the fault with which a lane stops at a statement without an item: none where it stays in front of it
+-- the fault with which a lane stops at a statement without an item: none where it stays before it
 abbrev pub fault_at : Stop → LaneFault
 fault_at stop.Memory = fault.Memory
 fault_at stop.Older = fault.None

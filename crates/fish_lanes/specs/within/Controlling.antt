@@ -4,9 +4,9 @@ use Rattle.fish_lanes.specs.within.Doing.{IsFit}
 use Rattle.fish_lanes.specs.Ending.{HasEnd}
 use Rattle.fish_lanes.specs.within.Gains.{Gains}
 use Rattle.fish_lanes.specs.Pending.{AreFound, HasFoundOlder}
-use Rattle.fish_lanes.specs.within.Plans.{PlansAreSoBy}
+use Rattle.fish_lanes.specs.within.Plans.{PlansHoldFor}
 use Rattle.fish_lanes.specs.Records.{LaneRow, contents}
-use Rattle.fish_lanes.specs.Registering.{AreSo, IsBetween, IsSo, KnowsEach, KnowsRegistry, after, after_all, bound, registry_of}
+use Rattle.fish_lanes.specs.Registering.{ItemsFit, IsBetween, ItemFits, KnowsEach, KnowsRegistry, after, after_all, bound, registry_of}
 use Rattle.fish_lanes.specs.within.Running.{HasRun}
 use Rattle.fish_lanes.specs.Single.{NamesNone, SaysOnly}
 use Rattle.fish_lanes.specs.within.Sizes.{SaysShut}
@@ -34,9 +34,9 @@ use Rattle.fish_rule.specs.declared.view.Noted.TheVariants.{Epoch}
 use Rattle.fish_rule.specs.declared.view.View.{View}
 use Rattle.fish_whole.specs.Whole.{Whole}
 
--- the item is so where it stands, the registry is the one behind it, and its definitions stay known
+-- the item fits the registry where it stands, the registry is the one after it, and its definitions stay known
 pub record Does (u : View) (r : Registrar) (t : View) (s : Registrar) (x : Item) : Type 0 where
-  pub so : IsSo u.learned.count t.learned.count (registry_of u r) x
+  pub so : ItemFits u.learned.count t.learned.count (registry_of u r) x
   pub is : registry_of t s ≡ after (registry_of u r) x
   pub knows : KnowsRegistry u (registry_of u r) → KnowsRegistry t (after (registry_of u r) x)
 
@@ -124,13 +124,13 @@ pub record IsPartControlled (u t : View) (w : Work) : Type 0 where
   pub first : contents rows ≡ take count (content_of w)
 
 -- what the statements of the first lane leave: their items, which are so of the definitions where they stand, what those of pending
--- registrations have behind them, and what one that is alone tells besides; and, unless there was a fault, the registry behind them
+-- registrations have after them, and what one that is alone tells besides; and, unless there was a fault, the registry after them
 pub record HasControlled (Past : Whole → Type 0) (v u : View) (r s : Registrar) (works : List Work) (items : List Item) (fault : LaneFault) : Type 0 where
   pub run : HasRun Past v u works items fault
-  pub so : AreSo v.learned.count u.learned.count (registry_of v r) items
+  pub so : ItemsFit v.learned.count u.learned.count (registry_of v r) items
   pub closed : IsAlone v → AllOf NamesNone items
   pub only : (end : ℕ) → HasEnd v end → r.waiting ≡ None → SaysOnly Past v u r.catalog end works items
-  pub plans : PlansAreSoBy v u (registry_of v r) works items
+  pub plans : PlansHoldFor v u (registry_of v r) works items
   pub is : fault ≡ cause.None → registry_of u s ≡ after_all (registry_of v r) items
   pub each : KnowsEach u (registry_of v r) items
   pub found : AreFound v.clock u.clock (registry_of v r) items

@@ -16,11 +16,11 @@ use Rattle.fish_whole.specs.Whole.{Whole}
 -- the control pass gave each other lane its pass, and all did their statements
 pub record AllRan (Past : Whole → Type 0) (log : Log) (v w : View) (r q : Registrar) (first first' : Lane) (before done : List Lane)
     : Type 0 where
-  pub main : View
+  pub control : View
   pub given : List Lane
-  pub gives : HasGiven v main (length before)
+  pub gives : HasGiven v control (length before)
   pub seated : AreSeated log v before given
-  pub first_did : HasRunFirst Past main w r q first first'
+  pub first_did : HasRunFirst Past control w r q first first'
   pub others_did : AreDone Past log given done
   pub stands : Stands w
   pub knows : Knows w q

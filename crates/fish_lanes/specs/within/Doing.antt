@@ -60,7 +60,7 @@ refusal_of version cause.UnknownName = refusal.UnknownName version
 refusal_of version (cause.EmptyRange from to) = refusal.EmptyRange from to
 refusal_of version (cause.NotCovered from to) = refusal.NotCovered from to
 
--- and what an item tells of a refusal, which isn't one for want of memory, of a range below the log's first number, or of a file
+-- and what an item tells of a refusal, which isn't one of memory, of a range below the log's first number, or of a file
 abbrev pub cause_of : ScanRefusal → Option ScanCause
 cause_of (refusal.UnknownName version) = Some cause.UnknownName
 cause_of (refusal.EmptyRange from to) = Some (cause.EmptyRange from to)
@@ -79,7 +79,7 @@ pub record FindsAcross (past : Whole) (u : View) (def : Definition) (value : Val
   pub above : Finds u def value (min (max from u.about.number) to) to opens upper
   pub below : lower ≡ select (map selectable past.log) (evaluation def) value from (min to u.about.number) []
 
--- behind this past they are the records of the range on which the definition that the name means has the value
+-- after this past they are the records of the range on which the definition that the name means has the value
 pub record IsAnswerBehind (past : Whole) (v u : View) (known : Known) (ask : Ask) (answer : Answer) : Type 0 where
   pub planned : IsPlanned v u known ask answer.from answer.to answer.opens answer.plan
   pub def : Definition
@@ -91,7 +91,7 @@ pub record IsExplainedAnswer (v u : View) (known : Known) (ask : Ask) (answer : 
   pub explained : IsExplained v u known ask answer.from answer.to answer.opens answer.plan
   pub opened : (n : ℕ) → Among n answer.opens → u.about.number ≤ n
 
--- on a disk that carries the table, the answer is one behind what the disk has before it, and few words were loaded
+-- on a disk that carries the table, the answer is one after what the disk has before it, and few words were loaded
 pub record IsAnswerHere (content : Option (List ℕ)) (k : Key) (cold : Cold) (v u : View) (known : Known) (ask : Ask) (answer : Answer)
     : Type 0 where
   pub each : (past : Whole) → IsHere content k cold past → IsAnswerBehind past v u known ask answer
@@ -129,7 +129,7 @@ pub record IsRefusedItem (name : List ℕ) (version : ℕ) (why : ScanRefusal) (
   pub cause_is : cause_of why ≡ Some cause
   pub is : x ≡ refused name version cause
 
--- the records in front of one that found the log full are stored
+-- the records before one that found the log full are stored
 pub record FitsFull (v u : View) (form : Form) (outs : List (Option (List ℕ))) (name file : List ℕ) (x : Item) : Type 0 where
   pub line : ℕ
   pub lines : ℕ
@@ -179,7 +179,7 @@ pub record FitsCheckpoint (v u : View) (x : Item) : Type 0 where
   pub exact : IsAlone v → (claimed : ℕ) × IsTailCount claimed v.tail × EndsAt u count claimed
       × (v.learned.count ≤ claimed)
 
--- the item fits the statement, and what it tells of its pass is so, behind each such past
+-- the item fits the statement, and what it tells of its pass is so, after each such past
 abbrev pub IsFit : (Whole → Type 0) → View → View → Work → Item → Type 0
 IsFit Past v u (work.Register name def) x = IsRegisterItem name (definition_text (definition_of def)) x
 IsFit Past v u (work.Deregister name) x = IsDeregisterItem name x

@@ -8,7 +8,7 @@ use Rattle.fish_report.specs.declared.item.Item.{Item}
 use Rattle.fish_rule.specs.Registry.{row_at}
 use Rattle.fish_rule.specs.Views.{Among}
 use Rattle.fish_rule.specs.declared.view.View.{View}
-use Rattle.fish_lanes.specs.Plans.{AreSoPlans, KnowsRows}
+use Rattle.fish_lanes.specs.Plans.{PlansHold, KnowsRows}
 
 -- the boundaries of the rows are words that the pass has read
 abbrev pub AreReadBounds : View → List CatRow → Type 0
@@ -22,7 +22,7 @@ pub record AreBoundsIn (v : View) (rows : List CatRow) : Type 0 where
   pub to : (id n : ℕ) → id < 256 → Among (record { index = row_at id 1; value = suc n }) v.learned.words
       → (row : CatRow) × (slice_get rows id ≡ Some row) × (row.to ≡ Some n)
 
--- between two views, the items of a lane say this of any rows whose boundaries its pass has read behind them
-abbrev pub PlansAreSoBy : View → View → Registry → List Work → List Item → Type 0
-PlansAreSoBy v u r works items = (rows : List CatRow) (from : ℕ) → AreBoundsIn u rows → from ≤ v.learned.settled
-    → AreSoPlans (KnowsRows u) r rows from works items
+-- between two views, the items of a lane say this of any rows whose boundaries its pass has read after them
+abbrev pub PlansHoldFor : View → View → Registry → List Work → List Item → Type 0
+PlansHoldFor v u r works items = (rows : List CatRow) (from : ℕ) → AreBoundsIn u rows → from ≤ v.learned.settled
+    → PlansHold (KnowsRows u) r rows from works items

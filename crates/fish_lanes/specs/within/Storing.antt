@@ -60,7 +60,7 @@ abbrev pub IsGiven : RecordText → Type 0
 IsGiven (text.Row row) = is_record Csv row ≡ true
 IsGiven x = ⊤
 
--- those in front are stored, those behind aren't read yet
+-- those in front are stored, those after aren't read yet
 pub record IsStoredUpTo (v u : View) (form : Form) (outs behind : List (Option (List ℕ))) (tally : Tally) : Type 0 where
   pub front : List (Option (List ℕ))
   pub parts : outs ≡ front ++ behind

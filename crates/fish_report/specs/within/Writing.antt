@@ -6,7 +6,7 @@ use Rattle.fish_outside.specs.Content.{Gained}
 abbrev pub piece_size : ℕ
 piece_size = 65536
 
--- a text was put behind what waited; the sink got a first part of the two, and what is left of them waits
+-- a text was put after what waited; the sink got a first part of the two, and what is left of them waits
 pub record Passes (old new : Option (List ℕ)) (waiting left text : List ℕ) : Type 0 where
   pub sent : List ℕ
   pub gained : Gained old new sent

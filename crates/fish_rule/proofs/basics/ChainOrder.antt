@@ -43,7 +43,7 @@ module _ (old new : ℕ → Type 0) (first : ℕ) where
           most = λ q h less. ⊎_elim (λ (z : old q). n.most q z less) (λ (e : q ≡ own). absurd (omega arith)) (from q h);
         }))
 
-    -- a place is put in below a higher one, in front of what was next
+    -- a place is put in below a higher one, before what was next
     pub chain_spliced : (q x : ℕ) → old q → own < q → log q ≡ x → x < own → log' q ≡ own → log' own ≡ x
         → ((p : ℕ) → old p → p ≢ q → log' p ≡ log p) → Chain new first head log'
     chain_spliced q x at below was less now aimed same = record {

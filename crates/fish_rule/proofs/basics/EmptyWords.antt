@@ -152,7 +152,7 @@ module _ (k : Key) (rows : List CatRow) (ws us : List ℕ) (same : rows ≡ k.ro
       area-in us 2 2 registry_size p above (omega arith)
       ∙ ap (slice_index us) (let e : 2 + (p - 2) ≡ p = omega arith in e) ∙ in_front p below
 
-  -- behind the count of rows and in front of the rows they are 0
+  -- after the count of rows and before the rows they are 0
   front_zero : (p : ℕ) → 3 < p → p < row_at 0 0 → g p ≡ 0
   front_zero p above below =
       at p (omega arith) (omega arith) ∙ stored.before p below ∙ start.zeros p above

@@ -17,7 +17,7 @@ use Rattle.fish_rule.proofs.basics.RegistryWords.{definitions_first}
 use Rattle.fish_rule.specs.Boundaries.{Boundaries, IsFirstBoundary, IsOpenIn}
 use Rattle.fish_rule.specs.Epochs.{IsOwned, IsUnmade}
 use Rattle.fish_rule.specs.BoundarySteps.{with_boundary}
-use Rattle.fish_rule.specs.Registry.{HasBoundary, IsRegistered, definitions_at, main_word, row_at, version_in}
+use Rattle.fish_rule.specs.Registry.{HasBoundary, IsRegistered, definitions_at, control_word, row_at, version_in}
 use Rattle.fish_rule.specs.Start.{IsOpening}
 use Rattle.fish_rule.specs.Table.{boundaries_of, set_boundaries_of}
 use Rattle.fish_rule.specs.Views.{AllOf, Among}
@@ -97,7 +97,7 @@ clamped_word number row (suc (suc i)) n h bound e = absurd (omega arith)
 -- no word is stored at an index that is no boundary of the rows
 drafted_else : (p n : ℕ) (rows : List CatRow)
     → ((id i : ℕ) → n ≤ id → id < n + length rows → i < 2 → p ≢ row_at id i)
-    → main_word (boundaries_of n rows) p ≡ 0
+    → control_word (boundaries_of n rows) p ≡ 0
 drafted_else p n [] away = refl
 drafted_else p n (row ∷ rows) away =
     choose_second (ℕ_discrete p (row_at n 0)) (row_word row 0) _ (away n 0 (omega arith) (omega arith) (omega arith))
@@ -106,7 +106,7 @@ drafted_else p n (row ∷ rows) away =
 
 -- each boundary is the row's
 pub drafted_here : (n id i : ℕ) (rows : List CatRow) (row : CatRow) → slice_get rows id ≡ Some row → i < 2
-    → main_word (boundaries_of n rows) (row_at (n + id) i) ≡ row_word row i
+    → control_word (boundaries_of n rows) (row_at (n + id) i) ≡ row_word row i
 drafted_here n id i [] row there bound = absurd cc
 drafted_here n zero zero (x ∷ rows) row there bound =
     choose_first (ℕ_discrete (row_at (n + 0) 0) (row_at n 0)) (row_word x 0) _ (omega arith)
@@ -120,12 +120,12 @@ drafted_here n (suc id) i (x ∷ rows) row there bound =
     choose_second (ℕ_discrete (row_at (n + suc id) i) (row_at n 0)) (row_word x 0) _ (λ e. omega arith)
     ∙ choose_second (ℕ_discrete (row_at (n + suc id) i) (row_at n 1)) (row_word x 1) _ (λ e. omega arith)
     ∙ (let e : n + suc id ≡ suc n + id = omega arith in
-    ap (λ (z : ℕ). main_word (boundaries_of (suc n) rows) (row_at z i)) e)
+    ap (λ (z : ℕ). control_word (boundaries_of (suc n) rows) (row_at z i)) e)
     ∙ drafted_here (suc n) id i rows row there bound
 
 -- ---- the words that it has read at the start
 
--- a word that is set is put in front of others, which stay
+-- a word that is set is put before others, which stay
 with_here : (p m x : ℕ) (words : List RegistryWord) → x ≡ suc m
     → Among (record { index = p; value = suc m }) (with_boundary p x words)
 with_here p m zero words e = absurd (omega arith)
@@ -275,7 +275,7 @@ module _ (k : Key) (g : ℕ → ℕ) (opening_ : IsOpening k.version k.number k.
           ∙ none_word row.0 (sym (bound_is id 1 row.0 row.1 (omega arith)) ∙ unset))
 
   -- the control pass knows the boundaries
-  pub owned_first : (p : ℕ) → IsOwned k g p → g p ≡ main_word (boundaries_of 0 k.rows.value) p
+  pub owned_first : (p : ℕ) → IsOwned k g p → g p ≡ control_word (boundaries_of 0 k.rows.value) p
   owned_first p (inl h) = unmade_zero p h ∙ sym (drafted_else p 0 k.rows.value (λ id i above below bound e. away p h id i
       (omega arith) bound e))
     where
@@ -285,11 +285,11 @@ module _ (k : Key) (g : ℕ → ℕ) (opening_ : IsOpening k.version k.number k.
   owned_first p (inr h) = pick h.0 h.1 h.2 h.3 h.4 (dec_lt h.0 (length k.rows.value))
     where
       pick : (id i : ℕ) → id < 256 → i < 2 → p ≡ row_at id i → Dec (id < length k.rows.value)
-          → g p ≡ main_word (boundaries_of 0 k.rows.value) p
+          → g p ≡ control_word (boundaries_of 0 k.rows.value) p
       pick id i few bound is (yes h) =
           let row = row_of id h in
           let place : row_at (0 + id) i ≡ p = omega arith in
           ap g is ∙ bound_is id i row.0 row.1 bound ∙ sym (drafted_here 0 id i k.rows.value row.0 row.1 bound)
-          ∙ ap (main_word (boundaries_of 0 k.rows.value)) place
+          ∙ ap (control_word (boundaries_of 0 k.rows.value)) place
       pick id i few bound is (no h) = ap g is ∙ opening_.rest id i (omega arith) few (omega arith)
           ∙ sym (drafted_else p 0 k.rows.value (λ n j above below small e. omega arith))

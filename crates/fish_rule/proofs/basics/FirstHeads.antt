@@ -12,7 +12,7 @@ use Rattle.fish_rule.specs.Parts.{first_head}
 use Rattle.fish_rule.specs.Views.{AllOf}
 use Rattle.fish_rule.specs.declared.view.EntryPlace.{EntryPlace}
 
--- a place behind the base's that is linked joins the nodes
+-- a place after the base's that is linked joins the nodes
 pub node_joins : (P : EntryPlace → Type 0) (k : Key) (b x : ℕ) (nodes : List EntryPlace) → AllOf P nodes
     → (k.line * 4 < x → P (record { bucket = b; place = x })) → AllOf P (with_node k b x nodes)
 node_joins P k b x nodes all here = by (dec_lt (k.line * 4) x)
@@ -32,7 +32,7 @@ module _ {k : Key} {w : World} (r : Rule k w) where
       by (yes e) = omega arith
       by (no ne) = (let less = r.key_fits.older_heads b ne in omega arith)
 
-  -- a record in flight is at or behind the base's line
+  -- a record in flight is at or after the base's line
   pub flight_from : (id : ℕ) (v : View) → get_elem? w.views id ≡ some v → (f : Flight) → v.flight ≡ Some f
       → k.line ≤ f.line
   flight_from id v at f flying =
@@ -42,7 +42,7 @@ module _ {k : Key} {w : World} (r : Rule k w) where
       let from = starts_above k w.count w.line r.start r.space.regions f.number own.above (omega arith) in
       omega arith
 
-  -- a linked place is behind the base's
+  -- a linked place is after the base's
   pub linked_from : (b p : ℕ) → Linked k w.dir w.log w.views b p → k.line * 4 < p
   linked_from b p h =
       let s = record_at r h.line h.entry h.shows in

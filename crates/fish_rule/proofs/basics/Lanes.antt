@@ -1,4 +1,4 @@
--- Lanes that are given out and taken in, the records that go with them, and one more view behind the others.
+-- Lanes that are given out and taken in, the records that go with them, and one more view after the others.
 use Rattle.std.proofs.Common.{◌≡◌, ◌≢◌, ℕ, ◌≤◌, zero, suc, List, [], ◌∷◌, ◌++◌, length, sym, refl, ap, ◌∙◌, subst, inl}
 use Rattle.std.proofs.Common.{inr, ◌⊎◌, ⊎_elim, arith, Some, None, Option}
 use Rattle.fish_rule.proofs.basics.Context.{Among, Flight, Key, View, get_elem?, some}
@@ -102,7 +102,7 @@ has_none x has =
 
 -- once lane l is out, the control pass has what it had but for l
 pub left_has : (lane l : ℕ) (out : List ℕ) (x : ℕ) → lane ≡ 1 → 2 ≤ l → Has lane (l ∷ out) x → Has lane out x × (x ≢ l)
-left_has lane l out x main above has = by has.2
+left_has lane l out x control above has = by has.2
   where
     by : (lane ≡ x) ⊎ ((lane ≡ 1) × ¬ Among x (l ∷ out)) → Has lane out x × (x ≢ l)
     by (inl e) = ((has.0, has.1, inl e), λ d. omega arith)
@@ -135,7 +135,7 @@ has_both lane l out x has = by has.2
 
 -- l too
 pub has_back : (lane l : ℕ) (out : List ℕ) → lane ≡ 1 → 2 ≤ l → l ≤ 16 → Has lane (without l out) l
-has_back lane l out main above below = (omega arith, below, inr (main, λ m. (without_sound l l out m).1 refl))
+has_back lane l out control above below = (omega arith, below, inr (control, λ m. (without_sound l l out m).1 refl))
 
 -- ---- what two passes knew
 
@@ -151,7 +151,7 @@ pub shut_either : (k : Key) (count : ℕ) (dir start : ℕ → ℕ) (a b : Optio
 shut_either k count dir start None b p q = q
 shut_either k count dir start (Some s) b p q = p
 
--- ---- one more view behind the others
+-- ---- one more view after the others
 
 -- at each place stands one of the others, or at the last the new one
 snoc_cases : (vs : List View) (u a : View) (j : ℕ) → get_elem? (vs ++ u ∷ []) j ≡ some a

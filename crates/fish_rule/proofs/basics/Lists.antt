@@ -36,7 +36,7 @@ pairs_set Q vs id v' same one both i j v u at_i at_j =
     (at_set vs id j v' u at_j))
     (at_set vs id i v' v at_i)
 
--- one more view behind the others
+-- one more view after the others
 pub each_snoc : (P : View → Type 0) (vs : List View) (u : View) → Each P vs → P u → Each P (vs ++ u ∷ [])
 each_snoc P vs u all one j v at = ⊎_elim (λ (t : get_elem? vs j ≡ some v). all j v t)
     (λ (t : u ≡ v). subst P t one) (at_snoc vs u v j at)
@@ -79,10 +79,10 @@ pub has_own : (vs : List View) (id : ℕ) (v : View) → get_elem? vs id ≡ som
 has_own vs id v at live seats = (live, seats.few id v at, inl refl)
 
 -- while the control pass has all lanes, no other pass is live
-pub only_main : (vs : List View) (i j : ℕ) (v u : View) → Seats vs → get_elem? vs i ≡ some v
+pub only_control : (vs : List View) (i j : ℕ) (v u : View) → Seats vs → get_elem? vs i ≡ some v
     → get_elem? vs j ≡ some u → v.lane ≡ 1 → v.out ≡ [] → 1 ≤ u.lane → j ≡ i
-only_main vs i j v u seats at_i at_j main all live =
-    let mine : Has v.lane v.out u.lane = (live, seats.few j u at_j, inr (main, λ h. subst (Among u.lane) all h)) in
+only_control vs i j v u seats at_i at_j control all live =
+    let mine : Has v.lane v.out u.lane = (live, seats.few j u at_j, inr (control, λ h. subst (Among u.lane) all h)) in
     sym (seats.apart i j v u u.lane at_i at_j mine (has_own vs j u at_j live seats))
 
 -- ---- lists of facts
@@ -110,7 +110,7 @@ module _ {A : Type 0} where
   among_left x (y ∷ xs) ys (inl e) = inl e
   among_left x (y ∷ xs) ys (inr m) = inr (among_left x xs ys m)
 
-  -- and behind one
+  -- and after one
   pub among_right : (x : A) (xs ys : List A) → Among x ys → Among x (xs ++ ys)
   among_right x [] ys m = m
   among_right x (y ∷ xs) ys m = inr (among_right x xs ys m)

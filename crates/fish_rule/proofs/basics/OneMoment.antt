@@ -58,7 +58,7 @@ module _ {k : Key} {w : World} (r : Rule k w) where
       pick (yes h) = h
       pick (no h) = absurd (some_ (r.space.dir_beyond n (omega arith)))
 
-  -- behind a mark there are only marks
+  -- after a mark there are only marks
   pub behind_mark : (m n : ℕ) → k.number ≤ m → m ≤ n → high (w.dir m) ≡ code Mark → w.dir n ≢ 0
       → high (w.dir n) ≡ code Mark
   behind_mark m n above less mark some_ =

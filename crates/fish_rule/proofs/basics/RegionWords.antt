@@ -50,9 +50,9 @@ read_more v u line n x words extends read here i less plain = pick (ℕ_discrete
 pub head_stays : (words : List ℕ) (x h : ℕ) → 0 < length words → get_or words 0 0 ≡ h → get_or (words ++ x ∷ []) 0 0 ≡ h
 head_stays words x h some head = get_or_append_left words (x ∷ []) 0 0 some ∙ head
 
--- ---- words behind others
+-- ---- words after others
 
--- so many words, each known, from one on, stand behind those of before
+-- so many words, each known, from one on, come after those of before
 pub record AreMore (v : View) (line from many : ℕ) (words longer : List ℕ) : Type 0 where
   pub more : List ℕ
   pub behind : longer ≡ words ++ more
@@ -115,9 +115,9 @@ read_behind v u line n from words more extends long read rest i less plain = pic
         subst (λ (z : ℕ × ℕ). Among (record { place = line * 4 + z.0; value = z.1 }) u.learned.known)
         (λ j. (place j, sym value j)) (rest (i - length words) (omega arith))
 
--- ---- a region behind others
+-- ---- a region after others
 
--- so many words of the region at a line stand behind others, its header first, each known but for the first ones of key entries
+-- so many words of the region at a line come after others, its header first, each known but for the first ones of key entries
 pub record ArePut (v : View) (line header many : ℕ) (words longer : List ℕ) : Type 0 where
   pub more : List ℕ
   pub behind : longer ≡ words ++ more

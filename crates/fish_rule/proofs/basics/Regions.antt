@@ -58,7 +58,7 @@ ends_within k count line start r n above below =
     let up = starts_rise k count line start r (suc n) count (omega arith) below (omega arith) in
     subst (λ (z : ℕ). start (suc n) ≤ z) r.last (omega arith)
 
--- every region begins at or behind the table's first line
+-- every region begins at or after the table's first line
 pub starts_above : (k : Key) (count line : ℕ) (start : ℕ → ℕ) → Regions k count line start → (n : ℕ)
     → k.number ≤ n → n ≤ count → k.line + (n - k.number) ≤ start n
 starts_above k count line start r n above within =
@@ -77,7 +77,7 @@ one_region k count line start r m n p above_m below_m above_n below_n from_m to_
         (λ (h : start (suc n) ≤ start m). absurd (omega arith))
         (regions_apart k count line start r m n above_m below_m above_n below_n ne)
 
--- a number in flight is at or behind the settled one, and its region behind every settled region
+-- a number in flight is at or after the settled one, and its region after every settled region
 pub flight_behind : {k : Key} {w : World} (r : Rule k w) (lane : ℕ) (f : Flight)
     → InFlight k w.count w.dir w.log r.start r.lane_of lane f → k.number ≤ w.settled → r.start w.settled ≤ f.line
 flight_behind {k} {w} r lane f own from = pick (dec_lt f.number w.settled)

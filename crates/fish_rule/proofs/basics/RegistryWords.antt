@@ -88,7 +88,7 @@ module _ (k : Key) where
       (omega arith)
       ∙ definitions_first g v (omega arith)
 
-  -- behind it each is made by its operation
+  -- after it each is made by its operation
   pub definitions_next : (g : ℕ → ℕ) (v : ℕ) → k.version ≤ v
       → definitions_at k g (suc v) ≡ made g (g (op_at (suc v))) (definitions_at k g v)
   definitions_next g v more = choose_second (dec_lt v k.version) (definitions_at k g v)

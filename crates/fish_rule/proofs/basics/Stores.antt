@@ -3,7 +3,7 @@ use Rattle.std.proofs.Common.{◌≡◌, ◌≢◌, ℕ, ◌<◌, ◌≤◌, Lis
 use Rattle.fish_layout.specs.Cleared.{body_of}
 use Rattle.fish_rule.specs.Parts.{IsLinkedWord}
 
--- words become these by a store of x at offset o of a region of so many words: either behind those that are
+-- words become these by a store of x at offset o of a region of so many words: either after those that are
 -- there, or, once entries are linked, in a key entry's first word alone
 pub record Becomes (size linked o x : ℕ) (keyed void : Type 0) (words words' : List ℕ) : Type 0 where
   pub within : o < size

@@ -29,12 +29,12 @@ area-in ws at base size n above below =
     choose_first (dec_le base n) _ 0 above
     ∙ choose_first (dec_le (suc n) (base + size)) (get_or ws (at + (n - base)) 0) 0 (omega arith)
 
--- below and behind it stands 0
+-- below and after it stands 0
 pub area-below : (ws : List ℕ) (at base size n : ℕ) → n < base → area ws at base size n ≡ 0
 unfolding area
 area-below ws at base size n less = choose_second (dec_le base n) _ 0 (λ h. omega arith)
 
--- behind an area all is 0
+-- after an area all is 0
 pub area-behind : (ws : List ℕ) (at base size n : ℕ) → base + size ≤ n → area ws at base size n ≡ 0
 unfolding area
 area-behind ws at base size n more =

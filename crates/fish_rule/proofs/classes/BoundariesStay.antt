@@ -53,7 +53,7 @@ module _ (k : Key) (g g' : ℕ → ℕ) (e : Endures k g g') where
       → (o : Option Round) → Waits k count g state version_of lane o → Waits k count g' state' version_of lane o
   waits_later count state state' version_of lane same since None h = h
   waits_later count state state' version_of lane same since (Some o) h = record {
-    main = h.main;
+    control = h.control;
     few = h.few;
     reached = (let a = h.reached in let b = e.rises in omega arith);
     listed = listed_later o.id o.version h.reached h.listed;

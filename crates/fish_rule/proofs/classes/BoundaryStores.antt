@@ -3,7 +3,7 @@ use Rattle.std.proofs.Common.{◌≡◌, ◌≢◌, ℕ, ◌<◌, ◌≤◌, ◌
 use Rattle.std.proofs.Math.Decide.{ℕ_discrete}
 use Rattle.fish_rule.proofs.basics.Context.{Key, Rule, View, World, get_elem?, some}
 use Rattle.fish_rule.proofs.classes.BoundariesStay.{listed_later, lists_later, open_later, same_length}
-use Rattle.fish_rule.proofs.classes.MainStores.{store_endures, store_read, store_still}
+use Rattle.fish_rule.proofs.classes.ControlStores.{store_endures, store_read, store_still}
 use Rattle.fish_rule.proofs.basics.Worlds.{put-else, put-here}
 use Rattle.fish_rule.specs.Boundaries.{Boundaries, IsFirstBoundary, IsOpenIn, Lists}
 use Rattle.fish_rule.specs.Registry.{Endures, HasBoundary, IsLasting, IsRegistered, definitions_at, row_at, version_in}
@@ -11,7 +11,7 @@ use Rattle.fish_rule.specs.Views.{AllOf}
 use Rattle.fish_rule.specs.World.{put}
 
 module _ {k : Key} {w : World} (r : Rule k w) (id : ℕ) {v : View} (at : get_elem? w.views id ≡ some v)
-    (main : v.lane ≡ 1) (row j n : ℕ) (few : row < 256) (bound : j < 2) (unset : w.registry (row_at row j) ≡ 0) where
+    (control : v.lane ≡ 1) (row j n : ℕ) (few : row < 256) (bound : j < 2) (unset : w.registry (row_at row j) ≡ 0) where
   -- the index of the boundary
   abbrev place : ℕ
   place = row_at row j
@@ -33,11 +33,11 @@ module _ {k : Key} {w : World} (r : Rule k w) (id : ℕ) {v : View} (at : get_el
 
   -- the version stays
   set_still : version_in set_words ≡ version_in w.registry
-  set_still = store_still r id at main place (suc n) place_far place_away
+  set_still = store_still r id at control place (suc n) place_far place_away
 
   -- and so does what lasts
   pub set_endures : Endures k w.registry set_words
-  set_endures = store_endures r id at main place (suc n) place_far place_away
+  set_endures = store_endures r id at control place (suc n) place_far place_away
 
   -- this one is the number, and lasts
   this_bound : set_words (row_at row j) ≡ suc n
@@ -50,7 +50,7 @@ module _ {k : Key} {w : World} (r : Rule k w) (id : ℕ) {v : View} (at : get_el
       lasts = inr (inr (inr ((row, j, few, bound, refl), λ e. absurd (let is = this_bound in omega arith))));
       word = this_bound;
     },
-    store_read r id at main place (suc n) place_far place_away,
+    store_read r id at control place (suc n) place_far place_away,
   )
 
   -- another boundary is as it was

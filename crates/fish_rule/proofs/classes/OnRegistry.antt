@@ -19,7 +19,7 @@ use Rattle.fish_rule.proofs.basics.Bodies.{published}
 use Rattle.fish_rule.proofs.classes.ChainsStay.{chains_set, links_set}
 use Rattle.fish_rule.proofs.basics.RegistryWords.{active_later, definitions_later, definitions_next, keyed_map}
 use Rattle.fish_rule.proofs.basics.RegistryWords.{length_grows, length_registered, registered_later}
-use Rattle.fish_rule.specs.Epochs.{Carries, IsMain, IsOwned, IsUnmade, Registry, Versions}
+use Rattle.fish_rule.specs.Epochs.{Carries, IsControl, IsOwned, IsUnmade, Registry, Versions}
 use Rattle.fish_rule.specs.Registry.{AreActiveAt, Endures, IsOperation, IsRegistered, definitions_at, op_at, row_at}
 use Rattle.fish_rule.specs.Registry.{row_in, row_spelled, version_in}
 use Rattle.fish_rule.specs.Facts.{Facts}
@@ -139,16 +139,16 @@ module _ (k : Key) (g g' : ℕ → ℕ) (e : Endures k g g') where
   owned_before same p (inr h) = inr h
 
   -- the control pass still knows the registry as it is
-  pub main_later : (seen : ℕ) (rows : List Listed) (main_words : List RegistryWord) → version_in g' ≡ version_in g
-      → ((p : ℕ) → IsOwned k g p → g' p ≡ g p) → IsMain k g seen rows main_words → IsMain k g' seen rows main_words
-  main_later seen rows main_words same stay h = record {
+  pub control_later : (seen : ℕ) (rows : List Listed) (control_words : List RegistryWord) → version_in g' ≡ version_in g
+      → ((p : ℕ) → IsOwned k g p → g' p ≡ g p) → IsControl k g seen rows control_words → IsControl k g' seen rows control_words
+  control_later seen rows control_words same stay h = record {
     version = h.version ∙ sym same;
     definitions = ap (definitions_at k g') same
         ∙ definitions_later k g g' e (version_in g) (omega arith) ∙ h.definitions;
     owned = λ p u. let before = owned_before same p u in stay p before ∙ h.owned p before;
   }
 
--- a word that only the control pass stores is behind the epochs
+-- a word that only the control pass stores is after the epochs
 pub owned_far : (k : Key) (g : ℕ → ℕ) (p : ℕ) → IsOwned k g p → 20 ≤ p
 owned_far k g p (inl (inl h)) = (let a = h.1 in let b = h.3 in omega arith)
 owned_far k g p (inl (inr h)) = (let a = h.5 in omega arith)
@@ -157,14 +157,14 @@ owned_far k g p (inr h) = (let a = h.4 in omega arith)
 -- ---- the class
 
 module _ {k : Key} {w : World} (r : Rule k w) (id : ℕ) {v : View} (at : get_elem? w.views id ≡ some v) (g' : ℕ → ℕ)
-    (epoch : Epoch) (version : ℕ) (words : List RegistryWord) (rows : List Listed) (main_words : List RegistryWord)
+    (epoch : Epoch) (version : ℕ) (words : List RegistryWord) (rows : List Listed) (control_words : List RegistryWord)
     (round : Option Round) (clock : Clock) where
   -- the view afterwards
   abbrev pub registrant : View
   registrant = record v {
     epoch = epoch;
     rows = rows;
-    main_words = main_words;
+    control_words = control_words;
     round = round;
     learned = record v.learned { version = version; words = words };
     clock = clock;

@@ -5,7 +5,7 @@ use Rattle.std.proofs.Math.Decide.{ℕ_discrete, dec_lt}
 use Rattle.fish_rule.proofs.basics.Context.{Clock, Epoch, Flight, Key, Rule, View, World, get_elem?, some}
 use Rattle.fish_rule.proofs.classes.BoundariesStay.{boundaries_later, lists_later, unended_later, waits_later}
 use Rattle.fish_rule.proofs.basics.Lists.{each_set, has_own}
-use Rattle.fish_rule.proofs.classes.OnRegistry.{carries_later, main_later, owned_far, read_later, register_lasts}
+use Rattle.fish_rule.proofs.classes.OnRegistry.{carries_later, control_later, owned_far, read_later, register_lasts}
 use Rattle.fish_rule.proofs.classes.OnRegistry.{registers, versions_later}
 use Rattle.fish_rule.proofs.basics.Worlds.{put-else, put-here}
 use Rattle.fish_rule.proofs.basics.Lasts.{Lasts}
@@ -25,7 +25,7 @@ module _ {k : Key} {w : World} (r : Rule k w) (id : ℕ) {v : View} (at : get_el
     (lists_ : (id : ℕ) → id < length (definitions_at k w.registry (version_in w.registry))
     → Lists k w.registry id v.epoch → Lists k w.registry id epoch')
     (past : 1 ≤ v.lane → v.lane ≤ 16 → IsAtMost (version_in w.registry) epoch')
-    (reached : version ≤ version_in w.registry) (main : v.lane ≡ 1 → version ≡ version_in w.registry)
+    (reached : version ≤ version_in w.registry) (control : v.lane ≡ 1 → version ≡ version_in w.registry)
     (carries : Carries k w.registry r.version_of v.lane epoch' v.flight) where
   -- how far each lane is entered afterwards
   abbrev pub state' : ℕ → Epoch
@@ -55,7 +55,7 @@ module _ {k : Key} {w : World} (r : Rule k w) (id : ℕ) {v : View} (at : get_el
                 (r.registry.epochs.past l above below),
           )
 
-  -- a word behind the epochs stays
+  -- a word after the epochs stays
   far_else : (p : ℕ) → 20 ≤ p → v.lane ≤ 16 → g' p ≡ w.registry p
   far_else p above few = others p (λ e. omega arith)
 
@@ -122,15 +122,15 @@ module _ {k : Key} {w : World} (r : Rule k w) (id : ℕ) {v : View} (at : get_el
         reached = (let a = h.reached in omega arith);
         read = read_later k w.registry g' endures u.learned.words h.read;
         unended = unended_later k w.registry g' endures w.count r.version_of r.registry.versions u.learned.unended h.unended;
-        main = λ e. main_later k w.registry g' endures u.learned.version u.rows u.main_words still
-            (λ p owned. owned_else p few owned) (h.main e);
+        control = λ e. control_later k w.registry g' endures u.learned.version u.rows u.control_words still
+            (λ p owned. owned_else p few owned) (h.control e);
         waits = waits_later k w.registry g' endures w.count r.state state' r.version_of u.lane
             (λ n below. boundary_else n 0 below (omega arith)) since_later u.round h.waits;
       }
 
   -- and what the pass itself knows
   pub own_stays : StaysWith k w.count g' state' r.version_of v.lane v.out epoch' version v.learned.words v.learned.unended
-      v.rows v.main_words v.round
+      v.rows v.control_words v.round
   own_stays =
       let h = r.registry.each id v at in
       let few = r.seats.few id v at in
@@ -144,9 +144,9 @@ module _ {k : Key} {w : World} (r : Rule k w) (id : ℕ) {v : View} (at : get_el
         reached = (let a = h.reached in omega arith);
         read = read_later k w.registry g' endures v.learned.words h.read;
         unended = unended_later k w.registry g' endures w.count r.version_of r.registry.versions v.learned.unended h.unended;
-        main = λ e. let m = main_later k w.registry g' endures v.learned.version v.rows v.main_words still
-            (λ p owned. owned_else p few owned) (h.main e) in
-            record { version = main e ∙ sym still; definitions = m.definitions; owned = m.owned };
+        control = λ e. let m = control_later k w.registry g' endures v.learned.version v.rows v.control_words still
+            (λ p owned. owned_else p few owned) (h.control e) in
+            record { version = control e ∙ sym still; definitions = m.definitions; owned = m.owned };
         waits = waits_later k w.registry g' endures w.count r.state state' r.version_of v.lane
             (λ n below. boundary_else n 0 below (omega arith)) since_later v.round h.waits;
       }
@@ -173,8 +173,8 @@ module _ {k : Key} {w : World} (r : Rule k w) (id : ℕ) {v : View} (at : get_el
     -- the step keeps the rule, and all that lasts
     pub moves_last : Lasts r (record w { registry = g'; views = set w.views id mover })
     moves_last = (
-      registers r id at g' epoch' version v.learned.words v.rows v.main_words v.round clock endures state' move_registry,
-      register_lasts r id at g' epoch' version v.learned.words v.rows v.main_words v.round clock endures state'
+      registers r id at g' epoch' version v.learned.words v.rows v.control_words v.round clock endures state' move_registry,
+      register_lasts r id at g' epoch' version v.learned.words v.rows v.control_words v.round clock endures state'
           move_registry,
     )
 

@@ -124,14 +124,14 @@ knows_mark v f among is u learns w r j at = found_kind v f among u learns w r j 
 
 -- ---- the end
 
--- the tail that the pass left is at or behind the table's first number
+-- the tail that the pass left is at or after the table's first number
 pub tail_behind : (v : View) (x : ℕ) → Stands v → IsAlone v
     → v.tail ≡ Some (record { number = high x; line = low x }) → v.about.number ≤ high x
 tail_behind v x s alone tail =
     let w : World = s.moment in
     let r = s.rule in
     let rests : Rests w.count w.line (Some (record { number = high x; line = low x })) =
-    subst (Rests w.count w.line) tail (r.tails s.seat v s.at alone.main alone.all) in
+    subst (Rests w.count w.line) tail (r.tails s.seat v s.at alone.control alone.all) in
     let some_ = r.space.regions.some in
     let count : high x ≡ w.count = rests.0 in
     omega arith
@@ -183,14 +183,14 @@ closed_before v u remains on h =
 -- a pass that only learns stays alone
 pub alone_later : (v u : View) → Extends v u → IsAlone v → IsAlone u
 alone_later v u e alone = record {
-  main = ap (λ (z : View). z.lane) e.frame ∙ alone.main;
+  control = ap (λ (z : View). z.lane) e.frame ∙ alone.control;
   all = ap (λ (z : View). z.out) e.frame ∙ alone.all;
   idle = ap (λ (z : View). z.flight) e.frame ∙ alone.idle;
 }
 
 -- and so it does when it loads the tail
 pub alone_end : (v : View) (x : ℕ) → IsAlone v → IsAlone (after_load_tail v x)
-alone_end v x alone = record { main = alone.main; all = alone.all; idle = alone.idle }
+alone_end v x alone = record { control = alone.control; all = alone.all; idle = alone.idle }
 
 -- ---- a log that isn't full
 
@@ -209,7 +209,7 @@ no_mark v n s alone live above mark =
     let r = s.rule in
     let limit = r.limit in
     let may : (l : ℕ) → 1 ≤ l → l ≤ 16 → r.quota l ≡ 1 =
-    λ l some_ few. limit.may s.seat v s.at l (some_, few, inr (alone.main, λ m. elim (subst (Among l) alone.all m) [ ]))
+    λ l some_ few. limit.may s.seat v s.at l (some_, few, inr (alone.control, λ m. elim (subst (Among l) alone.all m) [ ]))
     (live, λ over. elim (subst (IsOver v.about.end) alone.idle over) [ ]) in
     let all = quotas_all r.quota 16 may in
     let few = limit.few in

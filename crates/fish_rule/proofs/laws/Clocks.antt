@@ -42,7 +42,7 @@ later_noted c what x = record {
   since = refl;
 }
 
--- such a load is one between the clocks before it and behind it
+-- such a load is one between the clocks before it and after it
 pub noted_load : (c : Clock) (what : Noted) (x : ℕ) → HasLoaded c (noted c what x) what x
 unfolding later_noted
 noted_load c what x = record { on = later_noted c what x; step = c.steps; later = omega arith; among = inl refl }

@@ -115,6 +115,6 @@ own_closed v remains l i c has = (own_there v remains l i c, there_own v remains
 
 -- the definitions at the version that is left are those of the control pass that closed the log
 pub definitions_closed : DefinitionsAreClosed
-definitions_closed v remains c main =
-    let its = (c.rule.registry.each c.seat c.last c.at).main (c.lane_is ∙ main) in
+definitions_closed v remains c control =
+    let its = (c.rule.registry.each c.seat c.last c.at).control (c.lane_is ∙ control) in
     ap (λ (z : ℕ). definitions_at v.about c.moment.registry z) c.version ∙ its.definitions ∙ c.rows_is

@@ -28,7 +28,7 @@ nodes_stay k b x nodes n m = by (dec_lt (k.line * 4) x)
     by (yes h) = inr m
     by (no h) = m
 
--- a place behind the base's is that of a node
+-- a place after the base's is that of a node
 pub node_here : (k : Key) (b x : ℕ) (nodes : List EntryPlace) → (x ≤ k.line * 4)
     ⊎ Among (record { bucket = b; place = x }) (with_node k b x nodes)
 node_here k b x nodes = by (dec_lt (k.line * 4) x)
@@ -76,11 +76,11 @@ extends_node v p x = record {
 
 -- ---- where a walk goes on
 
--- at the head that was seen, or behind no entry of the table
+-- at the head that was seen, or after no entry of the table
 pub head_here : (v : View) (b x : ℕ) → (x ≤ v.about.line * 4) ⊎ HasNode (after_load_head v b x) b x
 head_here v b x = node_here v.about b x v.learned.nodes
 
--- at the entry that the first word leads to, or behind no entry of the table
+-- at the entry that the first word leads to, or after no entry of the table
 pub previous_here : (v : View) (b p x : ℕ) → (x ≤ v.about.line * 4) ⊎ HasNode (after_load_previous v b p x) b x
 previous_here v b p x = node_here v.about b x v.learned.nodes
 
@@ -96,7 +96,7 @@ pub previous_clear : (v : View) (b p x from to : ℕ) → to ≤ v.learned.settl
 previous_clear v b p x from to known =
     gap_clear (after_load_previous v b p x) (gap b p x v.learned) from to (inl refl) known
 
--- every entry lies behind the base's place
+-- every entry lies after the base's place
 pub entries_behind : (v : View) → Always v (λ k w. (b n c p : ℕ) → IsEntryIn b n c p k w → k.line * 4 < p)
 entries_behind v u learns w r seat at b n c p h =
     let k : Key = u.about in

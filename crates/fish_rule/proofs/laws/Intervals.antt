@@ -27,7 +27,7 @@ front : (x : Listed) (ls : List Listed) (b : Bool) → b ≡ true
 front x ls true e = inl refl
 front x ls false e = absurd cc
 
--- and one behind another
+-- and one after another
 behind : (t : ℕ × List ℕ) (x : Listed) (ls : List Listed) (b : Bool) → Among t (map (λ (l : Listed). (l.id, l.def)) ls)
     → Among t (map (λ (l : Listed). (l.id, l.def)) (cond b (x ∷ ls) ls))
 behind t x ls true m = inr m

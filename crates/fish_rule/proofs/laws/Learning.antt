@@ -36,7 +36,7 @@ learns_self v = record {
   opens = λ x m. m;
 }
 
--- what is in a list is in it behind one more
+-- what is in a list is in it after one more
 pub ahead : {A : Type 0} (x : A) (xs : List A) (y : A) → Among y xs → Among y (x ∷ xs)
 ahead x xs y m = inr m
 

@@ -53,7 +53,7 @@ aim_law k v f about s can =
     let some_ = fits.some_lines in
     subst (λ (z : Key). (z.line * 4 ≤ own_place f) × (own_place f < z.end * 4)) about (h.0, omega arith)
 
--- the place of a linked entry is behind the base's
+-- the place of a linked entry is after the base's
 pub node_behind : (v : View) (b p : ℕ) → Stands v → HasNode v b p → v.about.line * 4 < p
 node_behind v b p s node = linked_from s.rule b p (node_linked s.rule s.seat s.at b p node)
 
@@ -72,7 +72,7 @@ not_own v f b p s can node =
     own_unlinked s.rule s.seat s.at f can b p
     (node_linked s.rule s.seat s.at b p node)
 
--- it is behind the base's
+-- it is after the base's
 pub own_behind : (v : View) (f : Flight) → Stands v → CanAimEntry v f → v.about.line * 4 < own_place f
 own_behind v f s can =
     let from = flight_from s.rule s.seat v s.at f can.flying in

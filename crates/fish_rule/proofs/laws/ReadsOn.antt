@@ -141,7 +141,7 @@ reads_version v u w y on e more =
 -- it stays alone
 pub alone_on : (v u : View) → ReadsOn v u → IsAlone v → IsAlone u
 alone_on v u on alone = record {
-  main = ap (λ (z : View). z.lane) on.frame ∙ alone.main;
+  control = ap (λ (z : View). z.lane) on.frame ∙ alone.control;
   all = ap (λ (z : View). z.out) on.frame ∙ alone.all;
   idle = ap (λ (z : View). z.flight) on.frame ∙ alone.idle;
 }

@@ -6,7 +6,7 @@ use Rattle.fish_catalog.specs.declared.entry.Entry.{Entry}
 use Rattle.fish_rule.proofs.basics.Context.{Among, Found, View, World, get_elem?}
 use Rattle.fish_rule.proofs.basics.Bodies.{code_once, kind-inside, published}
 use Rattle.fish_rule.proofs.laws.ClosedLogs.{within_log}
-use Rattle.fish_rule.proofs.basics.Lists.{all_among, only_main}
+use Rattle.fish_rule.proofs.basics.Lists.{all_among, only_control}
 use Rattle.fish_rule.proofs.laws.Learning.{learns_self}
 use Rattle.fish_rule.proofs.laws.LogWords.{entries_length, entries_log}
 use Rattle.fish_rule.proofs.basics.Places.{IsFlier, RecordAt, lies_inside, record_at}
@@ -36,7 +36,7 @@ module _ (v : View) (s : Stands v) (alone : IsAlone v) where
       subst (Flies v.about w.count w.dir w.log r.start r.lane_of f.view.lane) f.flies
       (r.space.flights f.seat f.view f.at) in
       let same : f.seat ≡ s.seat =
-      only_main w.views s.seat f.seat v f.view r.seats s.at f.at alone.main alone.all flies.live in
+      only_control w.views s.seat f.seat v f.view r.seats s.at f.at alone.control alone.all flies.live in
       let view : v ≡ f.view =
       some-injective v f.view (sym s.at ∙ ap (get_elem? w.views) (sym same) ∙ f.at) in
       let bad : None ≡ Some f.flight = sym alone.idle ∙ ap (λ (z : View). z.flight) view ∙ f.flies in
@@ -145,7 +145,7 @@ closes_log v tail read s alone is_tail h =
     let from = upto.from in
     let many = upto.many in
     let rests : Rests w.count w.line (Some tail) =
-    subst (Rests w.count w.line) is_tail (s.rule.tails s.seat v s.at alone.main alone.all) in
+    subst (Rests w.count w.line) is_tail (s.rule.tails s.seat v s.at alone.control alone.all) in
     let count : tail.number ≡ w.count = rests.0 in
     let end : v.about.number + (read.number - v.about.number) ≡ h.number = omega arith in
     entries_log s.rule (read.number - v.about.number)
@@ -180,7 +180,7 @@ closes v whole base entries s alone all base_is entries_are =
     let many = upto.many in
     let far = all.far in
     let rests : Rests w.count w.line (Some tail) =
-    subst (Rests w.count w.line) all.rests (r.tails s.seat v s.at alone.main alone.all) in
+    subst (Rests w.count w.line) all.rests (r.tails s.seat v s.at alone.control alone.all) in
     let count : tail.number ≡ w.count = rests.0 in
     let line : tail.line ≡ w.line = rests.1 in
     let log : IsLog v.about w entries =
@@ -202,7 +202,7 @@ closes v whole base entries s alone all base_is entries_are =
       many_heads = all.heads.many;
       heads = λ b x at. head_is v s alone (v.about.number + length entries)
           (λ n above set_ stored. in_log log n above set_ stored) all.settled b x (omega arith) (all.heads.each b x at);
-      version = all.version ∙ ((r.registry.each s.seat v s.at).main alone.main).version;
+      version = all.version ∙ ((r.registry.each s.seat v s.at).control alone.control).version;
       starts = record {
         rise = upto.rise;
         sound = λ t m. (let x = upto.sound t m in
@@ -223,7 +223,7 @@ closes v whole base entries s alone all base_is entries_are =
       own_is = refl;
       rows_is = refl;
       owns = r.own s.seat v s.at;
-      rests = r.tails s.seat v s.at alone.main alone.all;
+      rests = r.tails s.seat v s.at alone.control alone.all;
       facts = r.facts s.seat v s.at;
     }
   where

@@ -108,9 +108,9 @@ event_lasts k (retire id) w u r g = (let v = g.0 in let s = g.1 in
 event_lasts k (load_registry id p) w u r g = (let v = g.0 in let s = g.1 in
     lasts_at r u _ g.3 (load_registry_lasts r id s.at s.about p g.2))
 event_lasts k (define_word id p x) w u r g = (let v = g.0 in let s = g.1 in
-    lasts_at r u _ g.3 (define_word_lasts r id s.at g.2.main p x g.2))
+    lasts_at r u _ g.3 (define_word_lasts r id s.at g.2.control p x g.2))
 event_lasts k (raise_version id) w u r g = (let v = g.0 in let s = g.1 in
-    lasts_at r u _ g.3 (raise_version_lasts r id s.at g.2.main g.2))
+    lasts_at r u _ g.3 (raise_version_lasts r id s.at g.2.control g.2))
 event_lasts k (check_lane id l) w u r g = (let v = g.0 in let s = g.1 in
     lasts_at r u _ g.3 (check_lane_lasts r id s.at l g.2))
 event_lasts k (load_bound id) w u r g = (let v = g.0 in let o = g.1 in let x : ℕ = g.2 in let s = g.3 in

@@ -7,7 +7,7 @@ use Rattle.fish_rule.proofs.classes.Allowed.{unmade_within}
 use Rattle.fish_rule.proofs.steps.DefineWord.{unmade_here}
 use Rattle.fish_rule.proofs.steps.LoadRegistry.{lasts_there, lasting_within}
 use Rattle.fish_rule.specs.RegistrySteps.{CanDefineWord, CanLoadRegistry}
-use Rattle.fish_rule.specs.Registry.{KnowsDefinitions, KnowsRow, definitions_at, main_word, row_at, version_in}
+use Rattle.fish_rule.specs.Registry.{KnowsDefinitions, KnowsRow, definitions_at, control_word, row_at, version_in}
 use Rattle.fish_rule.proofs.basics.RegistryWords.{length_grows}
 use Rattle.std.proofs.lemmas.List.{length-map}
 use Rattle.fish_catalog.specs.Listing.{IsListing, listed_of}
@@ -29,7 +29,7 @@ registry_law k v p about s can = lasting_within s.rule p (lasts_there s.rule s.s
 pub define_law : (k : Key) (v : View) (p x : ℕ) → v.about ≡ k → Stands v → CanDefineWord v p x
     → (2 ≤ p) × (p < heads_at)
 define_law k v p x about s can = unmade_within v.about s.moment p
-    (unmade_here s.rule s.seat s.at can.main p x can)
+    (unmade_here s.rule s.seat s.at can.control p x can)
 
 -- a pass knows of no version past 512
 pub version_law : (v : View) → Stands v → v.learned.version ≤ 512
@@ -54,16 +54,16 @@ pub lane_law : (v : View) → Stands v → v.lane ≤ 16
 lane_law v s = s.rule.seats.few s.seat v s.at
 
 -- the definitions that the control pass knows are a listing
-pub main_law : (v : View) → Stands v → v.lane ≡ 1 → IsListing v.rows
-main_law v s main =
-    subst IsListing ((s.rule.registry.each s.seat v s.at).main main).definitions
+pub control_law : (v : View) → Stands v → v.lane ≡ 1 → IsListing v.rows
+control_law v s control =
+    subst IsListing ((s.rule.registry.each s.seat v s.at).control control).definitions
     (s.rule.registry.versions.listings (version_in s.moment.registry) (omega arith))
 
 -- a row that is not made has no boundary, as the control pass knows
 pub unset_law : (v : View) → Stands v → v.lane ≡ 1 → (id i : ℕ) → length v.rows ≤ id → id < 256 → i < 2
-    → main_word v.main_words (row_at id i) ≡ 0
-unset_law v s main id i more few bound =
-    let its = (s.rule.registry.each s.seat v s.at).main main in
+    → control_word v.control_words (row_at id i) ≡ 0
+unset_law v s control id i more few bound =
+    let its = (s.rule.registry.each s.seat v s.at).control control in
     let size : length (definitions_at v.about s.moment.registry (version_in s.moment.registry)) ≡ length v.rows =
     ap (λ (z : List Listed). length z) its.definitions in
     sym (its.owned (row_at id i) (inr (id, i, few, bound, refl)))

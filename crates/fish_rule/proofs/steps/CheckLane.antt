@@ -49,7 +49,7 @@ module _ {k : Key} {w : World} (r : Rule k w) (id : ℕ) {v : View} (at : get_el
     one_more : (o : Round) → IsRound k w.count w.registry r.state r.version_of v.lane o
         → (word ≡ 0) ⊎ (o.version < word) → IsRound k w.count w.registry r.state r.version_of v.lane (with_lane l o)
     one_more o h tells = record {
-      main = h.main;
+      control = h.control;
       few = h.few;
       reached = h.reached;
       listed = h.listed;
@@ -100,7 +100,7 @@ state_out k count g state version_of v l lane alone outside stays =
     let tied = stays.tied l (
       lane.some,
       lane.few,
-      inr (alone.main, λ m. elim (subst (Among l) alone.all m) [ ]),
+      inr (alone.control, λ m. elim (subst (Among l) alone.all m) [ ]),
     ) in
     pick tied (ℕ_discrete l v.lane)
   where

@@ -3,7 +3,7 @@ use Rattle.std.proofs.Common.{◌≡◌, ◌≢◌, ℕ, ◌+◌, ◌*◌, ◌<�
 use Rattle.std.proofs.Common.{◌^◌, get_or}
 use Rattle.std.proofs.Math.Decide.{dec_lt}
 use Rattle.fish_rule.proofs.basics.Context.{Final, Key, Rule, View, World, get_elem?, none, some}
-use Rattle.fish_rule.proofs.basics.Lists.{each_set, only_main, seats_kept}
+use Rattle.fish_rule.proofs.basics.Lists.{each_set, only_control, seats_kept}
 use Rattle.fish_rule.proofs.classes.FactsStay.{chained_later, facts_later, keyed_kept, owns_later, shut_later}
 use Rattle.fish_rule.proofs.basics.Bodies.{high-pack, low-pack, tail_is}
 use Rattle.fish_rule.proofs.classes.ChainsStay.{chains_set}
@@ -96,8 +96,8 @@ module _ {k : Key} {w : World} (r : Rule k w) (id : ℕ) {v : View} (at : get_el
         about = each_set _ w.views id claimer (λ j u ne at_u. r.about j u at_u) (r.about id v at);
         seats = seats_kept w.views id v claimer at refl refl r.seats;
         tails = each_set _ w.views id claimer
-            (λ j u ne at_u main all. absurd (ne
-            (sym (only_main w.views j id u v r.seats at_u at main all can.live)))) (λ main all. (refl, refl));
+            (λ j u ne at_u control all. absurd (ne
+            (sym (only_control w.views j id u v r.seats at_u at control all can.live)))) (λ control all. (refl, refl));
         space = claim_space r id at m can some_lines few_lines;
         limit = lim.1;
         settling = record {

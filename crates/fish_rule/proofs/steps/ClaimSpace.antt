@@ -1,4 +1,4 @@
--- What a claim leaves of the log's space: a region in flight behind the old tail, and few claims past the log's end.
+-- What a claim leaves of the log's space: a region in flight after the old tail, and few claims past the log's end.
 use Rattle.std.proofs.Common.{◌≡◌, ◌≢◌, ℕ, ◌+◌, ◌*◌, ◌<◌, ◌≤◌, suc, set, sym, refl, ap, ◌∙◌, subst, arith, Some, None}
 use Rattle.std.proofs.Common.{Option}
 use Rattle.std.proofs.Math.Decide.{ℕ_discrete, dec_lt}

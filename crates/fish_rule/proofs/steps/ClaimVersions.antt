@@ -134,7 +134,7 @@ module _ {k : Key} {w : World} (r : Rule k w) (id : ℕ) {v : View} (at : get_el
       → Waits k (suc w.count) w.registry r.state version_of' lane o
   waiting lane None h = h
   waiting lane (Some o) h = record {
-    main = h.main;
+    control = h.control;
     few = h.few;
     reached = h.reached;
     listed = h.listed;

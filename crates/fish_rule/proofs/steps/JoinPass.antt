@@ -85,7 +85,7 @@ module _ {k : Key} {w : World} (r : Rule k w) (id other : ℕ) {v u : View} (at 
             (λ (m : Among o v.own). let s = mine.sound o m in (has_both v.lane u.lane v.out o.lane s.0, s.1))
             (λ (m : Among o u.own). let s = other_owns.sound o m in (
               subst (Has v.lane (without u.lane v.out)) (sym (has_one u.lane u.out o.lane can.above s.0))
-                  (has_back v.lane u.lane v.out can.main can.above few),
+                  (has_back v.lane u.lane v.out can.control can.above few),
               s.1,
             ))
             (among_either o v.own u.own m);
@@ -152,7 +152,7 @@ module _ {k : Key} {w : World} (r : Rule k w) (id other : ℕ) {v u : View} (at 
   both_stays =
       let a = r.registry.each id v at in
       let b = r.registry.each other u at_u in
-      let main = can.main in
+      let control = can.control in
       let above = can.above in
       let few = r.seats.few other u at_u in
       let back : r.state u.lane ≡ Out = (b.tied u.lane (omega arith, few, inl refl)).0 refl ∙ can.outside in
@@ -166,7 +166,7 @@ module _ {k : Key} {w : World} (r : Rule k w) (id other : ℕ) {v u : View} (at 
         read = all_append (IsRegistered k w.registry) v.learned.words u.learned.words a.read b.read;
         unended = all_append (IsUnended k w.count w.registry r.version_of) v.learned.unended u.learned.unended a.unended
             b.unended;
-        main = λ e. let m = a.main e in
+        control = λ e. let m = a.control e in
             record {
               version = (let p = m.version in let q = b.reached in omega arith);
               definitions = m.definitions;
@@ -188,7 +188,7 @@ module _ {k : Key} {w : World} (r : Rule k w) (id other : ℕ) {v u : View} (at 
       reached = omega arith;
       read = tt;
       unended = tt;
-      main = λ e. absurd (omega arith);
+      control = λ e. absurd (omega arith);
       waits = tt;
     });
     flights = each_join _ r.registry.flights (r.registry.flights id v at) tt;
@@ -205,7 +205,7 @@ module _ {k : Key} {w : World} (r : Rule k w) (id other : ℕ) {v u : View} (at 
     key_fits = r.key_fits;
     about = each_join _ r.about (r.about id v at) (λ h. absurd (omega arith));
     seats = record { apart = join_apart; few = each_join _ r.seats.few (r.seats.few id v at) (omega arith) };
-    tails = each_join _ r.tails (λ main all. tt) (λ main. absurd (omega arith));
+    tails = each_join _ r.tails (λ control all. tt) (λ control. absurd (omega arith));
     space = record {
       regions = r.space.regions;
       finished = r.space.finished;

@@ -1,4 +1,4 @@
--- `load_bound`: a load of the tail behind the last lane.
+-- `load_bound`: a load of the tail after the last lane.
 use Rattle.std.proofs.Common.{◌≡◌, ℕ, ◌≤◌, set, sym, subst, arith, get_or, refl, ◌∙◌}
 use Rattle.fish_rule.proofs.basics.Context.{Key, Rule, View, World, get_elem?, none, some}
 use Rattle.fish_rule.proofs.classes.Loads.{learn_lasts, still_chained}
@@ -27,7 +27,7 @@ module _ {k : Key} {w : World} (r : Rule k w) (id : ℕ) {v : View} (at : get_el
         let h : IsRound k w.count w.registry r.state r.version_of v.lane o =
         subst (Waits k w.count w.registry r.state r.version_of v.lane) can.waits stays.waits in
         record {
-          main = h.main;
+          control = h.control;
           few = h.few;
           reached = h.reached;
           listed = h.listed;
@@ -43,7 +43,7 @@ module _ {k : Key} {w : World} (r : Rule k w) (id : ℕ) {v : View} (at : get_el
               };
         }
 
-    -- a load of the tail behind the last lane keeps the rule, and all that lasts
+    -- a load of the tail after the last lane keeps the rule, and all that lasts
     pub load_bound_lasts : Lasts r (record w { views = set w.views id bounder })
     load_bound_lasts =
         let h = r.facts id v at in
@@ -51,10 +51,10 @@ module _ {k : Key} {w : World} (r : Rule k w) (id : ℕ) {v : View} (at : get_el
         let u : View = bounder in
         let still = still_chained r id at u.learned u.tail u.round u.clock in
         let counted : high x ≤ w.count = subst (λ (z : ℕ). z ≤ w.count) (sym count) (omega arith) in
-        learn_lasts r id at u.learned u.tail u.round u.clock (λ main all. (count, line)) (assumption (h, counted))
+        learn_lasts r id at u.learned u.tail u.round u.clock (λ control all. (count, line)) (assumption (h, counted))
         (r.opens id v at) (r.floors id v at) (assumption still) (assumption (stays, bound_waits))
 
--- a load of the tail behind the last lane
+-- a load of the tail after the last lane
 pub load_bound_allowed : (given k : Key) → given ≡ k → (size id : ℕ) (me : Sat) (o : Round) → me.0.about ≡ k
     → CanLoadBound me.0 o → Allows (Ruled given) size id me 0 (λ n. n) (ToldLoadBound (step size 0 0 0 none) me)
 load_bound_allowed given k same size id me o about can =

@@ -19,7 +19,7 @@ module _ {k : Key} {w : World} (r : Rule k w) (id : ℕ) {v : View} (at : get_el
       let u : View = after_load_tail v x in
       let still = still_chained r id at u.learned u.tail v.round u.clock in
       let counted : high x ≤ w.count = subst (λ (z : ℕ). z ≤ w.count) (sym count) (omega arith) in
-      learn_lasts r id at u.learned u.tail v.round u.clock (λ main all. (count, line)) (assumption (h, counted))
+      learn_lasts r id at u.learned u.tail v.round u.clock (λ control all. (count, line)) (assumption (h, counted))
       (opens_begin r (high x) counted, r.opens id v at) (r.floors id v at) (assumption still) (r.registry.each id v at)
 
   -- the count only rises
@@ -36,8 +36,8 @@ module _ {k : Key} {w : World} (r : Rule k w) (id : ℕ) {v : View} (at : get_el
 
   -- while no lane is out, the tail is as it was left
   pub end_rests : (x : ℕ) → high x ≡ w.count → low x ≡ w.line → v.lane ≡ 1 → v.out ≡ [] → Rests (high x) (low x) v.tail
-  end_rests x count line main all = subst (λ (z : ℕ × ℕ). Rests z.0 z.1 v.tail)
-      (λ d. (sym count d, sym line d)) (r.tails id v at main all)
+  end_rests x count line control all = subst (λ (z : ℕ × ℕ). Rests z.0 z.1 v.tail)
+      (λ d. (sym count d, sym line d)) (r.tails id v at control all)
 
 -- a load of the tail
 pub load_tail_allowed : (given k : Key) → given ≡ k → (size id : ℕ) (me : Sat) → me.0.about ≡ k
@@ -55,6 +55,6 @@ load_tail_allowed given k same size id me about =
         from = subst (λ (z : Key). z.number ≤ high x) (sym about) (end_from r id at x refl);
         counted = end_counted r id at x refl;
         settled = end_settled r id at x refl;
-        rests = λ main all. end_rests r id at x refl refl main all;
+        rests = λ control all. end_rests r id at x refl refl control all;
       },
     ))

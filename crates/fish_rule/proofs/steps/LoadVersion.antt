@@ -112,6 +112,6 @@ load_version_allowed given k same size id me about =
         from = subst (λ (z : ℕ). me.0.about.version ≤ z) (sym word)
             (subst (λ (z : Key). z.version ≤ w.registry 2) (sym about) r.registry.versions.from);
         few = subst (λ (z : ℕ). z ≤ 512) (sym word) r.registry.versions.few;
-        main = λ e. word ∙ sym ((r.registry.each id me.0 at).main e).version;
+        control = λ e. word ∙ sym ((r.registry.each id me.0 at).control e).version;
       },
     ))

@@ -3,7 +3,7 @@ use Rattle.std.proofs.Common.{◌≡◌, ◌≢◌, ℕ, ◌+◌, ◌-◌, ◌*�
 use Rattle.std.proofs.Common.{Some, None, Option, get_or}
 use Rattle.fish_rule.proofs.basics.Context.{Among, Flight, Found, Key, Kind, Rule, View, World, get_elem?, none, some}
 use Rattle.fish_rule.proofs.basics.Bodies.{tail_is, published}
-use Rattle.fish_rule.proofs.basics.Lists.{all_among, only_main}
+use Rattle.fish_rule.proofs.basics.Lists.{all_among, only_control}
 use Rattle.fish_rule.proofs.classes.OtherViews.{one_view}
 use Rattle.fish_rule.proofs.basics.Lasts.{Lasts}
 use Rattle.fish_rule.specs.Parts.{Flies}
@@ -82,7 +82,7 @@ module _ {k : Key} {w : World} (r : Rule k w) (id : ℕ) {v : View} (at : get_el
       let above : k.number ≤ n = subst (λ (z : Key). z.number ≤ n) about can.above in
       let h = r.space.flying n above below unset in
       let live = flier h.view.flight h.flies (r.space.flights h.seat h.view h.at) in
-      let here : h.seat ≡ id = only_main w.views id h.seat v h.view r.seats at h.at alone.main alone.all live in
+      let here : h.seat ≡ id = only_control w.views id h.seat v h.view r.seats at h.at alone.control alone.all live in
       let same : h.view ≡ v = one_view w.views id h.view v
       (subst (λ (z : ℕ). get_elem? w.views z ≡ some h.view) here h.at) at in
       subst (λ (z : Option Flight). IsFlightOf n z) (ap (λ (z : View). z.flight) same ∙ alone.idle) h.flies

@@ -196,7 +196,7 @@ module _ (k : Key) (g : ℕ → ℕ) (fits : Fits k) (opening_ : IsOpening k.ver
           reached = omega arith;
           read = read_first k g opening_;
           unended = tt;
-          main = λ _. record { version = sym opening_.version; definitions = began k g opening_; owned = owned_first k g opening_ };
+          control = λ _. record { version = sym opening_.version; definitions = began k g opening_; owned = owned_first k g opening_ };
           waits = tt;
         });
     flights = each_one (λ v. Carries k g version_of v.lane v.epoch v.flight) (first_view k) tt;

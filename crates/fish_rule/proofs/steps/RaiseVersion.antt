@@ -9,7 +9,7 @@ use Rattle.fish_catalog.specs.declared.listed.Listed.{Listed}
 use Rattle.fish_layout.specs.Cleared.{choose}
 use Rattle.fish_rule.proofs.classes.BoundariesStay.{listed_later, lists_later, open_later, unended_later}
 use Rattle.fish_rule.proofs.basics.Lists.{each_set, has_own}
-use Rattle.fish_rule.proofs.classes.MainStores.{its, others_stay}
+use Rattle.fish_rule.proofs.classes.ControlStores.{its, others_stay}
 use Rattle.fish_rule.proofs.basics.RegistryWords.{length_made, length_registered}
 use Rattle.fish_rule.proofs.classes.OnRegistry.{carries_later, owned_far, read_later, register_lasts, registers}
 use Rattle.fish_rule.proofs.basics.Worlds.{world-registry}
@@ -32,7 +32,7 @@ most_later v v' (Announced u) less h = omega arith
 most_later v v' (Confirmed u) less h = omega arith
 
 module _ {k : Key} {w : World} (r : Rule k w) (id : ℕ) {v : View} (at : get_elem? w.views id ≡ some v)
-    (main : v.lane ≡ 1) (can : CanRaiseVersion v) where
+    (control : v.lane ≡ 1) (can : CanRaiseVersion v) where
   -- the words afterwards
   abbrev pub bumped : ℕ → ℕ
   bumped = put w.registry 2 (suc v.learned.version)
@@ -47,20 +47,20 @@ module _ {k : Key} {w : World} (r : Rule k w) (id : ℕ) {v : View} (at : get_el
 
   -- the index of a row that the operation ends has its end
   has_end : (n : ℕ) → n < 256 → w.registry (op_at (suc (version_in w.registry))) ≡ 512 + n → w.registry (row_at n 1) ≢ 0
-  has_end n few is endless = can.ends n (sym (op_is r id at main can) ∙ is)
-      (sym ((its r id at main).owned (row_at n 1) (inr (n, 1, few, omega arith, refl))) ∙ endless)
+  has_end n few is endless = can.ends n (sym (op_is r id at control can) ∙ is)
+      (sym ((its r id at control).owned (row_at n 1) (inr (n, 1, few, omega arith, refl))) ∙ endless)
 
   -- what has no end had not ended, and the operation ends it not
   open_then : (n : ℕ) → n < 256 → w.registry (row_at n 1) ≡ 0
       → IsOpenIn (made w.registry (w.registry (op_at (suc (version_in w.registry)))) before) n
   open_then n few endless = open_made w.registry (w.registry (op_at (suc (version_in w.registry)))) before n
-      (operation r id at main can)
+      (operation r id at control can)
       (r.registry.versions.listings (version_in w.registry) (omega arith))
       (λ is. has_end n few is endless) (r.registry.boundaries.running n (version_in w.registry) few endless (omega arith))
 
   -- boundaries stay
   same_bound : (n i : ℕ) → n < 256 → i < 2 → bumped (row_at n i) ≡ w.registry (row_at n i)
-  same_bound n i few bound = else_ r id at main can (row_at n i) (λ e. omega arith)
+  same_bound n i few bound = else_ r id at control can (row_at n i) (λ e. omega arith)
 
   -- what boundaries mean stays so
   bump_boundaries : Boundaries k w.count bumped r.state r.version_of
@@ -79,16 +79,16 @@ module _ {k : Key} {w : World} (r : Rule k w) (id : ℕ) {v : View} (at : get_el
           stays = λ i x bound e. same_bound n i few bound ∙ o.stays i x bound e;
         };
         early = λ n i x few bound is. h.early n i x few bound (sym (same_bound n i few bound) ∙ is);
-        entered = λ n x l few is above below. lists_later k w.registry bumped (bump_endures r id at main can) n
+        entered = λ n x l few is above below. lists_later k w.registry bumped (bump_endures r id at control can) n
             (r.state l)
             (r.registry.epochs.past l above below)
             (h.entered n x l few (sym (same_bound n 0 few (omega arith)) ∙ is) above below);
         begun = λ n from m few is above after below. listed_later k w.registry bumped
-            (bump_endures r id at main can) n (r.version_of m)
+            (bump_endures r id at control can) n (r.version_of m)
             (versions.upto m above below)
             (h.begun n from m few (sym (same_bound n 0 few (omega arith)) ∙ is) above after below);
         unended = λ n to m few is above before_ below. open_later k w.registry bumped
-            (bump_endures r id at main can) n (r.version_of m)
+            (bump_endures r id at control can) n (r.version_of m)
             (versions.upto m above below)
             (h.unended n to m few (sym (same_bound n 1 few (omega arith)) ∙ is) above before_ below);
         running = λ n u few endless reached. opened_at n u few (sym (same_bound n 1 few (omega arith)) ∙ endless) reached
@@ -99,21 +99,21 @@ module _ {k : Key} {w : World} (r : Rule k w) (id : ℕ) {v : View} (at : get_el
       fewer n more =
           let size : length (definitions_at k bumped (version_in bumped)) ≡ length
           (made w.registry (w.registry (op_at (suc (version_in w.registry)))) before) =
-          ap (λ (z : List Listed). length z) (ap (definitions_at k bumped) (up r id at main can) ∙
-          (made_now r id at main can)) in
+          ap (λ (z : List Listed). length z) (ap (definitions_at k bumped) (up r id at control can) ∙
+          (made_now r id at control can)) in
           let grows = length_made w.registry (w.registry (op_at (suc (version_in w.registry)))) before in
           omega arith
 
       opened_at : (n u : ℕ) → n < 256 → w.registry (row_at n 1) ≡ 0 → u ≤ version_in bumped
           → Dec (u ≤ version_in w.registry) → IsOpenIn (definitions_at k bumped u) n
       opened_at n u few endless reached (yes old) = open_later k w.registry bumped
-          (bump_endures r id at main can) n u old
+          (bump_endures r id at control can) n u old
           (r.registry.boundaries.running n u few endless old)
       opened_at n u few endless reached (no new) =
-          let rise = up r id at main can in
+          let rise = up r id at control can in
           let e : suc (version_in w.registry) ≡ u = omega arith in
           subst (λ (z : ℕ). IsOpenIn (definitions_at k bumped z) n) e
-          (subst (λ (z : List Listed). IsOpenIn z n) (sym (made_now r id at main can)) (open_then n few endless))
+          (subst (λ (z : List Listed). IsOpenIn z n) (sym (made_now r id at control can)) (open_then n few endless))
 
   -- a registration waits from here on
   bump_waits : Waits k w.count bumped r.state r.version_of v.lane
@@ -121,13 +121,13 @@ module _ {k : Key} {w : World} (r : Rule k w) (id : ℕ) {v : View} (at : get_el
   bump_waits = by (dec_lt (next_operation v) 512)
     where
       size : length before ≡ length v.rows
-      size = ap (λ (z : List Listed). length z) (its r id at main).definitions
+      size = ap (λ (z : List Listed). length z) (its r id at control).definitions
 
       room : next_operation v < 512 → length v.rows < 256
       room less = ⊎_elim (λ h. let q = h.1.room in omega arith) (λ h. let q = h.1 in absurd (omega arith)) can.operation
 
       here : r.state 1 ≡ Out
-      here = ap r.state (sym main)
+      here = ap r.state (sym control)
           ∙ ((r.registry.each id v at).tied v.lane (has_own w.views id v at (omega arith) r.seats)).0 refl ∙ can.outside
 
       by : (d : Dec (next_operation v < 512)) → Waits k w.count bumped r.state r.version_of v.lane
@@ -139,18 +139,18 @@ module _ {k : Key} {w : World} (r : Rule k w) (id : ℕ) {v : View} (at : get_el
           })) None)
       by (no h) = tt
       by (yes less) =
-          let seen = (its r id at main).version in
-          let rise = up r id at main can in
-          let op = op_is r id at main can in
+          let seen = (its r id at control).version in
+          let rise = up r id at control can in
+          let op = op_is r id at control can in
           let grown = length_registered w.registry (w.registry (op_at (suc (version_in w.registry)))) before
           (omega arith) in
           let now : length (definitions_at k bumped (suc (version_in w.registry))) ≡ length
           (made w.registry (w.registry (op_at (suc (version_in w.registry)))) before) =
-          ap (λ (z : List Listed). length z) (made_now r id at main can) in
+          ap (λ (z : List Listed). length z) (made_now r id at control can) in
           let e : suc (version_in w.registry) ≡ suc v.learned.version = omega arith in
           let sized = size in
           record {
-            main = main;
+            control = control;
             few = room less;
             reached = omega arith;
             listed = subst (λ (z : ℕ). length v.rows < length (definitions_at k bumped z)) e (omega arith);
@@ -166,34 +166,34 @@ module _ {k : Key} {w : World} (r : Rule k w) (id : ℕ) {v : View} (at : get_el
   bump_stays : Stays k w.count bumped r.state r.version_of bumper
   bump_stays =
       let h = r.registry.each id v at in
-      let rise = up r id at main can in
-      let seen = (its r id at main).version in
+      let rise = up r id at control can in
+      let seen = (its r id at control).version in
       record {
         tied = h.tied;
         from = λ live. (let a = h.from live in omega arith);
         since = h.since;
         reached = omega arith;
-        read = read_later k w.registry bumped (bump_endures r id at main can) v.learned.words h.read;
-        unended = unended_later k w.registry bumped (bump_endures r id at main can) w.count r.version_of
+        read = read_later k w.registry bumped (bump_endures r id at control can) v.learned.words h.read;
+        unended = unended_later k w.registry bumped (bump_endures r id at control can) w.count r.version_of
             r.registry.versions
             v.learned.unended h.unended;
-        main = λ _. record {
-          version = ap suc (its r id at main).version ∙ sym (up r id at main can);
-          definitions = made_known r id at main can;
-          owned = λ q u. let b = owned_then q u in else_ r id at main can q (away q b) ∙
-              (its r id at main).owned q b;
+        control = λ _. record {
+          version = ap suc (its r id at control).version ∙ sym (up r id at control can);
+          definitions = made_known r id at control can;
+          owned = λ q u. let b = owned_then q u in else_ r id at control can q (away q b) ∙
+              (its r id at control).owned q b;
         };
         waits = bump_waits;
       }
     where
       unmade_then : (q : ℕ) → IsUnmade k bumped q → IsUnmade k w.registry q
-      unmade_then q (inl h) = (let rise = up r id at main can in let a = h.1 in inl
+      unmade_then q (inl h) = (let rise = up r id at control can in let a = h.1 in inl
           (h.0, (omega arith), h.2, h.3))
       unmade_then q (inr h) =
           let size : length (definitions_at k bumped (version_in bumped)) ≡ length
           (made w.registry (w.registry (op_at (suc (version_in w.registry)))) before) =
-          ap (λ (z : List Listed). length z) (ap (definitions_at k bumped) (up r id at main can) ∙
-          (made_now r id at main can)) in
+          ap (λ (z : List Listed). length z) (ap (definitions_at k bumped) (up r id at control can) ∙
+          (made_now r id at control can)) in
           let grows = length_made w.registry (w.registry (op_at (suc (version_in w.registry)))) before in
           let a = h.2 in
           inr (h.0, h.1, (omega arith), h.3, h.4, h.5)
@@ -209,30 +209,30 @@ module _ {k : Key} {w : World} (r : Rule k w) (id : ℕ) {v : View} (at : get_el
   bump_registry : Registry k w.count bumped r.state r.version_of (set w.views id bumper)
   bump_registry = record {
     epochs = record {
-      words = λ l above below. else_ r id at main can (epoch_at l) (λ e. omega arith) ∙ r.registry.epochs.words
+      words = λ l above below. else_ r id at control can (epoch_at l) (λ e. omega arith) ∙ r.registry.epochs.words
           l above below;
       past = λ l above below. most_later (version_in w.registry) (version_in bumped) (r.state l)
-          (let rise = up r id at main can in omega arith) (r.registry.epochs.past l above below);
+          (let rise = up r id at control can in omega arith) (r.registry.epochs.past l above below);
     };
-    versions = bump_versions r id at main can;
+    versions = bump_versions r id at control can;
     boundaries = bump_boundaries;
-    each = each_set _ w.views id bumper (others_stay r id at main bumped (bump_endures r id at main can))
+    each = each_set _ w.views id bumper (others_stay r id at control bumped (bump_endures r id at control can))
         bump_stays;
     flights = each_set _ w.views id bumper
-        (λ j u ne at_u. carries_later k w.registry bumped (bump_endures r id at main can) r.version_of u.lane
+        (λ j u ne at_u. carries_later k w.registry bumped (bump_endures r id at control can) r.version_of u.lane
         u.epoch u.flight
         (r.registry.flights j u at_u))
-        (carries_later k w.registry bumped (bump_endures r id at main can) r.version_of v.lane v.epoch v.flight
+        (carries_later k w.registry bumped (bump_endures r id at control can) r.version_of v.lane v.epoch v.flight
         (r.registry.flights id v at));
   }
 
   -- a bump keeps the rule, and all that lasts
   pub raise_version_lasts : Lasts r (record w { registry = bumped; views = set w.views id bumper })
   raise_version_lasts = (
-    registers r id at bumped v.epoch (suc v.learned.version) v.learned.words bumper.rows v.main_words bumper.round
-        (ticked v.clock) (bump_endures r id at main can) r.state bump_registry,
-    register_lasts r id at bumped v.epoch (suc v.learned.version) v.learned.words bumper.rows v.main_words
-        bumper.round (ticked v.clock) (bump_endures r id at main can) r.state bump_registry,
+    registers r id at bumped v.epoch (suc v.learned.version) v.learned.words bumper.rows v.control_words bumper.round
+        (ticked v.clock) (bump_endures r id at control can) r.state bump_registry,
+    register_lasts r id at bumped v.epoch (suc v.learned.version) v.learned.words bumper.rows v.control_words
+        bumper.round (ticked v.clock) (bump_endures r id at control can) r.state bump_registry,
   )
 
 -- a store of the version plus one
@@ -245,7 +245,7 @@ raise_version_allowed given k same size id me x about can is =
     let v' : View = after_raise_version me.0 in
     let kept : Rule k (record w { registry = put w.registry 2 x; views = set vs id v' }) =
     subst (λ (z : ℕ). Rule k (record w { registry = put w.registry 2 z; views = set vs id v' })) (sym is)
-    (raise_version_lasts r id at can.main can).0 in
+    (raise_version_lasts r id at can.control can).0 in
     let moved = world-registry k ws vs (set vs id v') 2 x (omega arith) (omega arith) wide in (
       v',
       subst (Rule k) (sym moved) kept,

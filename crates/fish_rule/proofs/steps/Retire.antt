@@ -29,7 +29,7 @@ module _ {k : Key} {w : World} (r : Rule k w) (id : ℕ) {v : View} (at : get_el
         (λ p ne. put-else w.registry (epoch_at v.lane) 0 p ne)
         (λ _ _. put-here w.registry (epoch_at v.lane) 0) (r.registry.each id v at).from
         (λ s a b. tt) (λ n a b. tt) (λ _ _. tt)
-        (r.registry.each id v at).reached (λ e. ((r.registry.each id v at).main e).version)
+        (r.registry.each id v at).reached (λ e. ((r.registry.each id v at).control e).version)
         (carries_none k w.registry r.version_of v.lane Out v.flight can.idle) (ticked v.clock)
 
 -- a store of 0 there

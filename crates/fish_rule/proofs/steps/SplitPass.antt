@@ -41,13 +41,13 @@ module _ {k : Key} {w : World} (r : Rule k w) (id : ℕ) {v : View} (at : get_el
 
   -- before it the control pass has lane l
   had : Has v.lane v.out l
-  had = (let a = can.above in (omega arith, can.below, inr (can.main, can.here)))
+  had = (let a = can.above in (omega arith, can.below, inr (can.control, can.here)))
 
   -- after it no pass but the new one has it
   gone : (j : ℕ) (u : View) → get_elem? cut j ≡ some u → ¬ Has u.lane u.out l
   gone = each_set (λ u. ¬ Has u.lane u.out l) w.views id left
       (λ j u ne at_u has. ne (r.seats.apart j id u v l at_u at has had))
-      (λ has. (left_has v.lane l v.out l can.main can.above has).1 refl)
+      (λ has. (left_has v.lane l v.out l can.control can.above has).1 refl)
 
   -- no two passes have one lane
   split_seats : Seats (cut ++ right ∷ [])
@@ -66,12 +66,12 @@ module _ {k : Key} {w : World} (r : Rule k w) (id : ℕ) {v : View} (at : get_el
   }
     where
       back : (x : ℕ) → Has v.lane (l ∷ v.out) x → Has v.lane v.out x
-      back x h = (left_has v.lane l v.out x can.main can.above h).0
+      back x h = (left_has v.lane l v.out x can.control can.above h).0
 
   -- the lanes that may still overflow are those that might before
   split_limit : Limit k w.count (cut ++ right ∷ []) r.start r.quota
   split_limit = limit_views r.limit (each_cut _ r.limit.may
-      (λ x has may. r.limit.may id v at x (left_has v.lane l v.out x can.main can.above has).0 may)
+      (λ x has may. r.limit.may id v at x (left_has v.lane l v.out x can.control can.above has).0 may)
       (λ x has may. subst (λ (z : ℕ). r.quota z ≡ 1) (sym (has_one l [] x can.above has))
       (r.limit.may id v at l had (may.0, not_over k.end v.flight can.idle))))
 
@@ -85,7 +85,7 @@ module _ {k : Key} {w : World} (r : Rule k w) (id : ℕ) {v : View} (at : get_el
             let t = h.sound o s.0 in
             (has_left v.lane l v.out o.lane t.0 s.1, t.1);
         complete = λ o has stored.
-            let s = left_has v.lane l v.out o.lane can.main can.above has in
+            let s = left_has v.lane l v.out o.lane can.control can.above has in
             off_lane_complete l o v.own (h.complete o s.0 stored) s.1;
       }
 
@@ -129,13 +129,13 @@ module _ {k : Key} {w : World} (r : Rule k w) (id : ℕ) {v : View} (at : get_el
   -- the control pass is as far entered as before, and the lane that it gave out is out
   left_stays : Stays k w.count w.registry r.state r.version_of left
   left_stays = (let h = r.registry.each id v at in record {
-    tied = λ x has. h.tied x (left_has v.lane l v.out x can.main can.above has).0;
+    tied = λ x has. h.tied x (left_has v.lane l v.out x can.control can.above has).0;
     from = h.from;
     since = h.since;
     reached = h.reached;
     read = h.read;
     unended = h.unended;
-    main = h.main;
+    control = h.control;
     waits = h.waits;
   })
 
@@ -143,9 +143,9 @@ module _ {k : Key} {w : World} (r : Rule k w) (id : ℕ) {v : View} (at : get_el
   right_stays : Stays k w.count w.registry r.state r.version_of right
   right_stays =
       let h = r.registry.each id v at in
-      let main = can.main in
+      let control = can.control in
       let above = can.above in
-      let here : Has v.lane v.out l = (omega arith, can.below, inr (can.main, can.here)) in
+      let here : Has v.lane v.out l = (omega arith, can.below, inr (can.control, can.here)) in
       let state : r.state l ≡ Out = (h.tied l here).1 (λ e. omega arith) in
       record {
         tied = λ x has. let e : x ≡ l = has_one l [] x can.above has in
@@ -155,7 +155,7 @@ module _ {k : Key} {w : World} (r : Rule k w) (id : ℕ) {v : View} (at : get_el
         reached = h.reached;
         read = h.read;
         unended = h.unended;
-        main = λ e. absurd (omega arith);
+        control = λ e. absurd (omega arith);
         waits = tt;
       }
 
@@ -178,9 +178,9 @@ module _ {k : Key} {w : World} (r : Rule k w) (id : ℕ) {v : View} (at : get_el
     quota = r.quota;
     state = r.state;
     key_fits = r.key_fits;
-    about = each_cut _ r.about (r.about id v at) (λ _. let m = can.main in r.about id v at (omega arith));
+    about = each_cut _ r.about (r.about id v at) (λ _. let m = can.control in r.about id v at (omega arith));
     seats = split_seats;
-    tails = each_cut _ r.tails (λ main all. cc) (λ main all. let a = can.above in absurd (omega arith));
+    tails = each_cut _ r.tails (λ control all. cc) (λ control all. let a = can.above in absurd (omega arith));
     space = record {
       regions = r.space.regions;
       finished = r.space.finished;

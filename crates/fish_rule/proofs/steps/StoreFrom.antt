@@ -1,7 +1,7 @@
 -- `store_from`: the control pass stores where the index of the row that waits begins.
 use Rattle.std.proofs.Common.{◌≡◌, ℕ, ◌<◌, ◌≤◌, suc, length, set, subst, arith, None, ◌-◌, sym, refl}
 use Rattle.fish_rule.proofs.basics.Context.{Epoch, Key, Rule, View, World, get_elem?, none, some}
-use Rattle.fish_rule.proofs.classes.MainStores.{stores}
+use Rattle.fish_rule.proofs.classes.ControlStores.{stores}
 use Rattle.fish_rule.proofs.basics.RegistryWords.{length_grows}
 use Rattle.fish_rule.proofs.basics.Lasts.{Lasts}
 use Rattle.fish_rule.specs.Boundaries.{Lists}
@@ -40,11 +40,11 @@ module _ {k : Key} {w : World} (r : Rule k w) (id : ℕ) {v : View} (at : get_el
     store_from_lasts =
         let h = waiting in
         let b = h.bound n can.bound in
-        stores r id at can.main (row_at o.id 0) (suc n)
-        (place_far r id at can.main o.id 0 n h.few (omega arith) h.unset)
-        (place_away r id at can.main o.id 0 n h.few (omega arith) h.unset) None _
-        (set_read r id at can.main o.id 0 n h.few (omega arith) h.unset)
-        (set_boundaries r id at can.main o.id 0 n h.few (omega arith) h.unset b.above b.within
+        stores r id at can.control (row_at o.id 0) (suc n)
+        (place_far r id at can.control o.id 0 n h.few (omega arith) h.unset)
+        (place_away r id at can.control o.id 0 n h.few (omega arith) h.unset) None _
+        (set_read r id at can.control o.id 0 n h.few (omega arith) h.unset)
+        (set_boundaries r id at can.control o.id 0 n h.few (omega arith) h.unset b.above b.within
         (has_it (version_in w.registry) h.reached) (λ e. absurd (omega arith)) (λ e. absurd (omega arith))
         (λ e l above below. lists_it (r.state l) (h.clear l above below (b.all l above below)))
         (λ e m above after below. has_it (r.version_of m) (b.since m above after below)) (λ e. absurd (omega arith))) tt

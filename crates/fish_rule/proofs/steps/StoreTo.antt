@@ -4,7 +4,7 @@ use Rattle.std.proofs.lemmas.Option.{slice_get_within}
 use Rattle.fish_rule.proofs.basics.Context.{Key, Rule, View, World, get_elem?, none, some}
 use Rattle.fish_catalog.specs.declared.listed.Listed.{Listed}
 use Rattle.fish_rule.proofs.classes.BoundariesStay.{waits_later}
-use Rattle.fish_rule.proofs.classes.MainStores.{its, stores}
+use Rattle.fish_rule.proofs.classes.ControlStores.{its, stores}
 use Rattle.fish_rule.proofs.basics.Lasts.{Lasts}
 use Rattle.fish_rule.specs.BoundarySteps.{CanStoreTo, after_store_to}
 use Rattle.fish_rule.specs.Registry.{definitions_at, row_at, version_in}
@@ -18,14 +18,14 @@ module _ {k : Key} {w : World} (r : Rule k w) (id : ℕ) {v : View} (at : get_el
   module _ (row n : ℕ) (can : CanStoreTo v row n) where
     -- a boundary is as the control pass knows it
     known_bound : (i : ℕ) → i < 2
-        → w.registry (row_at row i) ≡ Rattle.fish_rule.specs.Registry.main_word v.main_words (row_at row i)
-    known_bound i small = (its r id at can.main).owned (row_at row i) (inr (row, i, can.few, small, refl))
+        → w.registry (row_at row i) ≡ Rattle.fish_rule.specs.Registry.control_word v.control_words (row_at row i)
+    known_bound i small = (its r id at can.control).owned (row_at row i) (inr (row, i, can.few, small, refl))
 
     -- the row is made
     row_made : row < length (definitions_at k w.registry (version_in w.registry))
     row_made =
         let size : length (definitions_at k w.registry (version_in w.registry)) ≡ length v.rows =
-        ap (λ (z : List Listed). length z) (its r id at can.main).definitions in
+        ap (λ (z : List Listed). length z) (its r id at can.control).definitions in
         let there = slice_get_within v.rows row can.on.listed can.on.there in
         omega arith
 
@@ -40,23 +40,23 @@ module _ {k : Key} {w : World} (r : Rule k w) (id : ℕ) {v : View} (at : get_el
     })
     store_to_lasts =
         let counted = (r.facts id v at).counted in
-        let live : 1 ≤ v.lane = (let m = can.main in omega arith) in
+        let live : 1 ≤ v.lane = (let m = can.control in omega arith) in
         let within = can.within in
         let above : k.number ≤ n = subst (λ (z : Key). z.number ≤ n) (r.about id v at live) can.above in
         let stays = r.registry.each id v at in
-        stores r id at can.main (row_at row 1) (suc n)
-        (place_far r id at can.main row 1 n can.few (omega arith) none_yet)
-        (place_away r id at can.main row 1 n can.few (omega arith) none_yet) v.round _
-        (set_read r id at can.main row 1 n can.few (omega arith) none_yet)
-        (set_boundaries r id at can.main row 1 n can.few (omega arith) none_yet above (omega arith) row_made
+        stores r id at can.control (row_at row 1) (suc n)
+        (place_far r id at can.control row 1 n can.few (omega arith) none_yet)
+        (place_away r id at can.control row 1 n can.few (omega arith) none_yet) v.round _
+        (set_read r id at can.control row 1 n can.few (omega arith) none_yet)
+        (set_boundaries r id at can.control row 1 n can.few (omega arith) none_yet above (omega arith) row_made
         (λ e z. can.began (sym (known_bound 0 (omega arith)) ∙ z))
         (λ e from is. can.after from (sym (known_bound 0 (omega arith)) ∙ is)) (λ e. absurd (omega arith))
         (λ e. absurd (omega arith))
         (λ e m above before below. r.registry.boundaries.running row (r.version_of m) can.few none_yet
         (r.registry.versions.upto m above below)))
         (waits_later k w.registry _
-        (set_endures r id at can.main row 1 n can.few (omega arith) none_yet) w.count r.state r.state r.version_of
-        v.lane (λ m small. other_bound r id at can.main row 1 n can.few (omega arith) none_yet m 0 (omega arith)
+        (set_endures r id at can.control row 1 n can.few (omega arith) none_yet) w.count r.state r.state r.version_of
+        v.lane (λ m small. other_bound r id at can.control row 1 n can.few (omega arith) none_yet m 0 (omega arith)
         (λ e. let a = e.1 in omega arith)) (λ l s above below reached h. h) v.round stays.waits)
 
 -- a store of where one ends

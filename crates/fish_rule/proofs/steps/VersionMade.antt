@@ -10,14 +10,14 @@ use Rattle.fish_catalog.specs.Listing.{IsListing, ended, ended_at, listed_in}
 use Rattle.fish_catalog.specs.declared.listed.Listed.{Listed}
 use Rattle.fish_layout.proofs.Clearing.{choose_first, choose_second}
 use Rattle.fish_layout.specs.Cleared.{choose}
-use Rattle.fish_rule.proofs.classes.MainStores.{its}
+use Rattle.fish_rule.proofs.classes.ControlStores.{its}
 use Rattle.fish_rule.proofs.basics.RegistryWords.{definitions_later, definitions_next, made_same}
 use Rattle.fish_rule.proofs.classes.OnRegistry.{listing_later, operation_kept, operation_later, rows_later}
 use Rattle.fish_rule.proofs.basics.Worlds.{put-else, put-here}
 use Rattle.fish_rule.specs.Boundaries.{IsOpenIn}
 use Rattle.fish_rule.specs.RegistrySteps.{CanRaiseVersion, next_operation}
 use Rattle.fish_rule.specs.Epochs.{Versions}
-use Rattle.fish_rule.specs.Registry.{Endures, IsLasting, IsOperation, definitions_at, main_word, made, op_at, row_at}
+use Rattle.fish_rule.specs.Registry.{Endures, IsLasting, IsOperation, definitions_at, control_word, made, op_at, row_at}
 use Rattle.fish_rule.specs.Registry.{row_in, version_in}
 use Rattle.fish_rule.specs.World.{put}
 
@@ -60,7 +60,7 @@ open_made f x ls n (inr t) listing other h =
     (sym was.2 ∙ choose_second (ℕ_discrete was.0.id (x % 256)) (ended was.0) was.0 kept) ∙ h was.0 was.1)
 
 module _ {k : Key} {w : World} (r : Rule k w) (id : ℕ) {v : View} (at : get_elem? w.views id ≡ some v)
-    (main : v.lane ≡ 1) (can : CanRaiseVersion v) where
+    (control : v.lane ≡ 1) (can : CanRaiseVersion v) where
   -- the words afterwards
   abbrev pub bumped : ℕ → ℕ
   bumped = put w.registry 2 (suc v.learned.version)
@@ -71,7 +71,7 @@ module _ {k : Key} {w : World} (r : Rule k w) (id : ℕ) {v : View} (at : get_el
 
   -- the version is one more
   pub up : version_in bumped ≡ suc (version_in w.registry)
-  up = put-here w.registry 2 (suc v.learned.version) ∙ ap suc (its r id at main).version
+  up = put-here w.registry 2 (suc v.learned.version) ∙ ap suc (its r id at control).version
 
   -- no other word has changed
   pub else_ : (q : ℕ) → q ≢ 2 → bumped q ≡ w.registry q
@@ -91,24 +91,24 @@ module _ {k : Key} {w : World} (r : Rule k w) (id : ℕ) {v : View} (at : get_el
   pub op_is : w.registry (op_at (suc (version_in w.registry))) ≡ next_operation v
   op_is =
       let few = can.few in
-      let e = (its r id at main).version in
-      (its r id at main).owned (op_at (suc (version_in w.registry)))
+      let e = (its r id at control).version in
+      (its r id at control).owned (op_at (suc (version_in w.registry)))
       (inl (inl (suc (version_in w.registry), (omega arith), (omega arith), refl)))
-      ∙ ap (λ (z : ℕ). main_word v.main_words (op_at (suc z))) (sym (its r id at main).version)
+      ∙ ap (λ (z : ℕ). control_word v.control_words (op_at (suc z))) (sym (its r id at control).version)
 
   -- and so does the next row
   row_is : length v.rows < 256 → (i : ℕ) → i < 39
-      → w.registry (row_at (length v.rows) i) ≡ main_word v.main_words (row_at (length v.rows) i)
+      → w.registry (row_at (length v.rows) i) ≡ control_word v.control_words (row_at (length v.rows) i)
   row_is room i few =
-      let size : length before ≡ length v.rows = ap (λ (z : List Listed). length z) (its r id at main).definitions in
-      (its r id at main).owned (row_at (length v.rows) i)
+      let size : length before ≡ length v.rows = ap (λ (z : List Listed). length z) (its r id at control).definitions in
+      (its r id at control).owned (row_at (length v.rows) i)
       (inl (inr (length v.rows, i, (omega arith), room, few, refl)))
 
   -- the operation is one that may be made
   pub operation : IsOperation (row_in w.registry (length before)) before (w.registry (op_at (suc (version_in w.registry))))
   operation = subst (λ (z : List Listed × ℕ). IsOperation (row_in w.registry (length z.0)) z.0 z.1)
-      (λ i. (sym (its r id at main).definitions i, sym op_is i))
-      (operation_later (row_in (main_word v.main_words) (length v.rows)) (row_in w.registry (length v.rows)) v.rows
+      (λ i. (sym (its r id at control).definitions i, sym op_is i))
+      (operation_later (row_in (control_word v.control_words) (length v.rows)) (row_in w.registry (length v.rows)) v.rows
       (next_operation v) (λ room few i a b. row_is room i b) can.operation)
 
   -- the definitions up to the old version stay
@@ -128,10 +128,10 @@ module _ {k : Key} {w : World} (r : Rule k w) (id : ℕ) {v : View} (at : get_el
 
   -- as the control pass stored them
   pub made_known : definitions_at k bumped (version_in bumped)
-      ≡ made (main_word v.main_words) (next_operation v) v.rows
+      ≡ made (control_word v.control_words) (next_operation v) v.rows
   made_known = ap (definitions_at k bumped) up ∙ made_now
-      ∙ (λ j. made w.registry (op_is j) ((its r id at main).definitions j))
-      ∙ made_same (main_word v.main_words) w.registry (next_operation v) v.rows (λ less i a b. row_is (room less) i b)
+      ∙ (λ j. made w.registry (op_is j) ((its r id at control).definitions j))
+      ∙ made_same (control_word v.control_words) w.registry (next_operation v) v.rows (λ less i a b. row_is (room less) i b)
     where
       room : next_operation v < 512 → length v.rows < 256
       room less = ⊎_elim (λ h. let q = h.1.room in omega arith) (λ h. let q = h.1 in absurd (omega arith)) can.operation
@@ -141,7 +141,7 @@ module _ {k : Key} {w : World} (r : Rule k w) (id : ℕ) {v : View} (at : get_el
   bump_versions =
       let h = r.registry.versions in
       let few_ = can.few in
-      let e = (its r id at main).version in
+      let e = (its r id at control).version in
       let rise = up in
       let from_ = h.from in
       record {

@@ -4,7 +4,7 @@ use Rattle.std.specs.Prelude.{ℕ, ◌≡◌, ◌+◌, List, [], Option, length}
 use Rattle.fish_feed.specs.Queues.{IsQueue, MayEnd}
 use Rattle.fish_feed.specs.Works.{AreDone, Pairs, Triples}
 use Rattle.fish_feed.specs.declared.queue.Queue.{Queue}
-use Rattle.fish_lanes.specs.Blocks.{At, IsNewLane}
+use Rattle.fish_lanes.specs.Blocks.{EachLane, IsNewLane}
 use Rattle.fish_lanes.specs.declared.block.BlockEnd.{BlockEnd}
 use Rattle.fish_lanes.specs.declared.lane.Lane.{Lane}
 use Rattle.fish_lanes.specs.declared.work.Work.{Work}
@@ -21,7 +21,7 @@ use Rattle.fish_store.specs.declared.store.Store.{Store}
 -- so many lanes have the numbers from 1 on, and no statement yet
 pub record AreNewLanes (count : ℕ) (lanes : List Lane) : Type 0 where
   pub many : length lanes ≡ count
-  pub new : At (λ i x. IsNewLane (i + 1) x × (x.works ≡ [])) lanes
+  pub new : EachLane (λ i x. IsNewLane (i + 1) x × (x.works ≡ [])) lanes
 
 -- the lanes of these queues were given nothing yet
 abbrev pub AreUngiven

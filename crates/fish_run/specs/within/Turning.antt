@@ -2,7 +2,7 @@
 use Rattle.std.specs.Prelude.{ℕ, ◌≡◌, ◌+◌, ◌-◌, ◌*◌, ◌<◌, List, Bool, true, false, Option, Some, None, length}
 use Rattle.std.specs.List.{list_any}
 use Rattle.fish_feed.specs.Queues.{AreIdle}
-use Rattle.fish_lanes.specs.Blocks.{AreLanes, At}
+use Rattle.fish_lanes.specs.Blocks.{AreLanes, EachLane}
 use Rattle.fish_lanes.specs.declared.lane.Lane.{Lane}
 use Rattle.fish_lanes.specs.declared.work.Work.{Work}
 use Rattle.fish_report.specs.declared.item.Item.{Item}
@@ -28,7 +28,7 @@ says_full x = false
 
 -- no item of a lane does
 abbrev pub FindNoneFull : List Lane → Type 0
-FindNoneFull lanes = At (λ i x. list_any says_full x.items ≡ false) lanes
+FindNoneFull lanes = EachLane (λ i x. list_any says_full x.items ≡ false) lanes
 
 -- ---- a round
 

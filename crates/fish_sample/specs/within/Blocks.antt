@@ -3,10 +3,10 @@ use Rattle.std.specs.Prelude.{ℕ, ◌≡◌, ◌+◌, ◌<◌, ◌≤◌, List,
 use Rattle.std.specs.Prelude.{slice_get, true}
 use Rattle.fish_catalog.specs.declared.row.CatRow.{CatRow}
 use Rattle.fish_lang.specs.Canonical.{definition_text}
-use Rattle.fish_lanes.specs.Blocks.{At, Both, SaysBlock}
+use Rattle.fish_lanes.specs.Blocks.{EachLane, EachLanePair, SaysBlock}
 use Rattle.fish_lanes.specs.Controlling.{CanControl}
 use Rattle.fish_lanes.specs.Ending.{HasEnd}
-use Rattle.fish_lanes.specs.Registering.{AreSo, KnowsRegistry, after_all, registry_of}
+use Rattle.fish_lanes.specs.Registering.{ItemsFit, KnowsRegistry, after_all, registry_of}
 use Rattle.fish_lanes.specs.Spans.{Span, answers}
 use Rattle.fish_lanes.specs.declared.lane.Lane.{Lane}
 use Rattle.fish_psf.specs.Records.{evaluation}
@@ -24,7 +24,7 @@ use Rattle.fish_scan.specs.Older.{selectable}
 use Rattle.fish_store.specs.Points.{point_at}
 use Rattle.fish_store.specs.Sound.{MayGoOn, Sound}
 use Rattle.fish_store.specs.declared.store.Store.{Store}
-use Rattle.fish_whole.specs.Whole.{Later, Whole, Will}
+use Rattle.fish_whole.specs.Whole.{Later, Whole, WillHold}
 
 -- the content of a disk of this kind is always told
 abbrev pub IsAlwaysShown : {D : Type 0} → (D → Option (List ℕ)) → Type 0
@@ -84,12 +84,13 @@ pub record HasRun {D : Type 0} (content : D → Option (List ℕ)) (images : D �
     (from : ℕ) (old : List Lane) (disk' : D) (t : Store) (to : ℕ) (new : List Lane) : Type 0 where
   pub between : IsBetween images disk' t to
   pub goes : Goes content images disk s disk' t
-  pub kept : Both (λ i x y. y.works ≡ x.works) old new
+  pub kept : EachLanePair (λ i x y. y.works ≡ x.works) old new
   pub many : length new ≡ length old
-  pub ended : At (λ i x. length (answers x.items) ≡ length x.works) new
+  pub ended : EachLane (λ i x. length (answers x.items) ≡ length x.works) new
   pub told : (past : Whole) → Sound content images (point_at disk s) past → (from ≤ to)
-      × Will past (view t.pass) (λ w. SaysBlock w (span_of (view s.pass) (view t.pass) from to (length new)) new)
-  pub so : (x : Lane) → slice_get new 0 ≡ Some x → AreSo from (to + 16) (registry_of (view s.pass) s.registrar) x.items
+      × WillHold past (view t.pass) (λ w. SaysBlock w (span_of (view s.pass) (view t.pass) from to (length new)) new)
+  pub so : (x : Lane) → slice_get new 0 ≡ Some x
+      → ItemsFit from (to + 16) (registry_of (view s.pass) s.registrar) x.items
   pub registry : (x : Lane) → slice_get new 0 ≡ Some x
       → registry_of (view t.pass) t.registrar ≡ after_all (registry_of (view s.pass) s.registrar) x.items
 
@@ -116,7 +117,7 @@ pub record HasDefined {D : Type 0} (content : D → Option (List ℕ)) (images :
   pub between : IsBetween images disk' t to
   pub goes : Goes content images disk s disk' t
   pub told : (past : Whole) → Sound content images (point_at disk s) past → (from ≤ to)
-      × Will past (view t.pass) (λ w. Each IsVoid (part from to w.log)
+      × WillHold past (view t.pass) (λ w. Each IsVoid (part from to w.log)
       × (s.registrar.catalog ≡ [] → HasDefinitions t.registrar.catalog))
 
 -- ---- the records
@@ -128,7 +129,7 @@ pub record HasStored {D : Type 0} (content : D → Option (List ℕ)) (images : 
   pub goes : Goes content images disk s disk' t
   pub rows : t.registrar.catalog ≡ s.registrar.catalog
   pub told : (past : Whole) → Sound content images (point_at disk s) past → (from ≤ to)
-      × Will past (view t.pass) (λ w. HasRecords number from to w.log)
+      × WillHold past (view t.pass) (λ w. HasRecords number from to w.log)
 
 -- ---- the counts
 
@@ -145,11 +146,9 @@ pub record HasCounted {D : Type 0} (content : D → Option (List ℕ)) (images :
   pub between : IsBetween images disk' t to
   pub goes : Goes content images disk s disk' t
   pub told : (past : Whole) → Sound content images (point_at disk s) past → (from ≤ to)
-      × Will past (view t.pass) (λ w. Each IsVoid (part from to w.log)
+      × WillHold past (view t.pass) (λ w. Each IsVoid (part from to w.log)
       × ((d : Definitions) → AreDefined d → AreRows d s.registrar.catalog → AreSelected number from w
       → text ≡ summary_text d number))
-
--- ---- a sample
 
 -- the text is the summary by the definitions that the sources are
 pub record IsSummary (number : ℕ) (text : List ℕ) : Type 0 where
@@ -164,7 +163,7 @@ pub record HasFilled {D : Type 0} (content : D → Option (List ℕ)) (images : 
   pub between : IsBetween images disk' t to
   pub goes : Goes content images disk s disk' t
   pub told : (past : Whole) → Sound content images (point_at disk s) past
-      → Will past (view t.pass) (λ w. length w.log ≡ to → IsSampleLog number w.log × IsSummary number text)
+      → WillHold past (view t.pass) (λ w. length w.log ≡ to → IsSampleLog number w.log × IsSummary number text)
 
 -- what is left of it
 pub record IsSample (number : ℕ) (text : List ℕ) (remains : Remains) : Type 0 where

@@ -5,7 +5,7 @@ use Rattle.std.specs.List.{range_with_len}
 use Rattle.fish_lang.specs.Definition.{definition_of}
 use Rattle.fish_lang.specs.Language.{IsAccepted}
 use Rattle.fish_lang.specs.declared.definition.Def.{Def}
-use Rattle.fish_lanes.specs.Blocks.{At, IsNewLane}
+use Rattle.fish_lanes.specs.Blocks.{EachLane, IsNewLane}
 use Rattle.fish_lanes.specs.declared.lane.Lane.{Lane}
 use Rattle.fish_lanes.specs.declared.work.Work.{Work}
 use Rattle.fish_lanes.specs.declared.work.Work.TheVariants as work
@@ -76,7 +76,7 @@ pub record HasPushed (number count : ℕ) (old new : List Lane) : Type 0 where
 -- so many lanes, from 1 on, are
 pub record AreShareLanes (number count : ℕ) (lanes : List Lane) : Type 0 where
   pub many : length lanes ≡ count
-  pub each : At (λ i x. IsShareLane number (i + 1) x) lanes
+  pub each : EachLane (λ i x. IsShareLane number (i + 1) x) lanes
 
 -- ---- scans
 

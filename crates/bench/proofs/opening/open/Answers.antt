@@ -14,7 +14,7 @@ returns c =
     let kept = subst IsCatalog c.rows-rows.ensures.value c.rows-rows.ensures.kept in
     record {
       pass = c.in_ok-log.ensures.pass;
-      control = first_controls (view c.in_ok-log.main) c.in_ok-log.log.key c.in_ok-log.ensures.view;
+      control = first_controls (view c.in_ok-log.control) c.in_ok-log.log.key c.in_ok-log.ensures.view;
       active = subst (λ (rows : List CatRow). AreActive rows c.args.definitions.defs.items)
           (sym (c.in_ok-log.ensures.key.rows ∙ c.in_ok-start.ensures.is.rows))
           (active ∙ sym (active_clamped 0 c.args.definitions.catalog));

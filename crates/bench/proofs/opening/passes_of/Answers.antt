@@ -18,14 +18,14 @@ split_pass-requires-clause-can c =
     let counted = c.loop-number.auto.number in
     let inside = c.loop-number-test.true in
     let few = c.number-number-end.ensures in
-    control_splits c.loop-number.number (view c.loop-number.main) c.loop-number.invariant.control (omega arith)
+    control_splits c.loop-number.number (view c.loop-number.control) c.loop-number.invariant.control (omega arith)
     (omega arith)
 
 pub loop-number-preserved : goal.loop-number-preserved
 loop-number-preserved c =
     let log = c.args.log.now in
     let top = c.loop-number.number in
-    let v = view c.loop-number.main in
+    let v = view c.loop-number.control in
     let before = c.loop-number.invariant in
     let split = c.split_pass in
     let u = view split.result in
@@ -36,15 +36,15 @@ loop-number-preserved c =
     } in
     let pushed = All-push (IsReady log) c.loop-number.passes.items split.result before.ready ready in
     record {
-      of = split.ensures.main;
-      control = left_controls top v before.control (view split.new.main) split.ensures.left;
+      of = split.ensures.control;
+      control = left_controls top v before.control (view split.new.control) split.ensures.left;
       ready = subst (All (IsReady log)) (sym c.in_ok-push.ensures.items) pushed;
     }
 
 pub returns : goal.returns
 returns c =
     let log = c.args.log.now in
-    let last = c.loop-number.main in
+    let last = c.loop-number.control in
     let before = c.loop-number.invariant in
     let ready : IsReady log last = record {
       of = before.of;

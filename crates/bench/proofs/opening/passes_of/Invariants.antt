@@ -6,7 +6,7 @@ use Rattle.bench.proofs.opening.passes_of.Given as goal
 
 abbrev pub invariant-loop-number : goal.invariant-loop-number
 invariant-loop-number l = record {
-  of : IsPassOf l.log l.main;
-  control : IsControl l.number (view l.main);
+  of : IsPassOf l.log l.control;
+  control : IsControl l.number (view l.control);
   ready : All (IsReady l.log) l.passes.items;
 }

@@ -4,5 +4,5 @@ use Rattle.bench.proofs.registrations.end.Goals as goal
 
 pub returns : goal.returns
 returns c =
-    kept_on 16 c.args.log.now c.args.main.now _ c.args.registrar.now _ c.requires c.end.ensures.pass
+    kept_on 16 c.args.log.now c.args.control.now _ c.args.registrar.now _ c.requires c.end.ensures.pass
     c.end.ensures.knows c.end.ensures.changes

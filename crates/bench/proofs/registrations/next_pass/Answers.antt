@@ -6,7 +6,7 @@ use Rattle.bench.proofs.registrations.next_pass.Goals as goal
 
 pub split_pass-requires-clause-can : goal.split_pass-requires-clause-can
 split_pass-requires-clause-can c =
-    control_splits c.args.top (view c.args.main.now) c.requires.kept.control c.requires.few.0 c.requires.few.1
+    control_splits c.args.top (view c.args.control.now) c.requires.kept.control c.requires.few.0 c.requires.few.1
 
 pub returns-clause-ready : goal.returns-clause-ready
 returns-clause-ready c =
@@ -14,11 +14,11 @@ returns-clause-ready c =
     let u = view c.split_pass.result in
     record {
       of = c.split_pass.ensures.pass;
-      enter = right_enters c.args.top (view c.args.main.now) control u c.split_pass.ensures.right;
-      start = right_starts c.args.top (view c.args.main.now) control u c.split_pass.ensures.right;
+      enter = right_enters c.args.top (view c.args.control.now) control u c.split_pass.ensures.right;
+      start = right_starts c.args.top (view c.args.control.now) control u c.split_pass.ensures.right;
     }
 
 pub returns-clause-kept : goal.returns-clause-kept
 returns-clause-kept c =
-    kept_split c.args.top c.args.log.now c.args.main.now _ c.args.registrar.now c.requires.kept c.split_pass.ensures.main
+    kept_split c.args.top c.args.log.now c.args.control.now _ c.args.registrar.now c.requires.kept c.split_pass.ensures.control
     c.split_pass.ensures.left

@@ -21,5 +21,5 @@ loop-number-preserved c =
 pub returns-clause-kept : goal.returns-clause-kept
 returns-clause-kept c =
     let few = c.loop-number.invariant.few in
-    kept_within c.loop-number.number c.args.log.now c.loop-number.main c.args.registrar.now (omega arith)
+    kept_within c.loop-number.number c.args.log.now c.loop-number.control c.args.registrar.now (omega arith)
     c.loop-number.invariant.kept

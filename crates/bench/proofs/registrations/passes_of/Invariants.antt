@@ -6,7 +6,7 @@ use Rattle.bench.proofs.registrations.passes_of.Given as goal
 
 abbrev pub invariant-loop-number : goal.invariant-loop-number
 invariant-loop-number l = record {
-  kept : IsKept l.number l.log l.main l.registrar;
+  kept : IsKept l.number l.log l.control l.registrar;
   few : l.number ≤ 5;
   ready : All (IsReady l.log) l.passes.items;
 }

@@ -3,4 +3,4 @@ use Rattle.bench.specs.Registrations.{IsKept}
 use Rattle.bench.proofs.registrations.register_all.Given as goal
 
 abbrev pub invariant-loop-definition : goal.invariant-loop-definition
-invariant-loop-definition l = IsKept 16 l.log l.main l.registrar
+invariant-loop-definition l = IsKept 16 l.log l.control l.registrar

@@ -3,4 +3,4 @@ use Rattle.bench.specs.Registrations.{IsKept}
 use Rattle.bench.proofs.registrations.wait.Given as goal
 
 abbrev pub invariant-loop : goal.invariant-loop
-invariant-loop l = IsKept 16 l.log l.main l.registrar
+invariant-loop l = IsKept 16 l.log l.control l.registrar

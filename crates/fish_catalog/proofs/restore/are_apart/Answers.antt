@@ -1,4 +1,4 @@
--- Each active row was compared with those in front of it.
+-- Each active row was compared with those before it.
 use Rattle.std.proofs.Common.{arith, refl}
 use Rattle.fish_catalog.proofs.Lookups.{apart_all}
 use Rattle.fish_catalog.proofs.restore.are_apart.Goals as goal

@@ -30,7 +30,7 @@ store_at-requires-clause-view c =
       many,
     )
 
--- the region lies behind the table's first line
+-- the region lies after the table's first line
 pub region_index-first-requires : goal.region_index-first-requires
 region_index-first-requires c =
     let f : Flight = c.requires.view.0 in

@@ -1,4 +1,4 @@
--- A stored text is a payload but for its length, its bytes, and a byte order mark in front of what is no row alone.
+-- A stored text is a payload but for its length, its bytes, and a byte order mark before what is no row alone.
 use Rattle.std.proofs.Common.{Some, ap, ◌∙◌, arith}
 use Rattle.fish_csv.proofs.Readings.{kept_none, kept_some, read_none, read_some, row_of_long, row_of_none}
 use Rattle.fish_csv.proofs.Readings.{row_reading_other, text_no, text_yes}

@@ -1,4 +1,4 @@
--- No mark stands in front of the first.
+-- No mark stands before the first.
 use Rattle.std.proofs.Common.{arith, length, ◌≤◌}
 use Rattle.std.proofs.lemmas.List.{take_all}
 use Rattle.fish_csv.specs.Turns.{is_mark}

@@ -1,4 +1,4 @@
--- In front of a row no row ends; elsewhere the field at hand is the row's last.
+-- Before a row no row ends; elsewhere the field at hand is the row's last.
 use Rattle.fish_csv.proofs.Steps.{end-row, end-other}
 use Rattle.fish_csv.proofs.machine.finish.Goals as goal
 

@@ -1,4 +1,4 @@
--- A run joins the field; behind it the text ends, or one byte leads on or ends the row.
+-- A run joins the field; after it the text ends, or one byte leads on or ends the row.
 use Rattle.std.proofs.Common.{◌∙◌, [], length, refl, ap, length-drop, arith}
 use Rattle.csv.specs.Records.{fields_of}
 use Rattle.fish_csv.specs.Machine.{row_from}

@@ -1,4 +1,4 @@
--- The first row is the only one where line ends alone stand behind it.
+-- The first row is the only one where line ends alone come after it.
 use Rattle.fish_csv.proofs.Readings.{one_row}
 use Rattle.fish_csv.proofs.text.read_one.Goals as goal
 

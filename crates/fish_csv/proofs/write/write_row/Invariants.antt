@@ -1,4 +1,4 @@
--- The fields in front of this position were written, with the commas between them.
+-- The fields before this position were written, with the commas between them.
 use Rattle.std.proofs.Common.{◌≡◌, ◌≤◌, ◌-◌, length, take}
 use Rattle.csv.specs.Records.{fields_of}
 use Rattle.csv.specs.Writing.{default_writer, row_body}

@@ -1,4 +1,4 @@
--- The piece lies over what was there, and behind it as far as it fits.
+-- The piece lies over what was there, and after it as far as it fits.
 use Rattle.std.proofs.Common.{◌≡◌, ◌-◌, ◌++◌, length, take, rules, arith, ap, sym, ◌∙◌}
 use Rattle.std.specs.Prelude.{min}
 use Rattle.fish_disk.specs.Content.{put_at}

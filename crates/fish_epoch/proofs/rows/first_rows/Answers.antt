@@ -1,4 +1,4 @@
--- Each turn puts the definition of one row more behind the others.
+-- Each turn puts the definition of one row more after the others.
 use Rattle.std.proofs.Common.{◌≡◌, ◌∙◌, ◌++◌, ◌∷◌, [], ℕ, ◌+◌, suc, sym, ap, arith, map, take, slice_get, List}
 use Rattle.fish_catalog.specs.Listing.{listed_of}
 use Rattle.fish_catalog.specs.declared.listed.Listed.{Listed}

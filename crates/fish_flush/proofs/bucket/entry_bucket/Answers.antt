@@ -1,4 +1,4 @@
--- The value's bytes come behind the id's.
+-- The value's bytes come after the id's.
 use Rattle.std.proofs.Common.{◌≡◌, ℕ, ◌+◌, List, ◌++◌, ap, sym, ◌∙◌}
 use Rattle.std.specs.Prelude.{map, slice_index}
 use Rattle.std.specs.Int.{to_le_bytes}

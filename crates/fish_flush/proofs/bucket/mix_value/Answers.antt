@@ -1,4 +1,4 @@
--- One byte more comes behind the others.
+-- One byte more comes after the others.
 use Rattle.std.proofs.Common.{◌≡◌, ℕ, ◌+◌, [], ◌∷◌, ◌++◌, ap, sym, ◌∙◌, arith}
 use Rattle.std.specs.Prelude.{map, slice_index}
 use Rattle.std.specs.List.{fold, range_with_len}

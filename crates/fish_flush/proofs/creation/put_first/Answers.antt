@@ -1,4 +1,4 @@
--- All is zero in front of the lines, and then the body stands there and its gate opens.
+-- All is zero before the lines, and then the body stands there and its gate opens.
 use Rattle.std.proofs.Common.{◌≡◌, ℕ, List, length, subst, arith}
 use Rattle.std.proofs.lemmas.Result.{on_ok_weaker}
 use Rattle.fish_flush.proofs.Creating.{first_image, has_room, none_open, only_piece}

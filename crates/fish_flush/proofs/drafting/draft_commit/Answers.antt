@@ -20,7 +20,7 @@ slot_body-body-requires-clause-within c =
     let on = c.end_line-line.ensures.extends in
     let frame = on.frame in
     let holds = holds_later v u c.args.catalog.now (ap (λ (z : View). z.lane) frame) (ap (λ (z : View). z.rows) frame)
-    (ap (λ (z : View). z.main_words) frame) may.rows_are in
+    (ap (λ (z : View). z.control_words) frame) may.rows_are in
     let about = ap (λ (z : Key). z.number) on.learns.about in
     let from = may.from in
     let ordered = may.ordered in

@@ -124,7 +124,7 @@ loop-offset-preserved c =
           )
     ]
 
--- behind the key entries, all words may be read
+-- after the key entries, all words may be read
 pub read_word-requires-in-loop-offset-2-clause-view : goal.read_word-requires-in-loop-offset-2-clause-view
 read_word-requires-in-loop-offset-2-clause-view c =
     let i = c.loop-offset-2.invariant in

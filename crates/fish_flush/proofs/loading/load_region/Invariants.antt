@@ -14,7 +14,7 @@ invariant-loop-offset l = record {
   loaded : AreLoaded (view l.pass) l.line l.header l.offset l.words;
 }
 
--- so they are behind the key entries
+-- so they are after the key entries
 abbrev pub invariant-loop-offset-2 : goal.invariant-loop-offset-2
 invariant-loop-offset-2 l = record {
   of : IsPassOf l.log l.pass;

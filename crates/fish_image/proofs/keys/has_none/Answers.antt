@@ -1,4 +1,4 @@
--- Behind a greater id there is no entry of the definition.
+-- After a greater id there is no entry of the definition.
 use Rattle.std.proofs.Common.{rules, arith, refl, ◌≡◌, ◌<◌, List, ◌∷◌, length, ◌-◌, take, drop, ap, sym, subst, ◌∙◌}
 use Rattle.std.proofs.lemmas.Slice.{first_rest}
 use Rattle.fish_layout.specs.Body.{AreProperKeys}

@@ -1,4 +1,4 @@
--- Each head is that of a bucket, and behind them is none.
+-- Each head is that of a bucket, and after them is none.
 use Rattle.std.proofs.Common.{◌^◌, arith, inl, inr, ◌∙◌}
 use Rattle.std.proofs.lemmas.Bool.{cases_lt}
 use Rattle.std.proofs.lemmas.List.{get_or_past}

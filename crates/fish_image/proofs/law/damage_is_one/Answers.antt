@@ -1,4 +1,4 @@
--- Where more entries agree, one agrees behind the fewer.
+-- Where more entries agree, one agrees after the fewer.
 use Rattle.fish_image.proofs.Agreement.{one_damage}
 use Rattle.fish_image.proofs.law.damage_is_one.Goals as goal
 

@@ -6,7 +6,7 @@ use Rattle.fish_image.specs.Reading.{AreRowsOf}
 use Rattle.fish_image.specs.Slot.{row_bytes}
 use Rattle.fish_image.proofs.read.read_rows.Given as goal
 
--- where the bytes begin with rows, the first of them were read, and the others and what stands behind are left
+-- where the bytes begin with rows, the first of them were read, and the others and what follows are left
 abbrev pub invariant-loop-id : goal.invariant-loop-id
 invariant-loop-id l = record {
   room : 320 * (l.count - l.id) ≤ length l.rest;

@@ -1,4 +1,4 @@
--- The reading goes on behind the padding.
+-- The reading goes on after the padding.
 use Rattle.std.proofs.Common.{ℕ, refl, subst, ◌<◌, ◌+◌, ◌-◌}
 use Rattle.fish_catalog.specs.declared.entry.Entry.TheVariants.{Void}
 use Rattle.fish_image.specs.Reached.{behind}

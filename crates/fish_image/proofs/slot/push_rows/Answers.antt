@@ -1,4 +1,4 @@
--- One row more stands behind the others.
+-- One row more comes after the others.
 use Rattle.std.proofs.Common.{arith, subst, All}
 use Rattle.std.proofs.lemmas.Grind.{common_steps}
 use Rattle.std.proofs.lemmas.List.{take_all}

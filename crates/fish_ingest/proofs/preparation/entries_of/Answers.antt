@@ -1,4 +1,4 @@
--- The entries of one definition more went behind the others.
+-- The entries of one definition more went after the others.
 use Rattle.std.proofs.Common.{All, List, subst, sym}
 use Rattle.fish_lang.specs.Definition.{definition_of}
 use Rattle.fish_value.specs.declared.value.Value.{Value}

@@ -1,4 +1,4 @@
--- The entries of the values so far stand behind the others, and the values that are left are short.
+-- The entries of the values so far come after the others, and the values that are left are short.
 use Rattle.std.proofs.Common.{◌≡◌, ◌++◌, All, length}
 use Rattle.std.specs.Vec.Iter.{into_iter_items, into_iter_len}
 use Rattle.fish_ingest.specs.Preparation.{AreMore, IsShort}

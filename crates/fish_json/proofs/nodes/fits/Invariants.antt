@@ -1,4 +1,4 @@
--- What is open behind all nodes is what is open behind those that are left, from here.
+-- What is open after all nodes is what is open after those that are left, from here.
 use Rattle.std.proofs.Common.{◌≡◌, map, drop}
 use Rattle.json.specs.Tape.{node_token}
 use Rattle.fish_json.specs.Tape.{open_after}

@@ -1,4 +1,4 @@
--- The bytes behind the minus, or all bytes, are the numeral.
+-- The bytes after the minus, or all bytes, are the numeral.
 use Rattle.std.proofs.Common.{◌≡◌, drop, get_or, true, false, ◌==◌, refl, sym, ap, ◌∙◌}
 use Rattle.fast_float.specs.Text.{scan}
 use Rattle.serde_json.specs.Read.{number_of, number_from}

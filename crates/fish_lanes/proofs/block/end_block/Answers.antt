@@ -28,6 +28,6 @@ returns-clause-ended c = record {
   settled = c.settle-to.ensures.settled;
   count = c.settle-to.result.count;
   tail = c.settle-to.ensures.tail;
-  ends = c.settle-to.ensures.ends (alone_changes (view c.args.main.now) (view c.find_last-bound.new.pass)
+  ends = c.settle-to.ensures.ends (alone_changes (view c.args.control.now) (view c.find_last-bound.new.pass)
       c.find_last-bound.ensures.changes c.requires.alone);
 }

@@ -3,7 +3,7 @@ use Rattle.std.proofs.Common.{◌≡◌, ◌≤◌, ◌+◌, ◌∙◌, [], ◌�
 use Rattle.fish_lanes.proofs.Firsts.{kept_both, alone_first, first_acceptable, first_new, first_there, lanes_again, others_many, others_new}
 use Rattle.fish_lanes.proofs.Firsts.{vacant_both}
 use Rattle.fish_lanes.proofs.Kept.{left_none}
-use Rattle.fish_lanes.specs.Blocks.{AreEnded, AreKept, At, HasRegistered, IsKept, IsNewLane, NameMarks, SaysBlock}
+use Rattle.fish_lanes.specs.Blocks.{AreEnded, AreKept, EachLane, HasRegistered, IsKept, IsNewLane, NameMarks, SaysBlock}
 use Rattle.fish_lanes.specs.within.Blocks.{CanGive}
 use Rattle.fish_lanes.specs.Controlling.{IsCommitted}
 use Rattle.fish_lanes.specs.Outcome.{AreVacant, HandsBack, LanesSayPlans, Stops, SayFullLast, SaysAloneBy, SaysShutBy}
@@ -14,7 +14,7 @@ use Rattle.fish_rule.specs.Passes.{view}
 use Rattle.fish_rule.specs.Views.{AllOf}
 use Rattle.fish_store.specs.Points.{point_at}
 use Rattle.fish_store.specs.Sound.{IsSoundBehind}
-use Rattle.fish_whole.specs.Whole.{Will}
+use Rattle.fish_whole.specs.Whole.{WillHold}
 use Rattle.fish_lanes.proofs.block.run_block.Goals as goal
 
 pub run_lanes-requires-clause-first : goal.run_lanes-requires-clause-first
@@ -58,7 +58,7 @@ returns-clause-lanes g c =
     let disk = g.D.Disk in
     let e = c.run_lanes.ensures in
     let v = view c.args.store.now.pass in
-    let u = view c.run_lanes.new.main in
+    let u = view c.run_lanes.new.control in
     let front = c.split_at_mut-first.ensures.front in
     let first = c.run_lanes.new.first in
     let others = c.run_lanes.new.others in
@@ -73,7 +73,7 @@ returns-clause-lanes g c =
           (vacant_both first c.index-first-0.result c.args.lanes.now others c.requires.lanes
           (subst (λ (z : List Lane). first.seat ≡ (get_or z 0 c.index-first-0.result).seat) front e.first_seat) before e.vacant);
       ended = subst AreEnded again e.ended;
-      stops = subst (At (λ i x. Stops (IsSoundBehind disk.content disk.images (point_at c.args.disk.now c.args.store.now)
+      stops = subst (EachLane (λ i x. Stops (IsSoundBehind disk.content disk.images (point_at c.args.disk.now c.args.store.now)
           (disk.content c.run_lanes.new.disk)) (disk.faults c.args.disk.now) (disk.faults c.run_lanes.new.disk) x)) again e.stops;
       left = left;
       last = subst (SayFullLast v) again e.last;
@@ -87,7 +87,7 @@ returns-clause-items g c =
     let disk = g.D.Disk in
     let e = c.run_lanes.ensures in
     let v = view c.args.store.now.pass in
-    let u = view c.run_lanes.new.main in
+    let u = view c.run_lanes.new.control in
     let r = c.args.store.now.registrar in
     let front = c.split_at_mut-first.ensures.front in
     let first = c.run_lanes.new.first in
@@ -95,7 +95,7 @@ returns-clause-items g c =
     let again = lanes_again c.split_at_mut-first.result.0.now c.args.lanes.now first others c.requires.lanes front in
     record {
       sound = λ past behind k span many.
-          subst (λ (z : List Lane). (k.from ≤ k.to) × Will past u (λ w. SaysBlock w k z)) again
+          subst (λ (z : List Lane). (k.from ≤ k.to) × WillHold past u (λ w. SaysBlock w k z)) again
           (e.sound past behind k span
           (many ∙ subst (λ (z : List Lane). length c.args.lanes.now ≡ length z + 1) (sym c.split_at_mut-first.ensures.back)
           (others_many c.args.lanes.now c.requires.lanes)));

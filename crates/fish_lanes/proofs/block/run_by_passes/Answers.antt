@@ -27,32 +27,32 @@ run_all-requires-clause-ready g c κs bounds k d less =
     let size = c.give_all.auto.lanes in
     let o = get_there c.args.others.now k (omega arith) in
     let at : slice_get lanes k ≡ Some (get_or lanes k d) = slice_get-get_or lanes k d less in
-    seated_ready c.args.log.now (view c.args.main.now) k o.0 (get_or lanes k d)
+    seated_ready c.args.log.now (view c.args.control.now) k o.0 (get_or lanes k d)
     (c.requires.others.new k o.0 o.1) (c.requires.others.shared k o.0 o.1) (c.give_all.ensures.seated k o.0 (get_or lanes k d) o.1 at)
 
 pub run_all-requires-clause-can : goal.run_all-requires-clause-can
 run_all-requires-clause-can g c κs bounds =
-    let v = view c.args.main.now in
-    let m = view c.give_all.new.main in
+    let v = view c.args.control.now in
+    let m = view c.give_all.new.control in
     record {
       of = c.give_all.ensures.pass;
-      start = record { live = (let e = c.give_all.ensures.given.main in omega arith); outside = c.give_all.ensures.given.outside };
-      knows = given_knows v m c.args.registrar.now _ c.give_all.ensures.given c.requires.others.main c.requires.can.knows;
+      start = record { live = (let e = c.give_all.ensures.given.control in omega arith); outside = c.give_all.ensures.given.outside };
+      knows = given_knows v m c.args.registrar.now _ c.give_all.ensures.given c.requires.others.control c.requires.can.knows;
     }
 
 pub run_all-requires-clause-commit : goal.run_all-requires-clause-commit
 run_all-requires-clause-commit g c κs bounds =
     let disk = g.D.Disk in
     let given = c.give_all.ensures.given in
-    let m = view c.give_all.new.main in
+    let m = view c.give_all.new.control in
     pass_again disk.content disk.images disk.since disk.moment
-    (point_of c.args.disk.now c.args.file.now c.args.log.now c.args.main.now c.args.registrar.now) m
-    (learns_same (view c.args.main.now) m given.about given.learned) c.requires.commit
+    (point_of c.args.disk.now c.args.file.now c.args.log.now c.args.control.now c.args.registrar.now) m
+    (learns_same (view c.args.control.now) m given.about given.learned) c.requires.commit
 
 pub run_all-requires-clause-first : goal.run_all-requires-clause-first
 run_all-requires-clause-first g c κs bounds =
-    let v = view c.args.main.now in
-    let m = view c.give_all.new.main in
+    let v = view c.args.control.now in
+    let m = view c.give_all.new.control in
     let given = c.give_all.ensures.given in
     record {
       known = given_known v m c.args.registrar.now given.about given.learned c.requires.first.known;
@@ -71,7 +71,7 @@ finish_others-requires-clause-ready g c k d less =
     let x = get_there given k (omega arith) in
     let at : slice_get gone k ≡ Some (get_or gone k d) = slice_get-get_or gone k d less in
     gone_ready c.args.log.now x.0 (get_or gone k d)
-    (seated_ready c.args.log.now (view c.args.main.now) k o.0 x.0 (c.requires.others.new k o.0 o.1) (c.requires.others.shared k o.0 o.1)
+    (seated_ready c.args.log.now (view c.args.control.now) k o.0 x.0 (c.requires.others.new k o.0 o.1) (c.requires.others.shared k o.0 o.1)
     (c.give_all.ensures.seated k o.0 x.0 o.1 x.1))
     (gone_at c.args.log.now given gone c.run_all.ensures.gone k x.0 (get_or gone k d) x.1 at)
 
@@ -88,12 +88,12 @@ pub take_all-requires-clause-can : goal.take_all-requires-clause-can
 take_all-requires-clause-can g c =
     let disk = g.D.Disk in
     let given = c.give_all.ensures.given in
-    let v = view c.args.main.now in
-    let m = view c.give_all.new.main in
-    let before = point_of c.args.disk.now c.args.file.now c.args.log.now c.args.main.now c.args.registrar.now in
-    let gave = point_of c.args.disk.now c.args.file.now c.args.log.now c.give_all.new.main c.args.registrar.now in
-    let did = point_of c.run_all.new.disk c.run_all.new.file c.args.log.now c.run_all.new.main c.run_all.new.registrar in
-    let read = point_of c.finish_others.new.disk c.finish_others.new.file c.args.log.now c.run_all.new.main
+    let v = view c.args.control.now in
+    let m = view c.give_all.new.control in
+    let before = point_of c.args.disk.now c.args.file.now c.args.log.now c.args.control.now c.args.registrar.now in
+    let gave = point_of c.args.disk.now c.args.file.now c.args.log.now c.give_all.new.control c.args.registrar.now in
+    let did = point_of c.run_all.new.disk c.run_all.new.file c.args.log.now c.run_all.new.control c.run_all.new.registrar in
+    let read = point_of c.finish_others.new.disk c.finish_others.new.file c.args.log.now c.run_all.new.control
     c.run_all.new.registrar in
     let gives = pass_goes disk.content disk.images disk.since disk.moment before m (learns_same v m given.about given.learned) in
     let stays = pages_stay_at disk.content disk.images disk.since disk.moment disk.faults c.args.log.now.key did
@@ -111,13 +111,13 @@ pub returns-clause-course : goal.returns-clause-course
 returns-clause-course g c =
     let disk = g.D.Disk in
     let given = c.give_all.ensures.given in
-    let v = view c.args.main.now in
-    let m = view c.give_all.new.main in
-    let ran = view c.run_all.new.main in
-    let before = point_of c.args.disk.now c.args.file.now c.args.log.now c.args.main.now c.args.registrar.now in
-    let gave = point_of c.args.disk.now c.args.file.now c.args.log.now c.give_all.new.main c.args.registrar.now in
-    let did = point_of c.run_all.new.disk c.run_all.new.file c.args.log.now c.run_all.new.main c.run_all.new.registrar in
-    let read = point_of c.finish_others.new.disk c.finish_others.new.file c.args.log.now c.run_all.new.main
+    let v = view c.args.control.now in
+    let m = view c.give_all.new.control in
+    let ran = view c.run_all.new.control in
+    let before = point_of c.args.disk.now c.args.file.now c.args.log.now c.args.control.now c.args.registrar.now in
+    let gave = point_of c.args.disk.now c.args.file.now c.args.log.now c.give_all.new.control c.args.registrar.now in
+    let did = point_of c.run_all.new.disk c.run_all.new.file c.args.log.now c.run_all.new.control c.run_all.new.registrar in
+    let read = point_of c.finish_others.new.disk c.finish_others.new.file c.args.log.now c.run_all.new.control
     c.run_all.new.registrar in
     let gives = pass_goes disk.content disk.images disk.since disk.moment before m (learns_same v m given.about given.learned) in
     let stays = pages_stay_at disk.content disk.images disk.since disk.moment disk.faults c.args.log.now.key did
@@ -140,42 +140,42 @@ pub returns-clause-goes : goal.returns-clause-goes
 returns-clause-goes g c =
     let disk = g.D.Disk in
     let given = c.give_all.ensures.given in
-    let v = view c.args.main.now in
-    let m = view c.give_all.new.main in
-    let before = point_of c.args.disk.now c.args.file.now c.args.log.now c.args.main.now c.args.registrar.now in
-    let gave = point_of c.args.disk.now c.args.file.now c.args.log.now c.give_all.new.main c.args.registrar.now in
-    let did = point_of c.run_all.new.disk c.run_all.new.file c.args.log.now c.run_all.new.main c.run_all.new.registrar in
-    let read = point_of c.finish_others.new.disk c.finish_others.new.file c.args.log.now c.run_all.new.main
+    let v = view c.args.control.now in
+    let m = view c.give_all.new.control in
+    let before = point_of c.args.disk.now c.args.file.now c.args.log.now c.args.control.now c.args.registrar.now in
+    let gave = point_of c.args.disk.now c.args.file.now c.args.log.now c.give_all.new.control c.args.registrar.now in
+    let did = point_of c.run_all.new.disk c.run_all.new.file c.args.log.now c.run_all.new.control c.run_all.new.registrar in
+    let read = point_of c.finish_others.new.disk c.finish_others.new.file c.args.log.now c.run_all.new.control
     c.run_all.new.registrar in
     let gives = pass_goes disk.content disk.images disk.since disk.moment before m (learns_same v m given.about given.learned) in
     let stays = pages_stay_at disk.content disk.images disk.since disk.moment disk.faults c.args.log.now.key did
     c.finish_others.new.disk c.finish_others.new.file.flusher c.finish_others.new.file.cold c.run_all.ensures.can.of.about
     c.finish_others.ensures.flusher c.finish_others.ensures.reads in
     let reads = here_stays disk.content disk.images disk.since disk.moment did read stays in
-    let back = point_of c.finish_others.new.disk c.finish_others.new.file c.args.log.now c.take_all.new.main
+    let back = point_of c.finish_others.new.disk c.finish_others.new.file c.args.log.now c.take_all.new.control
     c.run_all.new.registrar in
     here_both disk.content disk.images disk.since disk.moment before did back
     (here_both disk.content disk.images disk.since disk.moment before gave did gives c.run_all.ensures.goes)
     (here_both disk.content disk.images disk.since disk.moment did read back reads
-    (pass_goes disk.content disk.images disk.since disk.moment read (view c.take_all.new.main) c.take_all.ensures.taken.learns))
+    (pass_goes disk.content disk.images disk.since disk.moment read (view c.take_all.new.control) c.take_all.ensures.taken.learns))
 
 pub returns-clause-again : goal.returns-clause-again
 returns-clause-again g c fine =
     let disk = g.D.Disk in
-    let did = point_of c.run_all.new.disk c.run_all.new.file c.args.log.now c.run_all.new.main c.run_all.new.registrar in
-    let read = point_of c.finish_others.new.disk c.finish_others.new.file c.args.log.now c.run_all.new.main
+    let did = point_of c.run_all.new.disk c.run_all.new.file c.args.log.now c.run_all.new.control c.run_all.new.registrar in
+    let read = point_of c.finish_others.new.disk c.finish_others.new.file c.args.log.now c.run_all.new.control
     c.run_all.new.registrar in
     let stays = pages_stay_at disk.content disk.images disk.since disk.moment disk.faults c.args.log.now.key did
     c.finish_others.new.disk c.finish_others.new.file.flusher c.finish_others.new.file.cold c.run_all.ensures.can.of.about
     c.finish_others.ensures.flusher c.finish_others.ensures.reads in
-    pass_again disk.content disk.images disk.since disk.moment read (view c.take_all.new.main) c.take_all.ensures.taken.learns
+    pass_again disk.content disk.images disk.since disk.moment read (view c.take_all.new.control) c.take_all.ensures.taken.learns
     (may_stays disk.content disk.images disk.since disk.moment did read stays (c.run_all.ensures.again.again fine))
 
 pub returns-clause-can : goal.returns-clause-can
 returns-clause-can g c = record {
   of = c.take_all.ensures.pass;
-  start = taken_start (view c.run_all.new.main) (view c.take_all.new.main) c.finish_others.new.lanes _ c.take_all.ensures.taken;
-  knows = taken_knows (view c.run_all.new.main) (view c.take_all.new.main) c.run_all.new.registrar c.finish_others.new.lanes _
+  start = taken_start (view c.run_all.new.control) (view c.take_all.new.control) c.finish_others.new.lanes _ c.take_all.ensures.taken;
+  knows = taken_knows (view c.run_all.new.control) (view c.take_all.new.control) c.run_all.new.registrar c.finish_others.new.lanes _
       c.take_all.ensures.taken c.run_all.ensures.can.knows;
 }
 
@@ -183,12 +183,12 @@ pub returns-clause-stops : goal.returns-clause-stops
 returns-clause-stops g c =
     let disk = g.D.Disk in
     let given = c.give_all.ensures.given in
-    let v = view c.args.main.now in
-    let m = view c.give_all.new.main in
-    let before = point_of c.args.disk.now c.args.file.now c.args.log.now c.args.main.now c.args.registrar.now in
-    let gave = point_of c.args.disk.now c.args.file.now c.args.log.now c.give_all.new.main c.args.registrar.now in
-    let did = point_of c.run_all.new.disk c.run_all.new.file c.args.log.now c.run_all.new.main c.run_all.new.registrar in
-    let read = point_of c.finish_others.new.disk c.finish_others.new.file c.args.log.now c.run_all.new.main
+    let v = view c.args.control.now in
+    let m = view c.give_all.new.control in
+    let before = point_of c.args.disk.now c.args.file.now c.args.log.now c.args.control.now c.args.registrar.now in
+    let gave = point_of c.args.disk.now c.args.file.now c.args.log.now c.give_all.new.control c.args.registrar.now in
+    let did = point_of c.run_all.new.disk c.run_all.new.file c.args.log.now c.run_all.new.control c.run_all.new.registrar in
+    let read = point_of c.finish_others.new.disk c.finish_others.new.file c.args.log.now c.run_all.new.control
     c.run_all.new.registrar in
     let gives = pass_goes disk.content disk.images disk.since disk.moment before m (learns_same v m given.about given.learned) in
     let stays = pages_stay_at disk.content disk.images disk.since disk.moment disk.faults c.args.log.now.key did

@@ -31,10 +31,10 @@ returns-clause-run g c =
     let many = length (answers items) in
     let why = c.run_control-fault.result in
     let last = c.hand_back-lane.result in
-    let v = view c.args.main.now in
+    let v = view c.args.control.now in
     let u = view c.run_control-fault.new.pass in
     let Past : Whole → Type 0 = IsSoundBehind disk.content disk.images
-    (point_of c.args.disk.now c.args.file.now c.args.log.now c.args.main.now c.args.registrar.now)
+    (point_of c.args.disk.now c.args.file.now c.args.log.now c.args.control.now c.args.registrar.now)
     (disk.content c.run_control-fault.new.disk) in
     record {
       controlled = first_handed Past v u c.args.registrar.now c.run_control-fault.new.registrar works kept left items why last

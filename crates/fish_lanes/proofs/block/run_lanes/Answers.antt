@@ -28,7 +28,7 @@ run_by_passes-requires-clause-first g c κs bounds = record {
 pub end_block-requires-clause-alone : goal.end_block-requires-clause-alone
 end_block-requires-clause-alone g c =
     let course = c.run_by_passes.ensures.course in
-    taken_alone course.ran (view c.run_by_passes.new.main) course.done course.back.takes
+    taken_alone course.ran (view c.run_by_passes.new.control) course.done course.back.takes
 
 pub returns-clause-end : goal.returns-clause-end
 returns-clause-end g c =
@@ -68,10 +68,10 @@ returns-clause-alone g c none =
     record {
       closed = first.controlled.closed (subst IsAlone (sym given) c.requires.end.1.alone);
       only = λ end e wait. only_end (IsSoundBehind g.D.Disk.content g.D.Disk.images
-          (point_of c.args.disk.now c.args.file.now c.args.log.now c.args.main.now c.args.registrar.now)
-          (g.D.Disk.content c.run_by_passes.new.disk)) (view c.args.main.now) course.run.main course.ran (view c.run_by_passes.new.main)
+          (point_of c.args.disk.now c.args.file.now c.args.log.now c.args.control.now c.args.registrar.now)
+          (g.D.Disk.content c.run_by_passes.new.disk)) (view c.args.control.now) course.run.control course.ran (view c.run_by_passes.new.control)
           ended.bound
-          (view c.end_block.new.main) c.args.registrar.now.catalog end c.run_by_passes.new.first.works
+          (view c.end_block.new.control) c.args.registrar.now.catalog end c.run_by_passes.new.first.works
           c.run_by_passes.new.first.works c.run_by_passes.new.first.items given (course.back.takes.none (omega arith)) ended.changes
           ended.settles refl
           (first.controlled.only end (subst (λ (z : View). HasEnd z end) (sym given) e) wait);
@@ -93,8 +93,8 @@ returns-clause-registered g c =
     let stands = c.end_block.ensures.can.of.stands in
     registered_end c.run_by_passes.ensures.course c.end_block.ensures.ended can.of.stands can.knows stands
     (λ k span. (
-      counted_from (view c.args.main.now) k.from span.begins,
-      let few = few_behind (view c.end_block.new.main) c.end_block.result.to stands (returns-clause-end g c) in
+      counted_from (view c.args.control.now) k.from span.begins,
+      let few = few_behind (view c.end_block.new.control) c.end_block.result.to stands (returns-clause-end g c) in
           let e = span.ends in omega arith,
     ))
 
@@ -128,12 +128,12 @@ pub returns-clause-goes : goal.returns-clause-goes
 returns-clause-goes g c =
     let disk = g.D.Disk in
     let ended = c.end_block.ensures.ended in
-    let u = view c.run_by_passes.new.main in
-    let t = view c.end_block.new.main in
-    let before = point_of c.args.disk.now c.args.file.now c.args.log.now c.args.main.now c.args.registrar.now in
-    let ran = point_of c.run_by_passes.new.disk c.run_by_passes.new.file c.args.log.now c.run_by_passes.new.main
+    let u = view c.run_by_passes.new.control in
+    let t = view c.end_block.new.control in
+    let before = point_of c.args.disk.now c.args.file.now c.args.log.now c.args.control.now c.args.registrar.now in
+    let ran = point_of c.run_by_passes.new.disk c.run_by_passes.new.file c.args.log.now c.run_by_passes.new.control
     c.run_by_passes.new.registrar in
-    let after = point_of c.run_by_passes.new.disk c.run_by_passes.new.file c.args.log.now c.end_block.new.main
+    let after = point_of c.run_by_passes.new.disk c.run_by_passes.new.file c.args.log.now c.end_block.new.control
     c.end_block.new.registrar in
     let learns = learns_both u ended.bound t (learns_changes u ended.bound ended.changes) ended.settles.learns in
     let stays = stays_pass disk.content disk.images disk.since disk.moment ran c.end_block.new.registrar.catalog t learns
@@ -145,11 +145,11 @@ pub returns-clause-again : goal.returns-clause-again
 returns-clause-again g c fine =
     let disk = g.D.Disk in
     let ended = c.end_block.ensures.ended in
-    let u = view c.run_by_passes.new.main in
-    let t = view c.end_block.new.main in
-    let ran = point_of c.run_by_passes.new.disk c.run_by_passes.new.file c.args.log.now c.run_by_passes.new.main
+    let u = view c.run_by_passes.new.control in
+    let t = view c.end_block.new.control in
+    let ran = point_of c.run_by_passes.new.disk c.run_by_passes.new.file c.args.log.now c.run_by_passes.new.control
     c.run_by_passes.new.registrar in
-    let after = point_of c.run_by_passes.new.disk c.run_by_passes.new.file c.args.log.now c.end_block.new.main
+    let after = point_of c.run_by_passes.new.disk c.run_by_passes.new.file c.args.log.now c.end_block.new.control
     c.end_block.new.registrar in
     let learns = learns_both u ended.bound t (learns_changes u ended.bound ended.changes) ended.settles.learns in
     let stays = stays_pass disk.content disk.images disk.since disk.moment ran c.end_block.new.registrar.catalog t learns

@@ -1,4 +1,4 @@
--- The statements so far are told behind what stood before the table, the definitions are those that their items tell, and the store goes
+-- The statements so far are told after what stood before the table, the definitions are those that their items tell, and the store goes
 -- on.
 use Rattle.std.proofs.Common.{◌≡◌, ◌≤◌, None, take}
 use Rattle.fish_epoch.specs.Definitions.{IsDefsOf}

@@ -1,4 +1,4 @@
--- One lane more is finished, behind what the file had before the table all the while.
+-- One lane more is finished, after what the file had before the table all the while.
 use Rattle.std.proofs.Common.{◌≡◌, ◌+◌, ℕ, ◌<◌, List, Some, get_or, slice_get, set, length, refl, sym, ap, ◌∙◌, subst, arith}
 use Rattle.std.proofs.Math.Decide.{ℕ_discrete}
 use Rattle.std.proofs.lemmas.Option.{slice_get-get_or, slice_get_within}

@@ -1,4 +1,4 @@
--- A statement more, or the end, behind what the file had before the table all the while.
+-- A statement more, or the end, after what the file had before the table all the while.
 use Rattle.std.proofs.Common.{◌≡◌, ◌∙◌, ◌+◌, ℕ, List, [], ◌∷◌, Option, get_or, length, length-append, refl, sym, ap, subst, arith, true}
 use Rattle.std.proofs.Common.{false, inl, inr}
 use Rattle.std.specs.Prelude.{IsSome}

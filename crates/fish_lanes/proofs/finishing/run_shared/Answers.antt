@@ -1,4 +1,4 @@
--- Each statement's item is one of the statement, behind what the disk has before the table.
+-- Each statement's item is one of the statement, after what the disk has before the table.
 use Rattle.std.proofs.Common.{sym, subst}
 use Rattle.std.specs.Prelude.{IfErr, IfOk}
 use Rattle.fish_ingest.proofs.IngestionStart.{idle_law}

@@ -14,7 +14,7 @@ refresh-requires-clause-defs c =
     let v = view c.args.pass.now in
     let m = view c.load_version-version.new.pass in
     let stays : Stays v m = stays_version v m c.load_version-version.result c.requires.outside
-    (c.load_version-version.ensures.main c.requires.main) c.load_version-version.ensures.view in
+    (c.load_version-version.ensures.control c.requires.control) c.load_version-version.ensures.view in
     defs_later v m c.args.defs.now.known (learns_changes v m (changes_stays v m stays)) c.requires.defs
 
 pub returns-clause-defs : goal.returns-clause-defs
@@ -23,7 +23,7 @@ returns-clause-defs c =
     let m = view c.load_version-version.new.pass in
     let t = view c.refresh.new.pass in
     let stays : Stays v m = stays_version v m c.load_version-version.result c.requires.outside
-    (c.load_version-version.ensures.main c.requires.main) c.load_version-version.ensures.view in
+    (c.load_version-version.ensures.control c.requires.control) c.load_version-version.ensures.view in
     known_read t c.refresh.result c.args.defs.now c.refresh.new.self c.refresh.ensures.read c.refresh.ensures.refused
     (defs_later v t c.args.defs.now.known (learns_both v m t (learns_changes v m (changes_stays v m stays))
     c.refresh.ensures.reads.extends.learns) c.requires.defs)
@@ -33,12 +33,12 @@ returns-clause-only c =
     let v = view c.args.pass.now in
     let m = view c.load_version-version.new.pass in
     scans_reads v m (view c.refresh.new.pass) (stays_version v m c.load_version-version.result c.requires.outside
-    (c.load_version-version.ensures.main c.requires.main) c.load_version-version.ensures.view) c.refresh.ensures.reads
+    (c.load_version-version.ensures.control c.requires.control) c.load_version-version.ensures.view) c.refresh.ensures.reads
 
 pub returns-clause-read : goal.returns-clause-read
 returns-clause-read c =
     let t = view c.refresh.new.pass in
-    let version = c.load_version-version.ensures.main c.requires.main in
+    let version = c.load_version-version.ensures.control c.requires.control in
     let seen = ap (λ (z : View). z.learned.version) c.load_version-version.ensures.view in
     let read = c.refresh.ensures.reads.version in
     known_all t c.refresh.result c.refresh.new.self c.refresh.ensures.pass.stands c.refresh.ensures.read c.refresh.ensures.version
@@ -47,5 +47,5 @@ returns-clause-read c =
 pub returns-clause-tail : goal.returns-clause-tail
 returns-clause-tail c =
     let stays = stays_version (view c.args.pass.now) (view c.load_version-version.new.pass) c.load_version-version.result
-    c.requires.outside (c.load_version-version.ensures.main c.requires.main) c.load_version-version.ensures.view in
+    c.requires.outside (c.load_version-version.ensures.control c.requires.control) c.load_version-version.ensures.view in
     ap (λ (z : View). z.tail) c.refresh.ensures.reads.extends.frame ∙ ap (λ (z : View). z.tail) stays.frame

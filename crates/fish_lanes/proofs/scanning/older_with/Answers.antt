@@ -1,4 +1,4 @@
--- The answer is one behind what the disk has before the table.
+-- The answer is one after what the disk has before the table.
 use Rattle.fish_lanes.proofs.Fitting.{here_ok}
 use Rattle.fish_rule.specs.Passes.{view}
 use Rattle.fish_lanes.proofs.scanning.older_with.Goals as goal

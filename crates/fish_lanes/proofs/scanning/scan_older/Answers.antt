@@ -1,4 +1,4 @@
--- An answer behind what the disk has before the table, or why there is none, as an item; or a fault of the file.
+-- An answer after what the disk has before the table, or why there is none, as an item; or a fault of the file.
 use Rattle.std.proofs.Common.{Result, inr, sym, subst}
 use Rattle.std.specs.Prelude.{IfOk}
 use Rattle.fish_lanes.proofs.Fitting.{older_fits, refused_item, refused_older}

@@ -15,7 +15,7 @@ use Rattle.fish_lanes.proofs.seats.give_all.Goals as goal
 pub loop-i-init : goal.loop-i-init
 loop-i-init c = record {
   of = c.requires.pass;
-  given = given_none (view c.args.main.now) c.args.lanes.now c.requires.can;
+  given = given_none (view c.args.control.now) c.args.lanes.now c.requires.can;
   seated = λ j x y below. absurd (omega arith);
   rest = λ j above. refl;
 }
@@ -30,9 +30,9 @@ give-requires-clause-can c =
     let at : slice_get c.loop-i.lanes i ≡ Some r = read_at c.loop-i.lanes i r (omega arith) c.index-lanes-i.is in
     let new = c.requires.can.new i r (sym (inv.rest i (omega arith)) ∙ at) in
     let few = c.requires.can.few in
-    subst (λ (z : ℕ). CanSplitPass (view c.loop-i.main) z)
+    subst (λ (z : ℕ). CanSplitPass (view c.loop-i.control) z)
     (sym new.number_is ∙ ap (λ (z : Lane). z.number) c.index-lanes-i.is)
-    (can_split (view c.args.main.now) (view c.loop-i.main) i inv.given (omega arith))
+    (can_split (view c.args.control.now) (view c.loop-i.control) i inv.given (omega arith))
 
 -- the lanes with one more
 seated_more : (log : Log) (v m u : View) (fn lanes : List Lane) (i : ℕ) (r y : Lane) → i < length lanes → slice_get fn i ≡ Some r
@@ -55,20 +55,20 @@ loop-i-preserved c =
     let test = c.loop-i-test.true in
     let size = c.loop-i.auto.lanes in
     let r = c.index-lanes-i.result in
-    let v = view c.args.main.now in
-    let m = view c.loop-i.main in
+    let v = view c.args.control.now in
+    let m = view c.loop-i.control in
     let at : slice_get c.loop-i.lanes i ≡ Some r = read_at c.loop-i.lanes i r (omega arith) c.index-lanes-i.is in
     let at_fn : slice_get c.args.lanes.now i ≡ Some r = sym (inv.rest i (omega arith)) ∙ at in
     let new = c.requires.can.new i r at_fn in
     let seat : HasSeat c.args.log.now (split_right r.number m) r c.give.new.lane =
     subst (λ (z : Lane). HasSeat c.args.log.now (split_right z.number m) z c.give.new.lane) (sym c.index-lanes-i.is)
     c.give.ensures.seat in
-    let left : view c.give.new.main ≡ split_left r.number m =
-    subst (λ (z : Lane). view c.give.new.main ≡ split_left z.number m) (sym c.index-lanes-i.is) c.give.ensures.left in
+    let left : view c.give.new.control ≡ split_left r.number m =
+    subst (λ (z : Lane). view c.give.new.control ≡ split_left z.number m) (sym c.index-lanes-i.is) c.give.ensures.left in
     record {
       of = c.give.ensures.pass;
-      given = given_more v m (view c.give.new.main) i r.number new.number_is inv.given left;
-      seated = seated_more c.args.log.now v m (view c.give.new.main) c.args.lanes.now c.loop-i.lanes i r c.give.new.lane
+      given = given_more v m (view c.give.new.control) i r.number new.number_is inv.given left;
+      seated = seated_more c.args.log.now v m (view c.give.new.control) c.args.lanes.now c.loop-i.lanes i r c.give.new.lane
           (omega arith) at_fn inv.seated (seated_by c.args.log.now v m i r.number r c.give.new.lane new.number_is inv.given seat);
       rest = λ j above. get_set_else c.loop-i.lanes i j c.give.new.lane (λ e. omega arith) ∙ inv.rest j (omega arith);
     }
@@ -79,7 +79,7 @@ returns-clause-given c =
     let size = c.loop-i.auto.lanes in
     let end = c.loop-i.auto.i-end in
     let same : c.loop-i.i ≡ length c.args.lanes.now = omega arith in
-    subst (HasGiven (view c.args.main.now) (view c.loop-i.main)) same c.loop-i.invariant.given
+    subst (HasGiven (view c.args.control.now) (view c.loop-i.control)) same c.loop-i.invariant.given
 
 pub returns-clause-seated : goal.returns-clause-seated
 returns-clause-seated c i x y at_x at_y =

@@ -7,9 +7,9 @@ use Rattle.fish_lanes.proofs.seats.give_all.Given as goal
 
 abbrev pub invariant-loop-i : goal.invariant-loop-i
 invariant-loop-i l = record {
-  of : IsPassOf l.log l.main;
-  given : HasGiven (view l.fn.main) (view l.main) l.i;
+  of : IsPassOf l.log l.control;
+  given : HasGiven (view l.fn.control) (view l.control) l.i;
   seated : (j : ℕ) (x y : Lane) → j < l.i → slice_get l.fn.lanes j ≡ Some x → slice_get l.lanes j ≡ Some y
-      → IsSeated l.log (view l.fn.main) j x y;
+      → IsSeated l.log (view l.fn.control) j x y;
   rest : (j : ℕ) → l.i ≤ j → slice_get l.lanes j ≡ slice_get l.fn.lanes j;
 }

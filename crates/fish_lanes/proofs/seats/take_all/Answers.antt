@@ -12,7 +12,7 @@ use Rattle.fish_lanes.proofs.seats.take_all.Goals as goal
 pub loop-i-init : goal.loop-i-init
 loop-i-init c = record {
   of = c.requires.pass;
-  taken = taken_none c.args.log.now (view c.args.main.now) c.args.lanes.now c.requires.can;
+  taken = taken_none c.args.log.now (view c.args.control.now) c.args.lanes.now c.requires.can;
   were = λ j x y below. absurd (omega arith);
   rest = λ j above. refl;
 }
@@ -26,8 +26,8 @@ take_back-requires-clause-can c =
     let r = c.index-lanes-i.result in
     let at : slice_get c.loop-i.lanes i ≡ Some r = read_at c.loop-i.lanes i r (omega arith) c.index-lanes-i.is in
     let at_fn : slice_get c.args.lanes.now i ≡ Some r = sym (inv.rest i (omega arith)) ∙ at in
-    subst (λ (z : Lane). CanTake c.args.log.now (view c.loop-i.main) z) c.index-lanes-i.is
-    (can_take c.args.log.now (view c.args.main.now) (view c.loop-i.main) c.args.lanes.now i r c.requires.can inv.taken
+    subst (λ (z : Lane). CanTake c.args.log.now (view c.loop-i.control) z) c.index-lanes-i.is
+    (can_take c.args.log.now (view c.args.control.now) (view c.loop-i.control) c.args.lanes.now i r c.requires.can inv.taken
     (omega arith) at_fn)
 
 -- the lanes with one more
@@ -51,9 +51,9 @@ loop-i-preserved c =
     let test = c.loop-i-test.true in
     let size = c.loop-i.auto.lanes in
     let r = c.index-lanes-i.result in
-    let w = view c.args.main.now in
-    let u = view c.loop-i.main in
-    let t = view c.take_back.new.main in
+    let w = view c.args.control.now in
+    let u = view c.loop-i.control in
+    let t = view c.take_back.new.control in
     let at : slice_get c.loop-i.lanes i ≡ Some r = read_at c.loop-i.lanes i r (omega arith) c.index-lanes-i.is in
     let at_fn : slice_get c.args.lanes.now i ≡ Some r = sym (inv.rest i (omega arith)) ∙ at in
     let taken : HasTaken u t r = subst (λ (z : Lane). HasTaken u t z) (sym c.index-lanes-i.is) c.take_back.ensures.taken in
@@ -72,7 +72,7 @@ returns-clause-taken c =
     let size = c.loop-i.auto.lanes in
     let end = c.loop-i.auto.i-end in
     let same : c.loop-i.i ≡ length c.args.lanes.now = omega arith in
-    subst (HasTakenAll (view c.args.main.now) (view c.loop-i.main) c.args.lanes.now) same c.loop-i.invariant.taken
+    subst (HasTakenAll (view c.args.control.now) (view c.loop-i.control) c.args.lanes.now) same c.loop-i.invariant.taken
 
 pub returns-clause-lanes : goal.returns-clause-lanes
 returns-clause-lanes c i x y at_x at_y =

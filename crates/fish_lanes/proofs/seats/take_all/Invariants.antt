@@ -7,8 +7,8 @@ use Rattle.fish_lanes.proofs.seats.take_all.Given as goal
 
 abbrev pub invariant-loop-i : goal.invariant-loop-i
 invariant-loop-i l = record {
-  of : IsPassOf l.log l.main;
-  taken : HasTakenAll (view l.fn.main) (view l.main) l.fn.lanes l.i;
+  of : IsPassOf l.log l.control;
+  taken : HasTakenAll (view l.fn.control) (view l.control) l.fn.lanes l.i;
   were : (j : ℕ) (x y : Lane) → j < l.i → slice_get l.fn.lanes j ≡ Some x → slice_get l.lanes j ≡ Some y → WasTaken x y;
   rest : (j : ℕ) → l.i ≤ j → slice_get l.lanes j ≡ slice_get l.fn.lanes j;
 }

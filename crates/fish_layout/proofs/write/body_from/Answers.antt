@@ -1,4 +1,4 @@
--- The header, the words behind it and the padding follow one another.
+-- The header, the words after it and the padding follow one another.
 use Rattle.std.proofs.Common.{◌≡◌, ◌+◌, ◌-◌, ◌*◌, [], ◌∷◌, ◌++◌, length, take, replicate, ap, ◌∙◌, arith, vec_len}
 use Rattle.std.proofs.lemmas.List.{take_all}
 use Rattle.fish_layout.specs.Body.{body_header, body_words, parts_of, words_behind}

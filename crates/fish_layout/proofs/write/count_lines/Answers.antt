@@ -1,4 +1,4 @@
--- The words behind the header are counted part by part.
+-- The words after the header are counted part by part.
 use Rattle.std.proofs.Common.{arith}
 use Rattle.fish_layout.proofs.Sizes.{few_lines, length-words_behind}
 use Rattle.fish_layout.specs.Body.{parts_of}

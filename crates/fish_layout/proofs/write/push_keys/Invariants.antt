@@ -1,4 +1,4 @@
--- The words of the entries so far stand behind the others, and the offset is behind their values.
+-- The words of the entries so far come after the others, and the offset is after their values.
 use Rattle.std.proofs.Common.{◌≡◌, ◌++◌, length, take}
 use Rattle.fish_layout.specs.Body.{key_words, values_of}
 use Rattle.fish_layout.proofs.write.push_keys.Given as goal

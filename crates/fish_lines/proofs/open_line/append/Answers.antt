@@ -1,4 +1,4 @@
--- The CR and the text go behind the bytes; of the text no more than is kept was copied.
+-- The CR and the text go after the bytes; of the text no more than is kept was copied.
 use Rattle.std.proofs.Common.{◌∙◌, ap, ◌++◌, ◌∷◌, []}
 use Rattle.std.proofs.lemmas.Result.{on_ok_weaker}
 use Rattle.fish_lines.specs.Open.{longest_kept}

@@ -1,4 +1,4 @@
--- What there is room for goes behind the bytes.
+-- What there is room for goes after the bytes.
 use Rattle.std.proofs.Common.{◌∙◌, ◌-◌, ap, ◌++◌, take}
 use Rattle.std.proofs.lemmas.Result.{on_ok_weaker}
 use Rattle.fish_lines.specs.Open.{longest_kept}

@@ -1,4 +1,4 @@
--- The first LF of the piece ends the open line, and the other lines are those of what stands behind it.
+-- The first LF of the piece ends the open line, and the other lines are those of what follows it.
 use Rattle.std.proofs.Common.{◌∙◌, ap, sym, ◌++◌, subst}
 use Rattle.std.specs.List.{slice_split}
 use Rattle.fish_json.specs.Lines.{is_line_end}

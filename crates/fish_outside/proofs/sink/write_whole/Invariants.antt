@@ -1,4 +1,4 @@
--- The bytes sent so far are the first of the piece, and stand behind what the sink had.
+-- The bytes sent so far are the first of the piece, and come after what the sink had.
 use Rattle.std.proofs.Common.{◌≤◌, ◌-◌, length, take}
 use Rattle.fish_outside.specs.Content.{Gained}
 use Rattle.fish_outside.proofs.sink.write_whole.Given as goal

@@ -13,7 +13,7 @@ load_bound-from-requires-clause-view c = (c.requires.clear.round, can_bound (vie
 pub store_from-requires-clause-view : goal.store_from-requires-clause-view
 store_from-requires-clause-view c =
     let told = c.load_bound-from.ensures.view c.requires.clear.round c.requires.clear.waits in
-    can_from (view c.args.pass.now) _ c.args.waiting told.0 _ _ c.requires.main c.requires.clear told.1 told.2
+    can_from (view c.args.pass.now) _ c.args.waiting told.0 _ _ c.requires.control c.requires.clear told.1 told.2
     c.from.ensures
 
 pub overflow_cast-result : goal.overflow_cast-result
@@ -31,4 +31,4 @@ returns-clause-bound c =
     c.load_bound-from.ensures.counted c.store_from.ensures.view
 
 pub returns-clause-alone : goal.returns-clause-alone
-returns-clause-alone c alone = at_tail (view c.args.pass.now) _ _ (c.load_bound-from.ensures.rests alone.main alone.all)
+returns-clause-alone c alone = at_tail (view c.args.pass.now) _ _ (c.load_bound-from.ensures.rests alone.control alone.all)

@@ -37,7 +37,7 @@ returns-then-word-waiting-clause-alone c alone outside =
     let frame = c.loop-lane.invariant.1.frame in
     let none : c.check_lane-word.result ≡ 0 = c.check_lane-word.ensures.alone
     (record {
-      main = ap (λ (y : View). y.lane) frame ∙ alone.main;
+      control = ap (λ (y : View). y.lane) frame ∙ alone.control;
       all = ap (λ (y : View). y.out) frame ∙ alone.all;
       idle = ap (λ (y : View). y.flight) frame ∙ alone.idle;
     }) (ap (λ (y : View). y.epoch) frame ∙ outside) in

@@ -15,4 +15,4 @@ overflow_cast-result c =
     omega arith
 
 pub returns-clause-alone : goal.returns-clause-alone
-returns-clause-alone c alone = at_tail (view c.args.pass.now) _ _ (c.load_tail.ensures.rests alone.main alone.all)
+returns-clause-alone c alone = at_tail (view c.args.pass.now) _ _ (c.load_tail.ensures.rests alone.control alone.all)

@@ -1,4 +1,4 @@
--- One piece was put behind the other, in the order of the text.
+-- One piece was put after the other, in the order of the text.
 use Rattle.std.proofs.Common.{append_assoc, ◌∙◌}
 use Rattle.fish_report.specs.StatementText.{found_text}
 use Rattle.fish_report.proofs.statements.push_found.Goals as goal

@@ -1,4 +1,4 @@
--- The table allows a load of the tail behind the last lane.
+-- The table allows a load of the tail after the last lane.
 use Rattle.std.proofs.Common.{◌∙◌, sym, arith, ap, subst, ℕ, ◌<◌, ◌≤◌}
 use Rattle.fish_rule.proofs.steps.LoadBound.{load_bound_allowed}
 use Rattle.fish_rule.specs.Flying.{region_in}
@@ -46,10 +46,10 @@ returns-clause-view c o waits = (
 )
 
 pub returns-clause-rests : goal.returns-clause-rests
-returns-clause-rests c main all =
+returns-clause-rests c control all =
     let at = c.position_in.ensures in
     subst (λ (z : ℕ × ℕ). Rests z.0 z.1 (view c.args.pass.now).tail) (λ i. (sym at.number i, sym at.line i))
-    (c.load-found.ensures.2.rests main all)
+    (c.load-found.ensures.2.rests control all)
 
 pub returns-clause-counted : goal.returns-clause-counted
 returns-clause-counted c = subst (λ (z : ℕ). (view c.args.pass.now).learned.count ≤ z)

@@ -11,7 +11,7 @@ use Rattle.fish_rule.proofs.close.all_heads.Goals as goal
 
 pub returns-in_err-push-clause-extends : goal.returns-in_err-push-clause-extends
 returns-in_err-push-clause-extends c =
-    let v = view c.loop-bucket.main in
+    let v = view c.loop-bucket.control in
     extends_both _ _ _ c.loop-bucket.invariant.extends
     (subst (Extends v) (sym c.load_head-head.ensures.view)
     (extends_head v c.loop-bucket.bucket c.load_head-head.result))
@@ -19,12 +19,12 @@ returns-in_err-push-clause-extends c =
 pub loop-bucket-preserved : goal.loop-bucket-preserved
 loop-bucket-preserved c =
     let inv = c.loop-bucket.invariant in
-    let v = view c.loop-bucket.main in
+    let v = view c.loop-bucket.control in
     let u = view c.load_head-head.new.pass in
     let b : ℕ = c.loop-bucket.bucket in
     let x : ℕ = c.load_head-head.result in
     let heads : List ℕ = c.loop-bucket.heads in
-    let settled : ℕ = (view c.args.main.now).learned.settled in
+    let settled : ℕ = (view c.args.control.now).learned.settled in
     let is = c.load_head-head.ensures.view in
     let more = subst (Extends v) (sym is) (extends_head v b x) in
     let first = subst (λ (k : Key). x ≤ k.line * 4 → x ≡ first_head k b) (sym inv.of.about)

@@ -8,9 +8,9 @@ use Rattle.fish_rule.proofs.close.all_heads.Given as goal
 
 abbrev pub invariant-loop-bucket : goal.invariant-loop-bucket
 invariant-loop-bucket l = record {
-  of : IsPassOf l.log l.main;
-  extends : Extends (view l.fn.main) (view l.main);
-  same : (view l.main).learned.settled ≡ (view l.fn.main).learned.settled;
+  of : IsPassOf l.log l.control;
+  extends : Extends (view l.fn.control) (view l.control);
+  same : (view l.control).learned.settled ≡ (view l.fn.control).learned.settled;
   many : length l.heads ≡ l.bucket;
-  each : (b x : ℕ) → get_elem? l.heads b ≡ some x → HasHead (view l.main) (view l.fn.main).learned.settled b x;
+  each : (b x : ℕ) → get_elem? l.heads b ≡ some x → HasHead (view l.control) (view l.fn.control).learned.settled b x;
 }

@@ -19,7 +19,7 @@ pub loop-number-preserved : goal.loop-number-preserved
 loop-number-preserved c =
     let inv = c.loop-number.invariant in
     let more = c.add_number.ensures.extends in
-    let on = goes_on (view c.add_number.new.main) c.loop-number.number c.loop-number.read.lines c.add_number.new.read
+    let on = goes_on (view c.add_number.new.control) c.loop-number.number c.loop-number.read.lines c.add_number.new.read
     c.in_ok-add_number.field-0 (cc) c.in_ok-add_number.ensures.read in
     let next : suc c.loop-number.number ≡ c.loop-number.number + 1 = omega arith in
     let a = more.learns.count in
@@ -29,6 +29,6 @@ loop-number-preserved c =
       alone = alone_later _ _ more inv.alone;
       extends = extends_both _ _ _ inv.extends more;
       counted = omega arith;
-      read = subst (λ (z : ℕ). IsReadUpTo (view c.add_number.new.main) z c.add_number.new.read) next on.0;
+      read = subst (λ (z : ℕ). IsReadUpTo (view c.add_number.new.control) z c.add_number.new.read) next on.0;
       lines = on.1 ∙ inv.lines;
     }

@@ -8,10 +8,10 @@ use Rattle.fish_rule.proofs.close.all_numbers.Given as goal
 
 abbrev pub invariant-loop-number : goal.invariant-loop-number
 invariant-loop-number l = record {
-  of : IsPassOf l.log l.main;
-  alone : IsAlone (view l.main);
-  extends : Extends (view l.fn.main) (view l.main);
-  counted : l.end ≤ (view l.main).learned.count;
-  read : IsReadUpTo (view l.main) l.number l.read;
+  of : IsPassOf l.log l.control;
+  alone : IsAlone (view l.control);
+  extends : Extends (view l.fn.control) (view l.control);
+  counted : l.end ≤ (view l.control).learned.count;
+  read : IsReadUpTo (view l.control) l.number l.read;
   lines : l.read.lines ≡ l.fn.read.lines;
 }

@@ -5,5 +5,5 @@ use Rattle.fish_rule.proofs.close.close_log.Goals as goal
 
 pub returns-in-Ok-clause-log : goal.returns-in-Ok-clause-log
 returns-in-Ok-clause-log c =
-    closed_before (view c.args.main) (view c.read_log.new.main) c.remains_of.result c.read_log.ensures.on
+    closed_before (view c.args.control) (view c.read_log.new.control) c.remains_of.result c.read_log.ensures.on
     c.remains_of.ensures.closed

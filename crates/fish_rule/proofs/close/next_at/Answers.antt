@@ -23,7 +23,7 @@ returns-in-Stored-clause-next c =
     let x : ℕ = c.look_at-word.result in
     let kind = sym c.in-Stored.ensures in (
       seen c.args.number look.0 x,
-      seen_here (view c.args.main.now) _ c.args.number look.0 x look.1 (c.look_at-word.ensures.alone c.requires.alone),
+      seen_here (view c.args.control.now) _ c.args.number look.0 x look.1 (c.look_at-word.ensures.alone c.requires.alone),
       refl,
       λ e. (let q : Stored ≡ Mark = sym kind ∙ e in cc),
       sym c.line_of_word-line.ensures,
@@ -35,7 +35,7 @@ returns-in-Void-clause-next c =
     let x : ℕ = c.look_at-word.result in
     let kind = sym c.in-Void.ensures in (
       seen c.args.number look.0 x,
-      seen_here (view c.args.main.now) _ c.args.number look.0 x look.1 (c.look_at-word.ensures.alone c.requires.alone),
+      seen_here (view c.args.control.now) _ c.args.number look.0 x look.1 (c.look_at-word.ensures.alone c.requires.alone),
       refl,
       λ e. (let q : Void ≡ Mark = sym kind ∙ e in cc),
       sym c.line_of_word-line.ensures,
@@ -46,7 +46,7 @@ returns-in-Mark-clause-next c =
     let look = c.look_at-word.ensures.view in
     let x : ℕ = c.look_at-word.result in (
       seen c.args.number look.0 x,
-      seen_here (view c.args.main.now) _ c.args.number look.0 x look.1 (c.look_at-word.ensures.alone c.requires.alone),
+      seen_here (view c.args.control.now) _ c.args.number look.0 x look.1 (c.look_at-word.ensures.alone c.requires.alone),
       refl,
       sym c.in-Mark.ensures,
       sym c.line_of_word-line.ensures,

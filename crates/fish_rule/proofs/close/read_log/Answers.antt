@@ -22,7 +22,7 @@ pub returns-in-Err-clause-stays : goal.returns-in-Err-clause-stays
 returns-in-Err-clause-stays c =
     let x = c.load_tail-tail.ensures.view in
     reads_words _ _ _ x.0 _ _ x.1 x.2 x.3 c.load_tail-tail.ensures.counted
-    (c.load_tail-tail.ensures.rests c.requires.alone.main c.requires.alone.all) c.read_words.ensures.extends
+    (c.load_tail-tail.ensures.rests c.requires.alone.control c.requires.alone.all) c.read_words.ensures.extends
 
 pub returns-in-Err-clause-on : goal.returns-in-Err-clause-on
 returns-in-Err-clause-on c = (returns-in-Err-clause-stays c).on
@@ -31,13 +31,13 @@ pub returns-in-Ok-clause-on : goal.returns-in-Ok-clause-on
 returns-in-Ok-clause-on c =
     let x = c.load_tail-tail.ensures.view in
     let stays = reads_words _ _ _ x.0 _ _ x.1 x.2 x.3 c.load_tail-tail.ensures.counted
-    (c.load_tail-tail.ensures.rests c.requires.alone.main c.requires.alone.all) c.read_words.ensures.extends in
-    reads_version (view c.args.main.now) (view c.read_words.new.main) (view c.load_version-version.new.pass)
+    (c.load_tail-tail.ensures.rests c.requires.alone.control c.requires.alone.all) c.read_words.ensures.extends in
+    reads_version (view c.args.control.now) (view c.read_words.new.control) (view c.load_version-version.new.pass)
     c.load_version-version.result stays.on c.load_version-version.ensures.view c.load_version-version.ensures.rises
 
 pub returns-in-Ok-clause-whole : goal.returns-in-Ok-clause-whole
 returns-in-Ok-clause-whole c =
-    let u = view c.read_words.new.main in
+    let u = view c.read_words.new.control in
     let w = view c.load_version-version.new.pass in
     let y : ℕ = c.load_version-version.result in
     let tail : Position = c.load_tail-tail.result in

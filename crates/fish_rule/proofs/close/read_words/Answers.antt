@@ -11,7 +11,7 @@ use Rattle.fish_rule.proofs.close.read_words.Goals as goal
 
 pub raise_settled-requires-clause-view : goal.raise_settled-requires-clause-view
 raise_settled-requires-clause-view c =
-    let v = view c.all_numbers.new.main in
+    let v = view c.all_numbers.new.control in
     let h = c.in_ok-all_numbers.ensures.read in
     let about : v.about.number ≡ c.args.log.now.key.number = ap (λ (z : Key). z.number) c.all_numbers.ensures.pass.about in
     let many = h.upto.many in
@@ -22,7 +22,7 @@ raise_settled-requires-clause-view c =
 
 pub returns-clause-extends : goal.returns-clause-extends
 returns-clause-extends c =
-    let v = view c.all_numbers.new.main in
+    let v = view c.all_numbers.new.control in
     extends_both _ _ _ c.all_numbers.ensures.extends
     (extends_both _ _ _
     (subst (Extends v) (sym c.raise_settled.ensures.view) (extends_raise v _ _ c.raise_settled.ensures.rises))
@@ -30,9 +30,9 @@ returns-clause-extends c =
 
 pub returns-clause-read : goal.returns-clause-read
 returns-clause-read c =
-    let v = view c.all_numbers.new.main in
+    let v = view c.all_numbers.new.control in
     let learns = learns_both _ _ _
     (subst (Learns v) (sym c.raise_settled.ensures.view) (extends_raise v _ _ c.raise_settled.ensures.rises).learns)
     c.all_heads.ensures.extends.learns in
-    on_ok_weaker c.all_heads.result (λ _. read_later v (view c.all_heads.new.main) c.args.end c.args.read.now.lines
+    on_ok_weaker c.all_heads.result (λ _. read_later v (view c.all_heads.new.control) c.args.end c.args.read.now.lines
     c.all_numbers.new.read learns c.in_ok-all_numbers.ensures.read) c.all_heads.ensures.heads

@@ -38,12 +38,12 @@ stands key id v words about there = record {
 pub invariant_of-result : goal.invariant_of-result
 invariant_of-result c =
     let key : Key = c.args.log.key in
-    let v = view c.args.main in
+    let v = view c.args.control in
     let about = c.requires.pass.about in
     let closed = c.close_with-closed.result in
-    let there = is_there key c.args.log.table.shared.key c.args.main.seat.id v closed.words closed.slots c.args.log.keyed
+    let there = is_there key c.args.log.table.shared.key c.args.control.seat.id v closed.words closed.slots c.args.log.keyed
     c.close_with-closed.ensures.values in
-    let s = stands key c.args.main.seat.id v (slots_items closed.words) about there in
+    let s = stands key c.args.control.seat.id v (slots_items closed.words) about there in
     let h = c.requires.whole.read in
     let from = h.upto.from in
     let many = h.upto.many in
@@ -60,12 +60,12 @@ invariant_of-result c =
 pub returns-clause-closed : goal.returns-clause-closed
 returns-clause-closed c =
     let key : Key = c.args.log.key in
-    let v = view c.args.main in
+    let v = view c.args.control in
     let about = c.requires.pass.about in
     let closed = c.close_with-closed.result in
-    let there = is_there key c.args.log.table.shared.key c.args.main.seat.id v closed.words closed.slots c.args.log.keyed
+    let there = is_there key c.args.log.table.shared.key c.args.control.seat.id v closed.words closed.slots c.args.log.keyed
     c.close_with-closed.ensures.values in
-    let s = stands key c.args.main.seat.id v (slots_items closed.words) about there in
+    let s = stands key c.args.control.seat.id v (slots_items closed.words) about there in
     let first : v.about.number ≡ key.number = ap (λ (z : Key). z.number) about in
     closes v c.args.whole key.number _ s c.requires.alone c.requires.whole (sym first)
     (ap (λ (z : ℕ). entries_in s.moment.dir s.moment.log z (c.args.whole.read.number - z)) (sym first))

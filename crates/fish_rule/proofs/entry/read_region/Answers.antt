@@ -1,4 +1,4 @@
--- All words of the region are read, behind those of before.
+-- All words of the region are read, after those of before.
 use Rattle.std.proofs.Common.{◌≡◌, ◌∙◌, refl, sym, inl, inr, ap, arith, subst, ℕ, ◌<◌, ◌≤◌, ◌+◌, ◌*◌, List, [], ◌∷◌}
 use Rattle.std.proofs.Common.{◌++◌, length, get_or, Option, Some, None, is_some}
 use Rattle.std.proofs.Common.{unwrap_or}
@@ -147,7 +147,7 @@ loop-offset-preserved c =
           c.loop-offset.offset x c.args.words.now.items c.loop-offset.words.items (omega arith) told.extends inv.put here);
     }
 
--- behind the key entries, all words of the region may be read
+-- after the key entries, all words of the region may be read
 pub read_rest-requires-clause-read : goal.read_rest-requires-clause-read
 read_rest-requires-clause-read c =
     let inv = c.loop-offset.invariant in
@@ -187,7 +187,7 @@ read_rest-requires-clause-room c =
 pub returns-clause-extends : goal.returns-clause-extends
 returns-clause-extends c = extends_both _ _ _ c.loop-offset.invariant.extends c.read_rest.ensures.extends
 
--- the words of the key entries, and those behind them
+-- the words of the key entries, and those after them
 pub returns-clause-words : goal.returns-clause-words
 returns-clause-words c =
     let inv = c.loop-offset.invariant in

@@ -1,4 +1,4 @@
--- The words so far are the header and those behind it, behind the ones of before; the loads so far are counted, and
+-- The words so far are the header and those after it, after the ones of before; the loads so far are counted, and
 -- there is room for the words to come.
 use Rattle.std.proofs.Common.{◌≡◌, ◌≤◌, ◌+◌, length}
 use Rattle.std.specs.Vec.{vec_capacity}

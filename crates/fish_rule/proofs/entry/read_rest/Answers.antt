@@ -1,4 +1,4 @@
--- Each turn reads the next word, and puts it behind the others.
+-- Each turn reads the next word, and puts it after the others.
 use Rattle.std.proofs.Common.{◌≡◌, ℕ, ◌+◌, ◌-◌, ◌*◌, suc, List, sym, ap, ◌∙◌, subst, arith}
 use Rattle.fish_rule.proofs.laws.Learning.{extends_both, extends_to_read, read_here}
 use Rattle.fish_rule.proofs.basics.RegionWords.{AreMore, can_read_later, more_one}

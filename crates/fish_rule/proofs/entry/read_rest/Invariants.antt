@@ -1,4 +1,4 @@
--- The words so far are those from the first on, each of which is known, behind the ones of before.
+-- The words so far are those from the first on, each of which is known, after the ones of before.
 use Rattle.std.proofs.Common.{◌≡◌, ◌+◌, ◌-◌}
 use Rattle.std.specs.Vec.{vec_capacity}
 use Rattle.fish_rule.proofs.basics.RegionWords.{AreMore}

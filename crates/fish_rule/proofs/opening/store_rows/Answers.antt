@@ -26,11 +26,11 @@ returns-clause-rows c id row there =
     let all = c.loop-id-test.false in
     c.loop-id.invariant.placed id row (omega arith) there
 
--- in front of the rows all is as it was
+-- before the rows all is as it was
 pub returns-clause-before : goal.returns-clause-before
 returns-clause-before c = c.loop-id.invariant.before
 
--- and so it is behind the last row
+-- and so it is after the last row
 pub returns-clause-behind : goal.returns-clause-behind
 returns-clause-behind c p behind =
     let upto = c.loop-id.auto.id-end in

@@ -15,9 +15,9 @@ use Rattle.fish_rule.proofs.seats.join_pass.Goals as goal
 pub join_seat-requires : goal.join_seat-requires
 join_seat-requires c =
     let log = c.args.log.now in
-    let seat = c.args.main.now.seat in
+    let seat = c.args.control.now.seat in
     let other = c.args.other in (
-      c.requires.main.table,
+      c.requires.control.table,
       c.requires.other.table,
       other.bare,
       subst (λ (z : ℕ). 0 < z) (sym log.wide) (omega arith),
@@ -30,8 +30,8 @@ load-requires c =
     let log = c.args.log.now in
     let seat = c.join_seat.new.seat in
     let about : seat.me.0.about ≡ log.key = ap (λ (z : Sat). z.0.about) c.join_seat.ensures.2
-    ∙ c.requires.main.about in (
-      c.join_seat.ensures.0 ∙ c.requires.main.table,
+    ∙ c.requires.control.about in (
+      c.join_seat.ensures.0 ∙ c.requires.control.table,
       subst (λ (z : ℕ). 0 < z) (sym log.wide) (omega arith),
       load_tail_allowed log.table.shared.key log.key log.keyed log.table.shared.table_id.slots seat.id seat.me about,
     )
@@ -45,27 +45,27 @@ joined k v u m n st x here there both end =
 -- what the control pass knew, where the other may have shut it
 pub returns-then-is_none-clause-learns : goal.returns-then-is_none-clause-learns
 returns-then-is_none-clause-learns c =
-    (joined _ c.args.main.now.seat.me.0 c.args.other.seat.me.0 c.join_seat.new.seat.me c.load.new.seat.me _
-    c.load.result c.requires.main.about c.requires.other.about
+    (joined _ c.args.control.now.seat.me.0 c.args.other.seat.me.0 c.join_seat.new.seat.me c.load.new.seat.me _
+    c.load.result c.requires.control.about c.requires.other.about
     (ap (λ (z : Sat). z.0) c.join_seat.ensures.2) c.load.ensures.2).0
 
 -- what the other pass knew
 pub returns-then-is_none-clause-learned : goal.returns-then-is_none-clause-learned
 returns-then-is_none-clause-learned c =
-    (joined _ c.args.main.now.seat.me.0 c.args.other.seat.me.0 c.join_seat.new.seat.me c.load.new.seat.me _
-    c.load.result c.requires.main.about c.requires.other.about
+    (joined _ c.args.control.now.seat.me.0 c.args.other.seat.me.0 c.join_seat.new.seat.me c.load.new.seat.me _
+    c.load.result c.requires.control.about c.requires.other.about
     (ap (λ (z : Sat). z.0) c.join_seat.ensures.2) c.load.ensures.2).1
 
 -- what the control pass knew, where it was shut
 pub returns-else-is_none-clause-learns : goal.returns-else-is_none-clause-learns
 returns-else-is_none-clause-learns c =
-    (joined _ c.args.main.now.seat.me.0 c.args.other.seat.me.0 c.join_seat.new.seat.me c.load.new.seat.me _
-    c.load.result c.requires.main.about c.requires.other.about
+    (joined _ c.args.control.now.seat.me.0 c.args.other.seat.me.0 c.join_seat.new.seat.me c.load.new.seat.me _
+    c.load.result c.requires.control.about c.requires.other.about
     (ap (λ (z : Sat). z.0) c.join_seat.ensures.2) c.load.ensures.2).0
 
 -- what the other pass knew
 pub returns-else-is_none-clause-learned : goal.returns-else-is_none-clause-learned
 returns-else-is_none-clause-learned c =
-    (joined _ c.args.main.now.seat.me.0 c.args.other.seat.me.0 c.join_seat.new.seat.me c.load.new.seat.me _
-    c.load.result c.requires.main.about c.requires.other.about
+    (joined _ c.args.control.now.seat.me.0 c.args.other.seat.me.0 c.join_seat.new.seat.me c.load.new.seat.me _
+    c.load.result c.requires.control.about c.requires.other.about
     (ap (λ (z : Sat). z.0) c.join_seat.ensures.2) c.load.ensures.2).1

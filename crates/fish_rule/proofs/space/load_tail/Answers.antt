@@ -26,10 +26,10 @@ returns-clause-view c = (
 )
 
 pub returns-clause-rests : goal.returns-clause-rests
-returns-clause-rests c main all =
+returns-clause-rests c control all =
     let at = c.position_in.ensures in
     subst (λ (z : ℕ × ℕ). Rests z.0 z.1 (view c.args.pass.now).tail) (λ i. (sym at.number i, sym at.line i))
-    (c.load-found.ensures.2.rests main all)
+    (c.load-found.ensures.2.rests control all)
 
 pub returns-clause-from : goal.returns-clause-from
 returns-clause-from c = subst (λ (z : ℕ). c.args.log.now.key.number ≤ z) (sym c.position_in.ensures.number)

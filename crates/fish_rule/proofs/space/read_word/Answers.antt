@@ -11,7 +11,7 @@ use Rattle.fish_rule.specs.declared.table.Log.{Log}
 use Rattle.fish_rule.specs.declared.table.Pass.{Pass}
 use Rattle.fish_rule.proofs.space.read_word.Goals as goal
 
--- the place is behind the table's first line and within the log
+-- the place is after the table's first line and within the log
 record Within (k : Key) (line offset : ℕ) : Type 0 where
   behind : k.line ≤ line
   end : line * 4 + offset < k.end * 4

@@ -1,4 +1,4 @@
--- The number of a lane, its items, and what stands behind them.
+-- The number of a lane, its items, and what follows them.
 use Rattle.std.proofs.lemmas.Result.{on_err_weaker, on_ok_weaker}
 use Rattle.std.proofs.Common.{◌++◌, List, subst}
 use Rattle.fish_outside.specs.Content.{Gained, GainedPart}

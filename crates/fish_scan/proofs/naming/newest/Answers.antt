@@ -1,4 +1,4 @@
--- The places behind were looked at.
+-- The places after were looked at.
 use Rattle.std.proofs.Common.{◌≡◌, ◌-◌, slice_get, refl, sym, ap, ◌∙◌, arith, length}
 use Rattle.std.proofs.Math.Decide.{ℕ_discrete}
 use Rattle.std.proofs.lemmas.Option.{same_Some, slice_get_read}

@@ -1,4 +1,4 @@
--- What is settled, and the looks behind it, tell how far the scan looks.
+-- What is settled, and the looks after it, tell how far the scan looks.
 use Rattle.std.proofs.Common.{◌≡◌, ℕ, ◌+◌, length, refl, sym, ap, ◌∙◌, subst, arith, min, max}
 use Rattle.fish_rule.specs.Passes.{view}
 use Rattle.fish_scan.proofs.Ends.{exact_found}
@@ -16,7 +16,7 @@ cut_end-end-requires-clause-above c =
     let one = c.max-stop.ensures in
     omega arith
 
--- and behind it
+-- and after it
 pub look_on-requires-clause-above : goal.look_on-requires-clause-above
 look_on-requires-clause-above c some =
     let base = c.base.ensures.0 in

@@ -1,4 +1,4 @@
--- A read of one byte gives the gate, or nothing behind the file's end.
+-- A read of one byte gives the gate, or nothing past the file's end.
 use Rattle.std.proofs.Common.{◌≡◌, length, rules, subst}
 use Rattle.fish_disk.specs.Content.{Gave}
 use Rattle.fish_slots.proofs.Reading.{gate_missing, gate_read}

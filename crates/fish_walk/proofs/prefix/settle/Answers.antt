@@ -9,7 +9,7 @@ use Rattle.fish_walk.proofs.Looking.{ends_later, stops_below}
 use Rattle.fish_walk.proofs.Settling.{alone_still, can_raise, counted_here, settles_all, stops_here}
 use Rattle.fish_walk.proofs.prefix.settle.Goals as goal
 
--- below the number all is known: before the first look by the load, behind it by the looks
+-- below the number all is known: before the first look by the load, after it by the looks
 pub raise_to-requires-clause-can : goal.raise_to-requires-clause-can
 raise_to-requires-clause-can c =
     let t = c.count_now-count.ensures.view in
@@ -92,7 +92,7 @@ returns-clause-ends c alone =
     c.from.result known.ensures.view t.1 s.looked c.raise_to.ensures.raised alone in
     ends_later _ _ _ _ c.raise_to.ensures.raised.extends.learns (s.ends still)
 
--- the looks begin at or behind what was settled
+-- the looks begin at or after what was settled
 pub returns-clause-rises : goal.returns-clause-rises
 returns-clause-rises c =
     let up = c.load_settled-known.ensures.rises in
@@ -119,4 +119,4 @@ pub returns-clause-rests : goal.returns-clause-rests
 returns-clause-rests c alone =
     let known = c.load_settled-known.ensures.view in
     subst (IsTailCount c.count_now-count.result) (ap (λ (z : View). z.tail) known)
-    (c.count_now-count.ensures.rests (ap (λ (z : View). z.lane) known ∙ alone.main) (ap (λ (z : View). z.out) known ∙ alone.all))
+    (c.count_now-count.ensures.rests (ap (λ (z : View). z.lane) known ∙ alone.control) (ap (λ (z : View). z.out) known ∙ alone.all))

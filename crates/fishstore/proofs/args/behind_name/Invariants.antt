@@ -1,4 +1,4 @@
--- The words so far, and those to come, are all behind the first.
+-- The words so far, and those to come, are all after the first.
 use Rattle.std.proofs.Common.{◌≡◌, ◌++◌, drop, map}
 use Rattle.std.specs.Prelude.{string_bytes}
 use Rattle.std.specs.Vec.Iter.{into_iter_items}

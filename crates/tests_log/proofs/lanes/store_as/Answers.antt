@@ -26,9 +26,9 @@ returns-clause-rows c =
     ap (λ (z : View). z.rows) (goes_on (view c.args.pass.now) (view c.ingest.new.pass) c.args.form c.args.payload.now
     c.ingest.result c.requires.start c.ingest.ensures.ingested c.ingest.ensures.refused).1.frame
 
-pub returns-clause-main_words : goal.returns-clause-main_words
-returns-clause-main_words c =
-    ap (λ (z : View). z.main_words) (goes_on (view c.args.pass.now) (view c.ingest.new.pass) c.args.form c.args.payload.now
+pub returns-clause-control_words : goal.returns-clause-control_words
+returns-clause-control_words c =
+    ap (λ (z : View). z.control_words) (goes_on (view c.args.pass.now) (view c.ingest.new.pass) c.args.form c.args.payload.now
     c.ingest.result c.requires.start c.ingest.ensures.ingested c.ingest.ensures.refused).1.frame
 
 pub returns-clause-round : goal.returns-clause-round

@@ -4,5 +4,5 @@ use Rattle.tests_log.proofs.races.scan_beside.Goals as goal
 
 pub returns : goal.returns
 returns c =
-    beside_scanned c.args.log.now c.args.main.now _ c.args.registrar.now _ c.requires c.scan_between-answer.ensures.ready
+    beside_scanned c.args.log.now c.args.control.now _ c.args.registrar.now _ c.requires c.scan_between-answer.ensures.ready
     c.scan_between-answer.ensures.only

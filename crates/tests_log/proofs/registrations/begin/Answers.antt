@@ -4,5 +4,5 @@ use Rattle.tests_log.proofs.registrations.begin.Goals as goal
 
 pub returns-clause-kept : goal.returns-clause-kept
 returns-clause-kept c =
-    kept_on c.args.log.now c.args.main.now _ c.args.registrar.now _ c.requires c.begin-begun.ensures.pass
+    kept_on c.args.log.now c.args.control.now _ c.args.registrar.now _ c.requires c.begin-begun.ensures.pass
     c.begin-begun.ensures.knows c.begin-begun.ensures.changes

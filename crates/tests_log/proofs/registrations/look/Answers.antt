@@ -4,5 +4,5 @@ use Rattle.tests_log.proofs.registrations.look.Goals as goal
 
 pub returns : goal.returns
 returns c =
-    beside_on c.args.log.now c.args.main.now _ c.args.registrar.now _ c.requires c.poll.ensures.kept
+    beside_on c.args.log.now c.args.control.now _ c.args.registrar.now _ c.requires c.poll.ensures.kept
     c.poll.ensures.changes

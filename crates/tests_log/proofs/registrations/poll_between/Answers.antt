@@ -4,5 +4,5 @@ use Rattle.tests_log.proofs.registrations.poll_between.Goals as goal
 
 pub returns : goal.returns
 returns c =
-    working_on c.args.log.now c.args.main.now _ c.args.registrar.now _ c.args.defs.now c.requires c.poll.ensures.kept
+    working_on c.args.log.now c.args.control.now _ c.args.registrar.now _ c.args.defs.now c.requires c.poll.ensures.kept
     c.poll.ensures.changes

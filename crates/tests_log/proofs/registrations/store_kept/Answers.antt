@@ -5,5 +5,5 @@ use Rattle.tests_log.proofs.registrations.store_kept.Goals as goal
 pub returns : goal.returns
 returns c =
     let e = c.store.ensures in
-    working_stored c.args.log.now c.args.main.now _ c.args.registrar.now _ c.requires.kept e.ready e.lane e.rows e.main_words
+    working_stored c.args.log.now c.args.control.now _ c.args.registrar.now _ c.requires.kept e.ready e.lane e.rows e.control_words
     e.round e.learns

@@ -3,4 +3,4 @@ use Rattle.tests_log.specs.Registering.{IsBeside}
 use Rattle.tests_log.proofs.registrations.wait.Given as goal
 
 abbrev pub invariant-loop : goal.invariant-loop
-invariant-loop l = IsBeside l.log l.main l.registrar
+invariant-loop l = IsBeside l.log l.control l.registrar

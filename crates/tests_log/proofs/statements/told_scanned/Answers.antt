@@ -4,5 +4,5 @@ use Rattle.tests_log.proofs.statements.told_scanned.Goals as goal
 
 pub returns : goal.returns
 returns c =
-    working_scanned c.args.log.now c.args.main.now _ c.args.registrar.now _ c.requires.kept c.told_scan-text.ensures.ready
+    working_scanned c.args.log.now c.args.control.now _ c.args.registrar.now _ c.requires.kept c.told_scan-text.ensures.ready
     c.told_scan-text.ensures.only

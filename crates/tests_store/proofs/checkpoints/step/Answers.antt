@@ -9,4 +9,4 @@ loop-payload-preserved g c =
     let frame = c.store.ensures.on.frame in
     flushing_on (g.D.Disk.images c.args.disk.now) c.args.log.now c.loop-payload.control c.loop-payload.invariant c.store.new.pass
     c.store.new.defs c.store.ensures.ready (ap (λ (z : View). z.lane) frame) (ap (λ (z : View). z.rows) frame)
-    (ap (λ (z : View). z.main_words) frame) c.store.ensures.on.learns
+    (ap (λ (z : View). z.control_words) frame) c.store.ensures.on.learns

@@ -1,4 +1,4 @@
--- Each call takes what is left to one of the images behind it.
+-- Each call takes what is left to one of the images after it.
 use Rattle.std.proofs.Common.{◌≡◌, ◌<◌, length, get_or, subst, arith, ap, ◌∙◌}
 use Rattle.fish_disk.specs.Calls.{Only, after_call}
 use Rattle.fish_disk.proofs.Recorded.{replayed}

@@ -1,4 +1,4 @@
--- Words behind damage or behind all entries change nothing.
+-- Words after damage or after all entries change nothing.
 use Rattle.std.proofs.Common.{ℕ, Option, ◌++◌, arith, sym, subst}
 use Rattle.fish_image.specs.Checking.{Seen}
 use Rattle.fish_image.proofs.Pieces.{breaks_more, seen_more}

@@ -1,4 +1,4 @@
--- All bytes so far go behind an open line of none.
+-- All bytes so far go after an open line of none.
 use Rattle.std.proofs.Common.{[]}
 use Rattle.fish_lines.proofs.SplitLemmas.{HasTaken-begin}
 use Rattle.fish_lines.proofs.splitter.Splitter.begin.Goals as goal

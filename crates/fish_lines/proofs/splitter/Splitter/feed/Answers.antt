@@ -1,4 +1,4 @@
--- Behind the start the piece's lines follow; at the start all bytes so far are taken at once.
+-- After the start the piece's lines follow; at the start all bytes so far are taken at once.
 use Rattle.std.proofs.Common.{◌≡◌, ◌==◌, List, ℕ, [], ◌∷◌, ◌++◌, true, Result, Ok, Err, sym, ap, subst, ◌∙◌, refl, length, arith}
 use Rattle.std.specs.Result.{OnOk}
 use Rattle.std.proofs.lemmas.Bool.{eqb-true}

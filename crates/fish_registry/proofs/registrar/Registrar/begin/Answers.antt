@@ -58,7 +58,7 @@ returns-clause-knows c =
     (c.rows.ensures.value ∙ c.in_ok-id.ensures.added) (c.from.ensures ∙ c.in_ok-id.ensures.id) c.index-rows-from.is
     c.register_row.ensures.registered)
     (unset_law v c.last_version.ensures.pass.stands
-    (ap (λ (z : View). z.lane) stays.frame ∙ c.requires.knows.main)) room.2)
+    (ap (λ (z : View). z.lane) stays.frame ∙ c.requires.knows.control)) room.2)
 
 pub returns-clause-changes : goal.returns-clause-changes
 returns-clause-changes c =

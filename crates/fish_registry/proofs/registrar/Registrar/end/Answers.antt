@@ -5,7 +5,7 @@ use Rattle.fish_registry.proofs.Changing.{changes_both, changes_end, changes_sta
 use Rattle.fish_registry.proofs.Knowing.{knows_ended, knows_stays, knows_tailed, may_close, may_end}
 use Rattle.fish_registry.specs.Knowing.{KnowsRows}
 use Rattle.fish_registry.specs.declared.registrar.Waiting.{Waiting}
-use Rattle.fish_rule.proofs.laws.Versions.{main_law}
+use Rattle.fish_rule.proofs.laws.Versions.{control_law}
 use Rattle.fish_rule.specs.Passes.{view}
 use Rattle.fish_rule.specs.declared.view.View.{View}
 use Rattle.fish_registry.proofs.registrar.Registrar.end.Goals as goal
@@ -34,7 +34,7 @@ end_row-requires-clause-row c =
     let from = tailed.from in
     let about = ap (λ (y : View). y.about.number) tailed.view in
     may_end z rows c.in-Some.id c.count_tail-to.result row.row
-    (main_law z c.count_tail-to.ensures.pass.stands known.main) known row.there row.active (omega arith)
+    (control_law z c.count_tail-to.ensures.pass.stands known.control) known row.there row.active (omega arith)
     (omega arith)
 
 pub set_to-requires : goal.set_to-requires
@@ -59,7 +59,7 @@ returns-clause-knows c =
     subst (λ (x : List CatRow × Option Waiting). KnowsRows (view c.end_row.new.pass) x.0 x.1)
     (λ i. (sym c.set_to.ensures i, sym settled i))
     (knows_ended z (view c.end_row.new.pass) rows c.in-Some.id c.count_tail-to.result row.row
-    (main_law z c.count_tail-to.ensures.pass.stands known.main) known row.there c.end_row.ensures.ended)
+    (control_law z c.count_tail-to.ensures.pass.stands known.control) known row.there c.end_row.ensures.ended)
 
 pub returns-clause-changes : goal.returns-clause-changes
 returns-clause-changes c =
@@ -94,7 +94,7 @@ returns-clause-alone c alone =
     let frame = c.last_version.ensures.stays.frame in
     same_tail (view c.args.pass.now) (view c.last_version.new.pass) _ (ap (λ (v : View). v.tail) frame)
     (c.count_tail-to.ensures.alone (record {
-      main = ap (λ (v : View). v.lane) frame ∙ alone.main;
+      control = ap (λ (v : View). v.lane) frame ∙ alone.control;
       all = ap (λ (v : View). v.out) frame ∙ alone.all;
       idle = ap (λ (v : View). v.flight) frame ∙ alone.idle;
     }))

@@ -45,7 +45,7 @@ pub returns-in-None-clause-begins : goal.returns-in-None-clause-begins
 returns-in-None-clause-begins c alone =
     let frame = c.first_older.ensures.looks.frame in
     same_tail (view c.args.pass.now) (view c.first_older.new.pass) _ (ap (λ (v : View). v.tail) frame) (c.bind-from.ensures.alone (record {
-      main = ap (λ (v : View). v.lane) frame ∙ alone.main;
+      control = ap (λ (v : View). v.lane) frame ∙ alone.control;
       all = ap (λ (v : View). v.out) frame ∙ alone.all;
       idle = ap (λ (v : View). v.flight) frame ∙ alone.idle;
     }))

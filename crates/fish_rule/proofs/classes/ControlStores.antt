@@ -10,8 +10,8 @@ use Rattle.fish_rule.proofs.classes.OnRegistry.{carries_later, owned_before, rea
 use Rattle.fish_rule.proofs.classes.OnRegistry.{versions_later}
 use Rattle.fish_rule.proofs.basics.Worlds.{put-else, put-here}
 use Rattle.fish_rule.specs.Boundaries.{Boundaries}
-use Rattle.fish_rule.specs.Epochs.{IsAtMost, IsMain, IsOwned, Registry, Stays}
-use Rattle.fish_rule.specs.Registry.{Endures, IsLasting, IsRegistered, definitions_at, main_word, epoch_at, version_in}
+use Rattle.fish_rule.specs.Epochs.{IsAtMost, IsControl, IsOwned, Registry, Stays}
+use Rattle.fish_rule.specs.Registry.{Endures, IsLasting, IsRegistered, definitions_at, control_word, epoch_at, version_in}
 use Rattle.fish_rule.specs.Rounds.{Waits}
 use Rattle.fish_rule.specs.SpaceSteps.{ticked}
 use Rattle.fish_rule.specs.Views.{AllOf, Has}
@@ -23,18 +23,18 @@ use Rattle.fish_rule.specs.declared.view.Round.{Round}
 waits_else : (k : Key) (count : ℕ) (g g' : ℕ → ℕ) (state : ℕ → Epoch) (version_of : ℕ → ℕ) (lane : ℕ) (o : Option Round)
     → lane ≢ 1 → Waits k count g state version_of lane o → Waits k count g' state version_of lane o
 waits_else k count g g' state version_of lane None ne h = tt
-waits_else k count g g' state version_of lane (Some o) ne h = absurd (ne h.main)
+waits_else k count g g' state version_of lane (Some o) ne h = absurd (ne h.control)
 
 module _ {k : Key} {w : World} (r : Rule k w) (id : ℕ) {v : View} (at : get_elem? w.views id ≡ some v)
-    (main : v.lane ≡ 1) where
+    (control : v.lane ≡ 1) where
   -- the control pass knows the registry as it is
-  pub its : IsMain k w.registry v.learned.version v.rows v.main_words
-  its = (r.registry.each id v at).main main
+  pub its : IsControl k w.registry v.learned.version v.rows v.control_words
+  its = (r.registry.each id v at).control control
 
   -- another pass isn't the control pass
-  pub not_main : (j : ℕ) (u : View) → j ≢ id → get_elem? w.views j ≡ some u → u.lane ≢ 1
-  not_main j u ne at_u e =
-      let mine : Has v.lane v.out 1 = subst (λ (z : ℕ). Has v.lane v.out z) main
+  pub not_control : (j : ℕ) (u : View) → j ≢ id → get_elem? w.views j ≡ some u → u.lane ≢ 1
+  not_control j u ne at_u e =
+      let mine : Has v.lane v.out 1 = subst (λ (z : ℕ). Has v.lane v.out z) control
       (has_own w.views id v at (omega arith) r.seats) in
       let others : Has u.lane u.out 1 = subst (λ (z : ℕ). Has u.lane u.out z) e
       (has_own w.views j u at_u (omega arith) r.seats) in
@@ -52,8 +52,8 @@ module _ {k : Key} {w : World} (r : Rule k w) (id : ℕ) {v : View} (at : get_el
         reached = (let e = endures.rises in let a = h.reached in omega arith);
         read = read_later k w.registry g' endures u.learned.words h.read;
         unended = unended_later k w.registry g' endures w.count r.version_of r.registry.versions u.learned.unended h.unended;
-        main = λ e. absurd (not_main j u ne at_u e);
-        waits = waits_else k w.count w.registry g' r.state r.version_of u.lane u.round (not_main j u ne at_u) h.waits;
+        control = λ e. absurd (not_control j u ne at_u e);
+        waits = waits_else k w.count w.registry g' r.state r.version_of u.lane u.round (not_control j u ne at_u) h.waits;
       }
 
   module _ (p x : ℕ) (far : 20 ≤ p) (away : (q : ℕ) → IsLasting k w.registry q → q ≢ p) where
@@ -82,7 +82,7 @@ module _ {k : Key} {w : World} (r : Rule k w) (id : ℕ) {v : View} (at : get_el
       -- the view afterwards
       abbrev pub storer : View
       storer = record v {
-        main_words = record { index = p; value = x } ∷ v.main_words;
+        control_words = record { index = p; value = x } ∷ v.control_words;
         round = round;
         learned = record v.learned { words = words };
         clock = ticked v.clock;
@@ -100,7 +100,7 @@ module _ {k : Key} {w : World} (r : Rule k w) (id : ℕ) {v : View} (at : get_el
             read = read;
             unended = unended_later k w.registry stored store_endures w.count r.version_of r.registry.versions
                 v.learned.unended h.unended;
-            main = λ _. record {
+            control = λ _. record {
               version = its.version ∙ sym store_still;
               definitions = ap (definitions_at k stored) store_still
                   ∙ definitions_later k w.registry stored store_endures (version_in w.registry) (omega arith)
@@ -110,11 +110,11 @@ module _ {k : Key} {w : World} (r : Rule k w) (id : ℕ) {v : View} (at : get_el
             waits = waits;
           }
         where
-          pick : (q : ℕ) → IsOwned k w.registry q → Dec (q ≡ p) → stored q ≡ main_word storer.main_words q
+          pick : (q : ℕ) → IsOwned k w.registry q → Dec (q ≡ p) → stored q ≡ control_word storer.control_words q
           pick q u (yes e) = ap stored e ∙ put-here w.registry p x
-              ∙ sym (choose_first (ℕ_discrete q p) x (main_word v.main_words q) e)
+              ∙ sym (choose_first (ℕ_discrete q p) x (control_word v.control_words q) e)
           pick q u (no ne) = put-else w.registry p x q ne ∙ its.owned q u
-              ∙ sym (choose_second (ℕ_discrete q p) x (main_word v.main_words q) ne)
+              ∙ sym (choose_second (ℕ_discrete q p) x (control_word v.control_words q) ne)
 
       -- the registry's part afterwards
       storer_registry : Registry k w.count stored r.state r.version_of (set w.views id storer)
@@ -139,8 +139,8 @@ module _ {k : Key} {w : World} (r : Rule k w) (id : ℕ) {v : View} (at : get_el
       pub stores : (s : Rule k (record w { registry = stored; views = set w.views id storer }))
           × Final k r.start s.start r.lane_of s.lane_of w (record w { registry = stored; views = set w.views id storer })
       stores = (
-        registers r id at stored v.epoch v.learned.version words v.rows storer.main_words round
+        registers r id at stored v.epoch v.learned.version words v.rows storer.control_words round
             (ticked v.clock) store_endures r.state storer_registry,
-        register_lasts r id at stored v.epoch v.learned.version words v.rows storer.main_words round
+        register_lasts r id at stored v.epoch v.learned.version words v.rows storer.control_words round
             (ticked v.clock) store_endures r.state storer_registry,
       )
