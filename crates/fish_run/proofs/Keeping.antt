@@ -103,7 +103,8 @@ module _
 
     shown_of : (remains : Remains) → IsClosed q.view remains → q.view.lane ≡ 1 → q.view.out ≡ []
         → IsShown (images q.disk) (since q.disk t) log q.flusher.count P remains
-    shown_of remains closed control all = run_shown content images since moment (first_past log o) p q P reaches t early runs.rises many stood
+    shown_of remains closed control all = run_shown content images since moment
+        (first_past log o) p q P reaches t early runs.rises many stood
         remains closed control all
 
   module _ (rows : List CatRow) (same : rows ≡ o.catalog) (rounds : List Round) (fresh : Bool) (cut : Option Round) (end : ℕ)

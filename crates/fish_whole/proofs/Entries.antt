@@ -72,7 +72,8 @@ module _ (past : Whole) (v : View) (w : Whole) (m : MayHold past v w) where
       (behind_get past.log m.remains.log i e in_remains))
 
 -- what is certain up to a settled number holds in the end
-pub up_to_will : (past : Whole) (v : View) (end : ℕ) (Q : WholeFact) → end ≤ v.learned.settled → MustHoldUpTo past v end Q → WillHold past v Q
+pub up_to_will : (past : Whole) (v : View) (end : ℕ) (Q : WholeFact) → end ≤ v.learned.settled → MustHoldUpTo past v end Q
+    → WillHold past v Q
 up_to_will past v end Q settled all w m =
     let h = may_hold past v w m in
     all w h (settled_there past v w h end settled)

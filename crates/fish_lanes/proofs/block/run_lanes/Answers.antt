@@ -69,7 +69,8 @@ returns-clause-alone g c none =
       closed = first.controlled.closed (subst IsAlone (sym given) c.requires.end.1.alone);
       only = λ end e wait. only_end (IsSoundBehind g.D.Disk.content g.D.Disk.images
           (point_of c.args.disk.now c.args.file.now c.args.log.now c.args.control.now c.args.registrar.now)
-          (g.D.Disk.content c.run_by_passes.new.disk)) (view c.args.control.now) course.run.control course.ran (view c.run_by_passes.new.control)
+          (g.D.Disk.content c.run_by_passes.new.disk)) (view c.args.control.now) course.run.control course.ran
+          (view c.run_by_passes.new.control)
           ended.bound
           (view c.end_block.new.control) c.args.registrar.now.catalog end c.run_by_passes.new.first.works
           c.run_by_passes.new.first.works c.run_by_passes.new.first.items given (course.back.takes.none (omega arith)) ended.changes
