@@ -22,7 +22,8 @@ use Rattle.fish_lanes.specs.Pending.{AreFound}
 use Rattle.fish_lanes.specs.Plans.{KnowsRows, SaysPlans}
 use Rattle.fish_lanes.specs.within.Plans.{AreBoundsIn, PlansHoldFor}
 use Rattle.fish_lanes.specs.Records.{LaneRow, contents}
-use Rattle.fish_lanes.specs.Registering.{ItemsFit, InEach, ItemFits, KnowsEach, KnowsRegistry, Registry, after, after_all, registry_of, waiting_id}
+use Rattle.fish_lanes.specs.Registering.{InEach, ItemFits, ItemsFit, KnowsEach, KnowsRegistry, Registry, after, after_all}
+use Rattle.fish_lanes.specs.Registering.{registry_of, waiting_id}
 use Rattle.fish_lanes.specs.within.Running.{IsFree}
 use Rattle.fish_lanes.specs.Single.{NamesNone, SaysOnly, SaysSingle}
 use Rattle.fish_lanes.specs.Spans.{answers, made_by}

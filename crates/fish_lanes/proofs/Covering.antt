@@ -261,7 +261,8 @@ module _ (t : View) (s : Registrar) (stands : Stands t) (knows : Knows t s) wher
       let control = stays.control knows.control in
       let word : g (row_at id i) ≡ suc n =
       (all_among (IsRegistered t.about g) (record { index = row_at id i; value = suc n }) t.learned.words stays.read among).word in
-      let stored : g (row_at id i) ≡ control_word t.control_words (row_at id i) = control.owned (row_at id i) (inr (id, i, few, bound, refl)) in
+      let stored : g (row_at id i) ≡ control_word t.control_words (row_at id i) =
+      control.owned (row_at id i) (inr (id, i, few, bound, refl)) in
       let rows : length t.rows ≡ length s.catalog = ap length (sym knows.listed) ∙ length-map s.catalog listed_of in
       let made : length (definitions_at t.about g (version_in g)) ≡ length t.rows = ap length control.definitions in
       let less : id < length s.catalog = there (dec_lt id (length s.catalog)) word rows made in
