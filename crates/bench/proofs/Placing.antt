@@ -5,12 +5,13 @@ use Rattle.fish_claim.proofs.Bodies.{Placed, placed_law}
 use Rattle.fish_claim.specs.Claims.{IsClaimed}
 use Rattle.fish_claim.specs.declared.claimed.Claimed.TheVariants as answer
 use Rattle.fish_ingest.proofs.PreparationDefs.{knows_active}
-use Rattle.fish_ingest.specs.Placement.{CanPlace}
+use Rattle.fish_ingest.specs.within.Placement.{CanPlace}
 use Rattle.fish_ingest.specs.Placement.{HasWritten}
 use Rattle.fish_ingest.specs.declared.preparation.Prepared.{Prepared}
 use Rattle.fish_layout.specs.Body.{body_lines}
 use Rattle.fish_rule.proofs.laws.Versions.{entered_from}
-use Rattle.fish_rule.specs.Keys.{AreActive, text_of}
+use Rattle.fish_rule.specs.Keys.{text_of}
+use Rattle.fish_rule.specs.within.Keys.{AreActive}
 use Rattle.fish_rule.specs.Registry.{KnowsActive}
 use Rattle.fish_rule.specs.SpaceSteps.{after_publish_region, flight_at}
 use Rattle.fish_rule.specs.Table.{Stands}

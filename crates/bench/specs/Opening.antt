@@ -4,7 +4,7 @@ use Rattle.bench.specs.declared.opening.Opened.{Opened}
 use Rattle.fish_ingest.specs.Preparation.{AreDefs}
 use Rattle.fish_ingest.specs.Ingestion.{CanStart}
 use Rattle.fish_rule.specs.RegistrySteps.{CanEnter}
-use Rattle.fish_rule.specs.Keys.{AreActive}
+use Rattle.fish_rule.specs.within.Keys.{AreActive}
 use Rattle.fish_rule.specs.Passes.{IsPassOf, view}
 use Rattle.fish_rule.specs.Views.{Among}
 use Rattle.fish_rule.specs.declared.table.Log.{Log}

@@ -6,7 +6,7 @@ use Rattle.fish_ingest.specs.Preparation.{IsPreparedFor}
 use Rattle.fish_ingest.specs.declared.preparation.Origin.{Origin}
 use Rattle.fish_ingest.specs.declared.preparation.Prepared.{Prepared}
 use Rattle.fish_psf.specs.declared.key.ActiveDef.{ActiveDef}
-use Rattle.fish_rule.specs.Keys.{AreActive}
+use Rattle.fish_rule.specs.within.Keys.{AreActive}
 use Rattle.fish_rule.specs.Passes.{view}
 use Rattle.fish_rule.specs.declared.table.Log.{Log}
 use Rattle.fish_rule.specs.declared.view.Epoch.TheVariants.{Confirmed}

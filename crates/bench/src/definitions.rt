@@ -1,7 +1,8 @@
 //! The definitions that a log begins with.
 
 ghost use Rattle.std.specs.Prelude.{All, IfOk, OnOk};
-ghost use Rattle.fish_rule.specs.Keys.{AreActive, IsWritten};
+ghost use Rattle.fish_rule.specs.Keys.{IsWritten};
+ghost use Rattle.fish_rule.specs.within.Keys.{AreActive};
 
 use fish_catalog::Catalog;
 use fish_lang::{parse_def, print_def, reads_back};

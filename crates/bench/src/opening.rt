@@ -2,7 +2,8 @@
 
 ghost use Rattle.std.specs.Prelude.{All, IfOk};
 ghost use Rattle.bench.specs.Opening.{IsControl, IsOpened, IsReady};
-ghost use Rattle.fish_rule.specs.Keys.{AreActive, IsWritten};
+ghost use Rattle.fish_rule.specs.Keys.{IsWritten};
+ghost use Rattle.fish_rule.specs.within.Keys.{AreActive};
 ghost use Rattle.fish_rule.specs.Passes.{IsPassOf, view};
 ghost use Rattle.fish_rule.specs.Start.{IsShape};
 

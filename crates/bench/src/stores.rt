@@ -4,7 +4,7 @@ ghost use Rattle.std.specs.Prelude.{◌≡◌, ◌≤◌, All, IfOk, None};
 ghost use Rattle.bench.specs.Opening.{IsControl, IsOpened, IsReady};
 ghost use Rattle.bench.specs.Stores.{IsEntered, IsStorable, IsStoreLane};
 ghost use Rattle.fish_ingest.specs.Preparation.{AreDefs};
-ghost use Rattle.fish_rule.specs.Keys.{AreActive};
+ghost use Rattle.fish_rule.specs.within.Keys.{AreActive};
 ghost use Rattle.fish_rule.specs.Passes.{IsPassOf, view};
 
 use crate::lanes::{Lane, LaneCount, time_lanes};

@@ -4,7 +4,7 @@ ghost use Rattle.std.specs.Prelude.{◌≡◌, ◌<◌};
 ghost use Rattle.bench.specs.Opening.{IsControl};
 ghost use Rattle.fish_ingest.specs.Preparation.{AreDefs};
 ghost use Rattle.fish_psf.specs.Blanks.{IsBlankOf};
-ghost use Rattle.fish_rule.specs.Keys.{AreActive};
+ghost use Rattle.fish_rule.specs.within.Keys.{AreActive};
 ghost use Rattle.fish_chain.specs.Walks.{IsWalking};
 ghost use Rattle.fish_rule.specs.Passes.{IsPassOf, view, walk_of};
 

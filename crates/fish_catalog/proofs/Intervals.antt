@@ -4,7 +4,8 @@ use Rattle.std.proofs.Common.{slice_get, refl, sym, ap, subst, ◌∙◌, arith}
 use Rattle.std.proofs.Math.Decide.{ℕ_discrete}
 use Rattle.std.proofs.lemmas.Option.{same_Some, slice_get_within}
 use Rattle.fish_catalog.proofs.Changes.{push_cases}
-use Rattle.fish_catalog.specs.Intervals.{AreIntervals, IsAdded, IsIntervalOf}
+use Rattle.fish_catalog.specs.Intervals.{AreIntervals, IsIntervalOf}
+use Rattle.fish_catalog.specs.within.Intervals.{IsAdded}
 use Rattle.fish_catalog.specs.declared.interval.Interval.{Interval}
 use Rattle.fish_catalog.specs.declared.row.CatRow.{CatRow}
 

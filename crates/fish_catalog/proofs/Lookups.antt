@@ -4,7 +4,7 @@ use Rattle.std.proofs.Common.{length, take, sym, inl, inr, arith, refl, get_or, 
 use Rattle.std.proofs.lemmas.Bool.{cases_lt}
 use Rattle.std.proofs.lemmas.List.{length-take}
 use Rattle.std.proofs.lemmas.Option.{same_Some, slice_get_read, slice_get_within, slice_get-get_or}
-use Rattle.fish_catalog.specs.Restoring.{AreApart, IsAlone}
+use Rattle.fish_catalog.specs.within.Restoring.{AreApart, IsAlone}
 use Rattle.fish_catalog.specs.Rows.{IsActive, IsRow}
 use Rattle.fish_catalog.specs.declared.row.CatRow.{CatRow}
 

@@ -1,5 +1,5 @@
 -- Where the indices of one definition hold.
-use Rattle.std.specs.Prelude.{◌≡◌, ℕ, ◌<◌, ◌⊎◌, List, [], ◌∷◌, ◌++◌, Some, slice_get}
+use Rattle.std.specs.Prelude.{◌≡◌, ℕ, ◌<◌, List, Some, slice_get}
 use Rattle.fish_catalog.specs.declared.interval.Interval.{Interval}
 use Rattle.fish_catalog.specs.declared.row.CatRow.{CatRow}
 
@@ -16,9 +16,3 @@ pub record AreIntervals (rows : List CatRow) (def : List ℕ) (xs : List Interva
   pub sound : (i : ℕ) (x : Interval) → slice_get xs i ≡ Some x → IsIntervalOf rows def x
   pub complete : (x : Interval) → IsIntervalOf rows def x → (i : ℕ) × (slice_get xs i ≡ Some x)
   pub rise : (i j : ℕ) (x y : Interval) → slice_get xs i ≡ Some x → slice_get xs j ≡ Some y → i < j → x.id < y.id
-
--- the interval of a row came after the others, where the row has the text and its index has begun
-abbrev pub IsAdded : CatRow → List ℕ → List Interval → List Interval → Type 0
-IsAdded row def old new = ((from : ℕ) × (row.def ≡ def) × (row.from ≡ Some from)
-    × (new ≡ old ++ record { id = row.id; from = from; to = row.to } ∷ []))
-    ⊎ (((from : ℕ) → row.def ≡ def → row.from ≡ Some from → ⊥) × (new ≡ old))

@@ -6,6 +6,6 @@ pub mod Intervals
 pub mod Limits
 pub mod Listing
 pub mod PageStarts
-pub mod Restoring
 pub mod Rows
 pub mod Words
+pub mod within

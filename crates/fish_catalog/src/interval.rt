@@ -1,7 +1,7 @@
 //! Where the index of a row holds.
 
 ghost use Rattle.std.specs.Prelude.{OnOk};
-ghost use Rattle.fish_catalog.specs.Intervals.{IsAdded};
+ghost use Rattle.fish_catalog.specs.within.Intervals.{IsAdded};
 
 use crate::row::CatRow;
 use fish_value::{Sequence, Text};

@@ -1,7 +1,7 @@
 //! Which rows that were kept elsewhere are those of a catalogue.
 
 ghost use Rattle.std.specs.Prelude.{◌≡◌, ◌↔◌, All, IfOk, IsTrue, count_by};
-ghost use Rattle.fish_catalog.specs.Restoring.{AreApart, HaveIds, IsAlone, IsListed};
+ghost use Rattle.fish_catalog.specs.within.Restoring.{AreApart, HaveIds, IsAlone, IsListed};
 ghost use Rattle.fish_catalog.specs.Rows.{IsCatalog, IsInOrder, IsRow, is_active};
 
 use crate::canonical::is_canonical;

@@ -1,7 +1,8 @@
 -- The way down from the head to the place of the own entry.
 use Rattle.std.proofs.Common.{◌≡◌, ℕ, ◌<◌, suc, refl, sym, ap, ◌∙◌, subst, arith, Some, Option, None}
 use Rattle.fish_chain.proofs.Changes.{changed_next, still_links}
-use Rattle.fish_chain.specs.Links.{CanLink, CanLinkBelow, IsBelow, Tried, with_linked}
+use Rattle.fish_chain.specs.Links.{CanLink, with_linked}
+use Rattle.fish_chain.specs.within.Links.{CanLinkBelow, IsBelow, Tried}
 use Rattle.fish_layout.specs.Cleared.{body_of}
 use Rattle.fish_layout.specs.Header.{keys_of}
 use Rattle.fish_layout.specs.Pages.{place_of}

@@ -2,7 +2,8 @@
 use Rattle.std.proofs.Common.{◌≡◌, ◌≢◌, ℕ, ◌+◌, ◌*◌, ◌/◌, ◌<◌, ◌≤◌, zero, suc, List, length, sym, refl, ap, ◌∙◌}
 use Rattle.std.proofs.Common.{subst, ◌⊎◌, ⊎_elim, inl, inr, arith, take}
 use Rattle.fish_chain.proofs.Values.{IsEntryAt, bytes_said, entry_given, said_bytes, said_size}
-use Rattle.fish_chain.specs.Values.{AreBytesIn, HasBytes, IsGiven, IsWordIn, SaysBytes, words_in}
+use Rattle.fish_chain.specs.Values.{IsGiven, words_in}
+use Rattle.fish_chain.specs.within.Values.{AreBytesIn, HasBytes, IsWordIn, SaysBytes}
 use Rattle.fish_chain.specs.declared.walk.Node.{Node}
 use Rattle.fish_layout.proofs.Entries.{values_within}
 use Rattle.fish_layout.proofs.Sizes.{few_bytes, length-words_behind}

@@ -1,7 +1,7 @@
 -- The steps of a walk, over plain views.
 use Rattle.std.proofs.Common.{◌≡◌, ℕ, ◌+◌, ◌*◌, ◌<◌, ◌≤◌, sym, refl, subst, ◌⊎◌, ⊎_elim, inl, inr, arith}
 use Rattle.fish_chain.specs.Walks.{HasBegun, HasRange, IsEntryFrom, IsNextNode, IsNumbered, IsPast, IsRest, IsWalking}
-use Rattle.fish_chain.specs.Walks.{LeadsTo}
+use Rattle.fish_chain.specs.within.Walks.{LeadsTo}
 use Rattle.fish_chain.specs.declared.walk.Node.{Node}
 use Rattle.fish_layout.specs.Entry.{entry_id, entry_number, entry_place}
 use Rattle.fish_rule.proofs.laws.Descents.{entries_behind, entries_within, extends_node, head_clear, head_here}

@@ -5,7 +5,8 @@ use Rattle.std.proofs.Math.Decide.{ℕ_discrete}
 use Rattle.fish_chain.proofs.Changes.{aim_changes, changed_next, link_aim, previous_changes, quiet_loaded, quiet_ticked}
 use Rattle.fish_chain.proofs.Changes.{splice_changes, still_links}
 use Rattle.fish_rule.proofs.laws.Descents.{previous_here}
-use Rattle.fish_chain.specs.Links.{CanLink, CanLinkBelow, Changed, IsBelow, IsLinked, with_linked}
+use Rattle.fish_chain.specs.Links.{CanLink, Changed, IsLinked, with_linked}
+use Rattle.fish_chain.specs.within.Links.{CanLinkBelow, IsBelow}
 use Rattle.fish_layout.proofs.Clearing.{choose_first, choose_second}
 use Rattle.fish_layout.specs.Cleared.{entry_at}
 use Rattle.fish_rule.proofs.laws.Links.{not_own, own_behind, own_word}

@@ -5,7 +5,8 @@ use Rattle.std.proofs.Math.Decide.{ℕ_discrete}
 use Rattle.fish_chain.proofs.Changes.{aim_changes, changed_next, head_changes, link_aim, quiet_loaded, quiet_ticked}
 use Rattle.fish_chain.proofs.Changes.{still_links, swing_changes}
 use Rattle.fish_rule.proofs.laws.Descents.{head_here}
-use Rattle.fish_chain.specs.Links.{CanLink, Changed, IsBelow, IsLinked, with_linked}
+use Rattle.fish_chain.specs.Links.{CanLink, Changed, IsLinked, with_linked}
+use Rattle.fish_chain.specs.within.Links.{IsBelow}
 use Rattle.fish_layout.proofs.Clearing.{choose_first, choose_second}
 use Rattle.fish_layout.specs.Cleared.{entry_at}
 use Rattle.fish_rule.proofs.laws.Links.{not_own, own_behind, own_word}

@@ -10,7 +10,8 @@ use Rattle.std.proofs.Math.Decide.{dec_lt}
 use Rattle.std.proofs.lemmas.List.{ext_get_or}
 use Rattle.std.proofs.lemmas.List.FromFn.{get_or-map-range_with_len, length-map-range_with_len}
 use Rattle.std.proofs.lemmas.Option.{get_or_from_slice_get, slice_get_read, slice_get_within}
-use Rattle.fish_chain.specs.Values.{AreBytesIn, AreBytesOf, HasValue, IsGiven, IsWordIn, SaysBytes, byte_at, words_in}
+use Rattle.fish_chain.specs.Values.{HasValue, IsGiven, words_in}
+use Rattle.fish_chain.specs.within.Values.{AreBytesIn, AreBytesOf, IsWordIn, SaysBytes, byte_at}
 use Rattle.fish_chain.specs.declared.walk.Node.{Node}
 use Rattle.fish_layout.proofs.Buckets.{byte_of, value_in-key}
 use Rattle.fish_layout.proofs.Entries.{proper_at, some_element}

@@ -1,3 +1,4 @@
 pub mod Links
 pub mod Values
 pub mod Walks
+pub mod within

@@ -1,5 +1,5 @@
 -- When a key entry of the record in flight may be linked, and what the pass knows afterwards.
-use Rattle.std.specs.Prelude.{ℕ, ◌≡◌, ◌<◌, ◌≤◌, suc, List, length, Option, Some, None}
+use Rattle.std.specs.Prelude.{ℕ, ◌≡◌, ◌<◌, ◌≤◌, suc, List, length, Some}
 use Rattle.fish_claim.specs.Fills.{IsFilled}
 use Rattle.fish_layout.specs.Bucket.{bucket_of}
 use Rattle.fish_layout.specs.Cleared.{body_of}
@@ -55,22 +55,3 @@ pub record IsLinked (v : View) (f : Flight) (bucket : ℕ) (u : View) : Type 0 w
   pub words : List ℕ
   pub changed : Changed v f words (suc f.linked) u
   pub node : HasNode u bucket (own_place f)
-
--- no entry more is, and one of the bucket is known to be linked at a higher place
-pub record IsBelow (v : View) (f : Flight) (bucket place : ℕ) (u : View) : Type 0 where
-  pub words : List ℕ
-  pub changed : Changed v f words f.linked u
-  pub node : HasNode u bucket place
-  pub above : own_place f < place
-
--- the next entry of f is to be linked at a place, below a linked entry of the bucket
-pub record CanLinkBelow (v : View) (f : Flight) (bucket above place : ℕ) : Type 0 where
-  pub can : CanLink v f f.linked bucket
-  pub at : place ≡ own_place f
-  pub node : HasNode v bucket above
-  pub over : place < above
-
--- the entry is linked, or is below the place that was answered
-abbrev pub Tried : View → Flight → ℕ → Option ℕ → View → Type 0
-Tried v f bucket None u = IsLinked v f bucket u
-Tried v f bucket (Some place) u = IsBelow v f bucket place u

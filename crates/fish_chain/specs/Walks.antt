@@ -47,13 +47,6 @@ pub record IsNumbered (v : View) (place number : ℕ) : Type 0 where
   pub place_is : label.place ≡ place
   pub number_is : entry_number label.word ≡ number
 
--- a walk may go on at this place after the entry where it stands: the place is lower, that of an entry of the
--- bucket or none of the table's, and no entry of the range lies between
-pub record LeadsTo (v : View) (walk : Walk) (place : ℕ) : Type 0 where
-  pub lower : place < walk.place
-  pub at : IsRest v walk.bucket walk.from place ⊎ HasNode v walk.bucket place
-  pub clear : Always v (IsClear walk.bucket walk.from walk.to walk.place place)
-
 -- the node is an entry of the walk's bucket and range, and the next one below what was given, in every later
 -- moment too
 pub record IsNextNode (v : View) (walk : Walk) (node : Node) : Type 0 where

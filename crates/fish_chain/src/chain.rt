@@ -5,7 +5,8 @@
 //! meanwhile, so its entry goes in at the head or below a higher entry.
 
 ghost use Rattle.std.specs.Prelude.{◌≡◌, ◌<◌, ℕ, Some};
-ghost use Rattle.fish_chain.specs.Links.{CanLink, CanLinkBelow, IsLinked, Tried};
+ghost use Rattle.fish_chain.specs.Links.{CanLink, IsLinked};
+ghost use Rattle.fish_chain.specs.within.Links.{CanLinkBelow, Tried};
 ghost use Rattle.fish_rule.specs.ChainSteps.{own_place};
 ghost use Rattle.fish_rule.specs.Passes.{IsPassOf, view};
 ghost use Rattle.fish_rule.specs.declared.view.Flight.{Flight};

@@ -1,8 +1,9 @@
 //! The value of a key entry, compared with one that is asked for by the stored words alone.
 
 ghost use Rattle.std.specs.Prelude.{◌≡◌, ◌↔◌, ◌+◌, ◌*◌, ◌<◌, ◌≤◌, ◌^◌, ℕ, IsTrue, length};
-ghost use Rattle.fish_chain.specs.Values.{AreBytesIn, AreBytesOf, HasBytes, HasRecord, HasValue, IsGiven};
-ghost use Rattle.fish_chain.specs.Values.{IsWordIn, SaysBytes};
+ghost use Rattle.fish_chain.specs.Values.{HasRecord, HasValue, IsGiven};
+ghost use Rattle.fish_chain.specs.within.Values.{AreBytesIn, AreBytesOf, HasBytes};
+ghost use Rattle.fish_chain.specs.within.Values.{IsWordIn, SaysBytes};
 ghost use Rattle.fish_rule.specs.Logs.{Extends};
 ghost use Rattle.fish_rule.specs.Passes.{IsPassOf, view};
 ghost use Rattle.fish_rule.specs.LoadSteps.{CanReadWord};

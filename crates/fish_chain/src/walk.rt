@@ -4,7 +4,8 @@
 //! none, whatever is linked meanwhile. It reads the first and the second word of an entry and no other.
 
 ghost use Rattle.std.specs.Prelude.{◌≡◌, ◌+◌, ◌<◌, ◌≤◌};
-ghost use Rattle.fish_chain.specs.Walks.{Gave, LeadsTo, HasBegun, HasRange, IsBounded, IsNumbered, IsPast, IsWalking};
+ghost use Rattle.fish_chain.specs.Walks.{Gave, HasBegun, HasRange, IsBounded, IsNumbered, IsPast, IsWalking};
+ghost use Rattle.fish_chain.specs.within.Walks.{LeadsTo};
 ghost use Rattle.fish_rule.specs.Parts.{IsOlder, first_head};
 ghost use Rattle.fish_rule.specs.ChainSteps.{CanLoadHead, HasNode};
 ghost use Rattle.fish_rule.specs.Logs.{Extends};

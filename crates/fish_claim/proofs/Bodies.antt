@@ -3,7 +3,8 @@ use Rattle.std.proofs.Common.{◌≡◌, ℕ, ◌+◌, ◌*◌, ◌≤◌, List,
 use Rattle.fish_claim.proofs.Answered.{claim_learns}
 use Rattle.fish_claim.proofs.Known.{body_later}
 use Rattle.fish_claim.specs.Claims.{IsClaimed, answer_of, claimed_view}
-use Rattle.fish_claim.specs.Fills.{CanFill, IsStorable, with_words}
+use Rattle.fish_claim.specs.Fills.{CanFill, with_words}
+use Rattle.fish_claim.specs.within.Fills.{IsStorable}
 use Rattle.fish_claim.specs.declared.claimed.Claimed.TheVariants as answer
 use Rattle.fish_layout.proofs.Links.{relinked_lines, unlinked_is}
 use Rattle.fish_layout.proofs.Outlines.{body_length}

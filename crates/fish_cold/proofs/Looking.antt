@@ -10,12 +10,15 @@ use Rattle.std.proofs.lemmas.Option.{same_Some}
 use Rattle.std.proofs.Math.Decide.{ℕ_discrete}
 use Rattle.lru.proofs.CallerLemmas.{Contains-lookup, Contains-put_entries}
 use Rattle.fish_layout.specs.Pages.{page_of}
-use Rattle.fish_cold.specs.Answers.{Answers, IsDamageOf, IsReadingOf, LoadsWords, Walks}
+use Rattle.fish_cold.specs.Answers.{Answers, IsDamageOf, LoadsWords, Walks}
+use Rattle.fish_cold.specs.within.Answers.{IsReadingOf}
 use Rattle.fish_layout.specs.declared.parts.BodyParts.{BodyParts}
 use Rattle.fish_layout.specs.declared.parts.KeyPart.{KeyPart}
-use Rattle.fish_cold.specs.Cached.{Answered, Brings, IsReadFrom, Looks, ReadsAtMost, Uses, base_page, held_in}
+use Rattle.fish_cold.specs.Cached.{IsReadFrom, Looks, ReadsAtMost, Uses, base_page, held_in}
+use Rattle.fish_cold.specs.within.Cached.{Answered, Brings}
 use Rattle.fish_cold.proofs.Untouched.{nothing_read}
-use Rattle.fish_cold.specs.Caching.{IsPageIn, IsUndamaged}
+use Rattle.fish_cold.specs.Caching.{IsPageIn}
+use Rattle.fish_cold.specs.within.Caching.{IsUndamaged}
 use Rattle.fish_cold.specs.declared.cold.Cold.{Cold}
 use Rattle.fish_cold.specs.declared.page.Page.{Page}
 use Rattle.fish_cold.specs.declared.refusal.ColdRefusal.{ColdRefusal}

@@ -21,7 +21,8 @@ use Rattle.fish_layout.proofs.Spelled.{body_says}
 use Rattle.std.proofs.lemmas.Bool.{cases_lt}
 use Rattle.fish_cold.proofs.Appended.{at_end, stays}
 use Rattle.fish_cold.specs.Answers.{HasNode, IsRecordHead, IsVoidHead}
-use Rattle.fish_cold.specs.Regions.{IsWhole, Leads}
+use Rattle.fish_cold.specs.Regions.{Leads}
+use Rattle.fish_cold.specs.within.Regions.{IsWhole}
 
 -- a record's header says its lines, and they are within the words
 pub record SaysRecord (p : BodyParts) (rest : List ℕ) : Type 0 where

@@ -43,12 +43,6 @@ IsDamageOf number (Damaged n) = n ≡ number
 IsDamageOf number DiskFault = ⊤
 IsDamageOf number OutOfMemory = ⊤
 
--- a refusal of words that were read: they are damaged at this number, or memory ran out
-abbrev pub IsReadingOf : ℕ → ColdRefusal → Type 0
-IsReadingOf number (Damaged n) = n ≡ number
-IsReadingOf number DiskFault = ⊥
-IsReadingOf number OutOfMemory = ⊤
-
 -- entry j of the record of the region at a line of these words is this key entry, at place i of them
 pub record HasNode (words : List ℕ) (i line : ℕ) (p : BodyParts) (j : ℕ) (k : KeyPart) : Type 0 where
   pub body : IsRecordHead p (drop (4 * line) words)

@@ -1,22 +1,21 @@
 -- Which pages are held of the older records, and what the calls do to them.
-use Rattle.std.specs.Prelude.{ℕ, ◌≡◌, ◌≢◌, ◌-◌, ◌*◌, ◌/◌, ◌%◌, ◌<◌, ◌⊎◌, ◌↔◌, List, Option, Some, None, Result, Ok}
-use Rattle.std.specs.Prelude.{Err, Contains, IfErr, IfOk, IfSome, IsErrOf, OnErr, OnOk, nat_eq, drop, if◌then◌else◌}
+use Rattle.std.specs.Prelude.{ℕ, ◌≡◌, ◌≢◌, ◌-◌, ◌*◌, ◌/◌, ◌%◌, ◌<◌, List, Option, Some, Result}
+use Rattle.std.specs.Prelude.{Contains, IfSome, IsErrOf, OnErr, OnOk, nat_eq, drop, if◌then◌else◌}
 use Rattle.std.specs.Map.{lookup}
-use Rattle.std.specs.Option.{option_or}
 use Rattle.lru.specs.LruCache.{lru_cache, put_entries}
 use Rattle.fish_catalog.specs.declared.page_start.PageStart.{PageStart}
 use Rattle.fish_layout.specs.Pages.{page_of}
 use Rattle.fish_layout.specs.declared.parts.BodyParts.{BodyParts}
 use Rattle.fish_layout.specs.declared.parts.KeyPart.{KeyPart}
 use Rattle.fish_cold.specs.Answers.{HasNode}
-use Rattle.fish_cold.specs.Caching.{HasDiskCause, IsPageIn, IsUndamaged, OnlyReads}
+use Rattle.fish_cold.specs.Caching.{HasDiskCause, IsPageIn, OnlyReads}
 use Rattle.fish_cold.specs.Pages.{page_words}
 use Rattle.fish_cold.specs.Regions.{Leads}
 use Rattle.fish_cold.specs.Starts.{IsStartOf}
 use Rattle.fish_cold.specs.declared.cold.Cold.{Cold}
 use Rattle.fish_cold.specs.declared.page.Page.{Page}
 use Rattle.fish_cold.specs.declared.refusal.ColdRefusal.{ColdRefusal}
-use Rattle.fish_cold.specs.declared.refusal.ColdRefusal.TheVariants.{DiskFault, OutOfMemory}
+use Rattle.fish_cold.specs.declared.refusal.ColdRefusal.TheVariants.{DiskFault}
 
 -- the page that holds the base's line
 abbrev pub base_page : Cold → ℕ
@@ -47,31 +46,6 @@ pub record Uses (number : ℕ) (page : Page) (old new : Cold) : Type 0 where
   pub beside : number ≡ base_page old → (new.cache ≡ old.cache) × (new.tail ≡ Some page)
 
 -- ---- what a call does beside its answer
-
--- the page was brought from the disk, or is held and the disk wasn't touched
-pub record Brings
-    {D : Type 0}
-    (content : D → Option (List ℕ))
-    (images : D → List ℕ → Type 0)
-    (since : D → ℕ → List ℕ → Type 0)
-    (moment faults : D → ℕ)
-    (number : ℕ)
-    (cold : Cold)
-    (old new : D)
-    (result : Result (Option Page) ColdRefusal) : Type 0 where
-  pub held : IfOk result (λ o. (o ≡ None) ↔ Holds cold number)
-  pub fresh : IfOk result (λ o. IfSome o (λ p. IfSome (content new) (λ c. IsPageIn cold.base.line cold.starts c number p)))
-  pub untouched : Holds cold number → (new ≡ old) × (result ≡ Ok None)
-  pub outside : OnlyReads content images since moment old new
-  pub cause : HasDiskCause (faults old) (faults new) result
-  pub whole : IfErr result IsUndamaged
-
--- what was read of the page is answered, and then the page was used; or memory ran out; where nothing is answered nothing changed
-pub record Answered {T : Type 0} (number : ℕ) (fresh : Option Page) (old new : Cold) (read result : Result T ColdRefusal) : Type 0 where
-  pub same : IfOk result (λ x. read ≡ Ok x)
-  pub err : IfErr result (λ e. (read ≡ Err e) ⊎ (e ≡ OutOfMemory))
-  pub used : OnOk result ((p : Page) → Some p ≡ option_or fresh (held_in old number) → Uses number p old new)
-  pub refused : OnErr result (new ≡ old)
 
 -- the page is the one that was held, if one was
 abbrev pub IsHeld : Cold → ℕ → Page → Type 0

@@ -1,5 +1,5 @@
 -- What a page that is held says, and what a call of the disk does.
-use Rattle.std.specs.Prelude.{ℕ, ◌≡◌, ◌%◌, ◌+◌, ◌≤◌, List, Option, Result, IsErrOf, ⊤}
+use Rattle.std.specs.Prelude.{ℕ, ◌≡◌, ◌%◌, ◌+◌, ◌≤◌, List, Option, Result, IsErrOf}
 use Rattle.fish_catalog.specs.declared.page_start.PageStart.{PageStart}
 use Rattle.fish_disk.specs.Content.{StillReads}
 use Rattle.fish_disk.specs.Crash.{LeavesOnly}
@@ -9,7 +9,7 @@ use Rattle.fish_cold.specs.Regions.{AreRegions}
 use Rattle.fish_cold.specs.Starts.{IsStartIn}
 use Rattle.fish_cold.specs.declared.page.Page.{Page}
 use Rattle.fish_cold.specs.declared.refusal.ColdRefusal.{ColdRefusal}
-use Rattle.fish_cold.specs.declared.refusal.ColdRefusal.TheVariants.{Damaged, DiskFault, OutOfMemory}
+use Rattle.fish_cold.specs.declared.refusal.ColdRefusal.TheVariants.{DiskFault}
 
 -- the page has the words that a file has of it below a line, and the lines at which its regions begin
 pub record IsPageIn (end : ℕ) (starts : List PageStart) (content : List ℕ) (number : ℕ) (page : Page) : Type 0 where
@@ -21,12 +21,6 @@ pub record IsPageIn (end : ℕ) (starts : List PageStart) (content : List ℕ) (
 pub record HasDiskCause {T : Type 0} (before now : ℕ) (result : Result T ColdRefusal) : Type 0 where
   pub later : before ≤ now
   pub failed : IsErrOf result DiskFault → Rose before now
-
--- the refusal says nothing of the words
-abbrev pub IsUndamaged : ColdRefusal → Type 0
-IsUndamaged (Damaged n) = ⊥
-IsUndamaged DiskFault = ⊤
-IsUndamaged OutOfMemory = ⊤
 
 -- the disk was read once at most, and a crash leaves what it might have left before
 pub record OnlyReads

@@ -5,5 +5,5 @@ pub mod Carries
 pub mod Chains
 pub mod Pages
 pub mod Regions
-pub mod Shown
 pub mod Starts
+pub mod within

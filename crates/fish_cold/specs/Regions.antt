@@ -1,6 +1,5 @@
 -- How the regions of a page follow one another.
-use Rattle.std.specs.Prelude.{ℕ, zero, suc, ◌≡◌, ◌+◌, ◌*◌, ◌/◌, ◌<◌, ◌≤◌, List, Some, length, slice_get, slice_index}
-use Rattle.fish_image.specs.Log.{region_lines}
+use Rattle.std.specs.Prelude.{ℕ, zero, suc, ◌≡◌, ◌+◌, ◌*◌, ◌/◌, ◌<◌, List, Some, length, slice_get, slice_index}
 use Rattle.fish_layout.specs.Header.{lines_of}
 
 -- k regions further than the one that begins at the line `first` of a page, one begins at this line
@@ -13,7 +12,3 @@ Leads words first (suc k) line =
 -- these are the lines at which the regions of a page begin
 abbrev pub AreRegions : List ℕ → ℕ → List ℕ → Type 0
 AreRegions words first regions = (k line : ℕ) → Leads words first k line → slice_get regions k ≡ Some line
-
--- the region at the front of words ends within them
-abbrev pub IsWhole : List ℕ → Type 0
-IsWhole rest = 4 * region_lines rest ≤ length rest

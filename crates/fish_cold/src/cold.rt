@@ -50,7 +50,8 @@ impl Cold {
     ghost use Rattle.fish_cold.specs.Carries.{CarriesTable, IsEntryAnswer, IsEntryRead};
     ghost use Rattle.fish_cold.specs.Chains.{IsKeyAt};
     ghost use Rattle.fish_cold.specs.Regions.{Leads};
-    ghost use Rattle.fish_cold.specs.Cached.{Answered, Brings, HasNodeOn, HasRegion, Holds, IsReadFrom, Looks};
+    ghost use Rattle.fish_cold.specs.Cached.{HasNodeOn, HasRegion, Holds, IsReadFrom, Looks};
+    ghost use Rattle.fish_cold.specs.within.Cached.{Answered, Brings};
     ghost use Rattle.fish_cold.specs.Cached.{ReadsAtMost, Uses, held_in, words_on};
     ghost use Rattle.fish_cold.specs.Pages.{page_words};
     ghost use Rattle.fish_cold.specs.Starts.{AddsFrom, IsStartIn, IsStartOf, with_starts};

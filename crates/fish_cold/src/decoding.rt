@@ -3,9 +3,11 @@
 ghost use Rattle.std.specs.Prelude.{◌≡◌, ◌↔◌, ◌+◌, ◌*◌, ◌%◌, ◌^◌, ◌<◌, ◌≤◌, ℕ, None, Some};
 ghost use Rattle.std.specs.Prelude.{IfErr, IfOk, IfSome, IsSome, MatchOption, drop, length};
 ghost use Rattle.fish_catalog.specs.declared.entry.Entry.TheVariants.{Stored};
-ghost use Rattle.fish_cold.specs.Shown.{IsShownIn, Shows};
-ghost use Rattle.fish_cold.specs.Answers.{Answers, EndsWalk, HasNode, IsLinkable, IsOlderAt, IsReadingOf, LoadsWords, Walks};
-ghost use Rattle.fish_cold.specs.Regions.{AreRegions, IsWhole, Leads};
+ghost use Rattle.fish_cold.specs.within.Shown.{IsShownIn, Shows};
+ghost use Rattle.fish_cold.specs.Answers.{Answers, EndsWalk, HasNode, IsLinkable, IsOlderAt, LoadsWords, Walks};
+ghost use Rattle.fish_cold.specs.within.Answers.{IsReadingOf};
+ghost use Rattle.fish_cold.specs.Regions.{AreRegions, Leads};
+ghost use Rattle.fish_cold.specs.within.Regions.{IsWhole};
 ghost use Rattle.fish_cold.specs.declared.decoding.Shown.TheVariants.{Older as OlderOne};
 ghost use Rattle.fish_image.specs.Log.{region as region_of};
 ghost use Rattle.fish_layout.specs.Cleared.{entry_at as key_at};

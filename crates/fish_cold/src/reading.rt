@@ -6,7 +6,8 @@ ghost use Rattle.fish_disk.specs.Content.{StillReads};
 ghost use Rattle.fish_disk.specs.Crash.{LeavesOnly};
 ghost use Rattle.fish_layout.specs.Pages.{page_of};
 ghost use Rattle.fish_image.specs.Stands.{words_of as first_words};
-ghost use Rattle.fish_cold.specs.Caching.{HasDiskCause, IsPageIn, IsUndamaged};
+ghost use Rattle.fish_cold.specs.Caching.{HasDiskCause, IsPageIn};
+ghost use Rattle.fish_cold.specs.within.Caching.{IsUndamaged};
 ghost use Rattle.fish_cold.specs.Pages.{page_words};
 
 use crate::page::{Page, regions_of};

@@ -2,7 +2,7 @@
 use Rattle.std.proofs.Common.{◌≡◌, List, refl, sym, ◌∙◌, inl, inr, ap, subst}
 use Rattle.std.specs.Prelude.{Option, Some, None, Result, Ok, Err, option_map}
 use Rattle.fish_lang.specs.Definition.{Definition}
-use Rattle.fish_lang.specs.Outcome.{outcome}
+use Rattle.fish_lang.specs.within.Outcome.{outcome}
 use Rattle.fish_lang.specs.declared.parse.LangRefusal.{LangRefusal}
 use Rattle.fish_lang.proofs.Outcomes.{outcome-is, outcome-only}
 use Rattle.fish_command.specs.Laws.{OneOutcome, OneReading, SomeOutcome}

@@ -7,7 +7,7 @@ use Rattle.csv.specs.declared.parser.Action.{Action}
 use Rattle.csv.specs.declared.parser.Action.TheVariants as act
 use Rattle.csv.specs.declared.parser.State.{State}
 use Rattle.csv.specs.declared.parser.State.TheVariants as st
-use Rattle.fish_csv.specs.Machine.{IsBetween}
+use Rattle.fish_csv.specs.within.Machine.{IsBetween}
 
 -- a row has begun, and has not ended
 abbrev pub is_inside : State → Bool

@@ -12,10 +12,10 @@ use Rattle.csv.specs.Reading.{default_config}
 use Rattle.csv.specs.Writing.{default_writer, field_text, fields_text, is_blank, needs_byte}
 use Rattle.csv.specs.declared.parser.State.TheVariants as st
 use Rattle.csv.specs.declared.parser.Terminator.TheVariants as term
-use Rattle.fish_csv.specs.Machine.{row_from}
+use Rattle.fish_csv.specs.within.Machine.{row_from}
 use Rattle.fish_csv.specs.Reading.{rows_in}
 use Rattle.fish_csv.specs.Rows.{kept, payload_of, stored_text}
-use Rattle.fish_csv.specs.Turns.{IsStored, TakesRow, ends_line, is_mark}
+use Rattle.fish_csv.specs.within.Turns.{IsStored, TakesRow, ends_line, is_mark}
 use Rattle.fish_csv.specs.declared.machine.Position.TheVariants as position
 use Rattle.fish_csv.proofs.Records.{rows-end, rows-next}
 use Rattle.fish_csv.proofs.Steps.{either, neither, plain-comma, plain-other, row-other}

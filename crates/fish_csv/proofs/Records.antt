@@ -9,7 +9,7 @@ use Rattle.csv.specs.Machine.{Read, Runs, field_after, fields_after, is_end, nex
 use Rattle.csv.specs.Reading.{default_config, records_from, records_next}
 use Rattle.csv.specs.declared.parser.State.{State}
 use Rattle.csv.specs.declared.parser.State.TheVariants as st
-use Rattle.fish_csv.specs.Machine.{Ends, IsBetween, row_from, state_of}
+use Rattle.fish_csv.specs.within.Machine.{Ends, IsBetween, row_from, state_of}
 use Rattle.fish_csv.specs.declared.machine.Position.{Position}
 use Rattle.fish_csv.specs.Reading.{rows_in}
 use Rattle.fish_csv.specs.declared.machine.Position.TheVariants as position

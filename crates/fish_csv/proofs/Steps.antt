@@ -7,7 +7,7 @@ use Rattle.csv.specs.Reading.{default_config}
 use Rattle.csv.specs.declared.parser.State.{State}
 use Rattle.csv.specs.declared.parser.State.TheVariants as st
 use Rattle.csv.proofs.RoundTrip.{after-quote-same, record-same, start-same}
-use Rattle.fish_csv.specs.Machine.{Advances, IsBetween, row_from}
+use Rattle.fish_csv.specs.within.Machine.{Advances, IsBetween, row_from}
 use Rattle.fish_csv.specs.declared.machine.Position.{Position}
 use Rattle.fish_csv.specs.declared.machine.Position.TheVariants as position
 

@@ -16,7 +16,7 @@ use Rattle.csv.specs.declared.parser.State.TheVariants as st
 use Rattle.csv.proofs.RoundTrip.{read-write}
 use Rattle.fish_csv.specs.Reading.{only, rows_in}
 use Rattle.fish_csv.specs.Rows.{kept, stored_text}
-use Rattle.fish_csv.specs.Turns.{IsStored}
+use Rattle.fish_csv.specs.within.Turns.{IsStored}
 use Rattle.fish_csv.proofs.Records.{rows-more, rows-nil}
 
 -- the two quotes of a row that shows no byte

@@ -20,7 +20,7 @@ use Rattle.csv.specs.declared.parser.State.TheVariants as st
 use Rattle.fish_csv.proofs.Inside.{after-plain, inside-ends, inside-leaves, is_inside}
 use Rattle.fish_csv.proofs.Records.{rows-next}
 use Rattle.fish_csv.proofs.Steps.{either, row-end, row-other}
-use Rattle.fish_csv.specs.Machine.{row_from}
+use Rattle.fish_csv.specs.within.Machine.{row_from}
 use Rattle.fish_csv.specs.Reading.{only, rows_in}
 use Rattle.fish_csv.specs.declared.machine.Position.TheVariants as position
 

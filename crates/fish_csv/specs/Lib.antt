@@ -1,7 +1,6 @@
 pub mod Contents
 pub mod Left
-pub mod Machine
 pub mod Reading
 pub mod Row
 pub mod Rows
-pub mod Turns
+pub mod within

@@ -8,7 +8,7 @@ ghost use Rattle.fish_value.specs.Limits.{longest_file};
 ghost use Rattle.fish_csv.specs.Left.{left};
 ghost use Rattle.fish_csv.specs.Reading.{rows_in};
 ghost use Rattle.fish_csv.specs.Rows.{accepted, kept, outcomes, outcomes_of, refused as refused_of, without_header};
-ghost use Rattle.fish_csv.specs.Turns.{IsStored, TakesRow, ends_line, is_mark};
+ghost use Rattle.fish_csv.specs.within.Turns.{IsStored, TakesRow, ends_line, is_mark};
 
 use crate::bytes::{without_ends, without_mark};
 use crate::machine::read_row;

@@ -5,7 +5,7 @@ ghost use Rattle.std.specs.Prelude.{IsTrue, ◌==◌, ◌||◌, ℕ, List};
 ghost use Rattle.csv.specs.Machine.{Runs};
 ghost use Rattle.csv.specs.Reading.{default_config};
 ghost use Rattle.csv.specs.Records.{fields_of, partial_of};
-ghost use Rattle.fish_csv.specs.Machine.{Advances, Ends, state_of};
+ghost use Rattle.fish_csv.specs.within.Machine.{Advances, Ends, state_of};
 ghost use Rattle.fish_csv.specs.Reading.{only, rows_in};
 
 use crate::bytes::{first_and_rest, is_line_end};

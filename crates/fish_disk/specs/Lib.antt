@@ -3,3 +3,4 @@ pub mod Content
 pub mod Crash
 pub mod Memory
 pub mod Sure
+pub mod within

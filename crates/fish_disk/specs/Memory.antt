@@ -1,15 +1,11 @@
 -- A disk in memory, by its record of calls.
-use Rattle.std.specs.Prelude.{◌≡◌, ◌⊎◌, ℕ, ◌≤◌, List, [], Bool, length, None, unwrap_or, Result, IsErr, IsTrue, if◌then◌else◌, ◌∷◌, ◌++◌, true}
+use Rattle.std.specs.Prelude.{◌≡◌, ℕ, ◌≤◌, List, [], length, None, unwrap_or}
 use mathlib.Core.Logic.{inl, inr}
 use Rattle.std.proofs.Common.{subst, le_trans}
 use Rattle.std.proofs.lemmas.List.{take_all}
 use Rattle.std.proofs.lemmas.Option.{slice_get_past}
-use Rattle.fish_outside.specs.Causes.{counted_on}
-use Rattle.fish_outside.specs.Memory.{is_planned, new_plan}
-use Rattle.fish_outside.specs.declared.fault.Failed.{Failed}
-use Rattle.fish_outside.specs.declared.plan.FaultPlan.{FaultPlan}
+use Rattle.fish_outside.specs.Memory.{new_plan}
 use Rattle.fish_disk.specs.Calls.{LeftAt, LeftNow, LeftSince, Only, WasRead, after_calls}
-use Rattle.fish_disk.specs.declared.call.Call.{Call}
 use Rattle.fish_disk.specs.declared.memory.MemoryDisk.{MemoryDisk}
 
 -- all its bytes: those of the last write, or the first ones
@@ -34,30 +30,6 @@ pub record IsNew (disk : MemoryDisk) (content failing : List ℕ) : Type 0 where
   pub written : disk.written ≡ None
   pub calls : disk.calls ≡ []
   pub plan : disk.plan ≡ new_plan failing
-
--- the plan, with one more fault if a step failed
-abbrev pub after_step : FaultPlan → Bool → FaultPlan
-after_step plan failed = record plan {
-  faults = if failed then counted_on plan.faults 1 else plan.faults;
-}
-
--- one more call is counted, which fails where that is planned
-pub record Planned {T : Type 0} (old new : FaultPlan) (result : Result T Failed) : Type 0 where
-  pub fails : new.fails ≡ old.fails
-  pub calls : new.calls ≡ counted_on old.calls 1
-  pub failed : IsTrue (is_planned old) → IsErr result
-
--- the plan after a call that memory refused to keep in the record: a fault beside a planned one
-abbrev pub refused : FaultPlan → FaultPlan
-refused plan = after_step
-    (record (after_step plan (is_planned plan)) { calls = counted_on plan.calls 1 })
-    true
-
--- the call is in the record, whatever it answered, or memory refused that
-abbrev pub Records : MemoryDisk → MemoryDisk → Call → Type 0
-Records old new call =
-    (new.calls ≡ old.calls ++ call ∷ [])
-    ⊎ ((new.calls ≡ old.calls) × (new.plan ≡ refused old.plan))
 
 -- at the last moment a crash left nothing else than now
 only_now_at : (disk : MemoryDisk) (k : ℕ) (c : List ℕ) → length disk.calls ≤ k → LeftAt disk.first disk.calls k c → images_of disk c

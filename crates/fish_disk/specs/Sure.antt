@@ -1,6 +1,5 @@
 -- A disk with room that never fails.
-use Rattle.std.specs.Prelude.{ℕ, List, length, take, nat_le, Option, Some, None, if◌then◌else◌}
-use Rattle.fish_disk.specs.Content.{put_at}
+use Rattle.std.specs.Prelude.{ℕ, List, Option, Some, None, if◌then◌else◌}
 use Rattle.fish_disk.specs.declared.sure.SureDisk.{SureDisk}
 
 -- for how many bytes it has room
@@ -14,9 +13,3 @@ kept_of disk = disk.bytes.items
 -- all its bytes, as long as nothing of them was dropped
 abbrev pub content_in : SureDisk → Option (List ℕ)
 content_in disk = if disk.told then Some disk.bytes.items else None
-
--- bytes with a piece put over those from `at` on, as far as they fit the room. A piece that begins
--- past the end is dropped
-abbrev pub kept_with : ℕ → ℕ → List ℕ → List ℕ → List ℕ
-kept_with room at piece bytes =
-    if nat_le at (length bytes) then take room (put_at at piece bytes) else bytes

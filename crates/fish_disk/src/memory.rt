@@ -32,7 +32,8 @@ pub struct MemoryDisk {
 }
 
 impl MemoryDisk {
-    ghost use Rattle.fish_disk.specs.Memory.{IsNew, Planned, Records, after_step, bytes_of, images_of, moment_of, since_of};
+    ghost use Rattle.fish_disk.specs.Memory.{IsNew, bytes_of, images_of, moment_of, since_of};
+    ghost use Rattle.fish_disk.specs.within.Memory.{Planned, Records, after_step};
 
     /// A disk of these bytes, whose calls of these numbers, from 0, fail.
     pub fn new(alloc: Global, bytes: Bytes, fails: Numbers64) -> MemoryDisk
@@ -226,7 +227,8 @@ fn torn(
 impl Disk for MemoryDisk {
     ghost use Rattle.std.specs.Prelude.{unwrap_or};
     ghost use Rattle.std.proofs.Common.{ap, inl, refl, sym};
-    ghost use Rattle.fish_disk.specs.Memory.{Planned, Records, bytes_of, fewer_later_of, images_of, moment_of, only_now_of, since_of};
+    ghost use Rattle.fish_disk.specs.Memory.{bytes_of, fewer_later_of, images_of, moment_of, only_now_of, since_of};
+    ghost use Rattle.fish_disk.specs.within.Memory.{Planned, Records};
 
     ghost content = { λ disk. Some (bytes_of disk) };
 

@@ -2,7 +2,7 @@
 
 ghost use Rattle.std.specs.Prelude.{◌≡◌, ◌≤◌, ◌+◌, ◌-◌, ◌++◌, ◌↔◌, [], Some, length, min, take, vec_capacity, option_map, IfOk, IfSome, IsTrue, OnOk};
 ghost use Rattle.fish_outside.specs.Causes.{HasCause};
-ghost use Rattle.fish_outside.specs.Room.{content_within};
+ghost use Rattle.fish_outside.specs.within.Room.{content_within};
 ghost use Rattle.fish_disk.specs.Content.{Gave, StillReads, Wrote, put_at};
 ghost use Rattle.fish_disk.specs.Crash.{KeepsPast, LeavesOnly, TornFrom};
 
@@ -90,7 +90,8 @@ fn extend_within(bytes: &mut Vec<u8>, room: usize, piece: &[u8]) -> bool
 impl Disk for SureDisk {
     ghost use Rattle.std.specs.Prelude.{false, is_some};
     ghost use Rattle.std.proofs.Common.{ap};
-    ghost use Rattle.fish_disk.specs.Sure.{kept_of, kept_with, room_of, content_in};
+    ghost use Rattle.fish_disk.specs.Sure.{kept_of, room_of, content_in};
+    ghost use Rattle.fish_disk.specs.within.Sure.{kept_with};
 
     ghost content = { content_in };
 

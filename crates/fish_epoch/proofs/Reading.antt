@@ -25,7 +25,8 @@ use Rattle.fish_rule.specs.declared.view.Key.{Key}
 use Rattle.fish_rule.specs.declared.view.RegistryWord.{RegistryWord}
 use Rattle.fish_rule.specs.declared.view.View.{View}
 use Rattle.fish_epoch.specs.Definitions.{IsKnownOf, version_of}
-use Rattle.fish_epoch.specs.Rows.{HasRow, HasRowWords, OnlyReads}
+use Rattle.fish_epoch.specs.Rows.{OnlyReads}
+use Rattle.fish_epoch.specs.within.Rows.{HasRow, HasRowWords}
 use Rattle.fish_epoch.specs.declared.definitions.Known.{Known}
 
 -- ---- views

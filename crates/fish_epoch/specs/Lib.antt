@@ -1,3 +1,4 @@
 pub mod Definitions
 pub mod Entering
 pub mod Rows
+pub mod within

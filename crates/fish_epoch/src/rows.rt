@@ -3,7 +3,8 @@
 
 ghost use Rattle.std.specs.Prelude.{◌≡◌, ◌<◌, ◌≤◌, ℕ, suc, IfOk, OnOk, Some, length, map, slice_get, slice_index};
 ghost use Rattle.fish_catalog.specs.Listing.{IsListing, ended_at, listed_of};
-ghost use Rattle.fish_epoch.specs.Rows.{HasRow, HasRowWords, OnlyReads};
+ghost use Rattle.fish_epoch.specs.Rows.{OnlyReads};
+ghost use Rattle.fish_epoch.specs.within.Rows.{HasRow, HasRowWords};
 ghost use Rattle.fish_rule.specs.Passes.{IsPassOf, view};
 ghost use Rattle.fish_rule.specs.Registry.{KnowsDefinitions, KnowsRow};
 

@@ -6,7 +6,8 @@ use Rattle.std.proofs.lemmas.List.{take_all}
 use Rattle.std.proofs.lemmas.Option.{same_Some}
 use Rattle.std.specs.Prelude.{IfSome}
 use Rattle.fish_feed.specs.Parts.{longest_read}
-use Rattle.fish_feed.specs.OpenFiles.{CanRead, GivesPart, HasRead, IsCutOff, IsPartOf, IsRestOf, IsStuck}
+use Rattle.fish_feed.specs.OpenFiles.{CanRead, GivesPart, IsPartOf, IsRestOf, IsStuck}
+use Rattle.fish_feed.specs.within.OpenFiles.{HasRead, IsCutOff}
 use Rattle.fish_feed.specs.declared.part.OpenFile.{OpenFile}
 use Rattle.fish_feed.specs.declared.part.Part.{Part}
 use Rattle.fish_lanes.specs.declared.work.Work.{Work}

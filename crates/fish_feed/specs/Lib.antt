@@ -2,3 +2,4 @@ pub mod OpenFiles
 pub mod Parts
 pub mod Queues
 pub mod Works
+pub mod within

@@ -35,34 +35,6 @@ pub record CanRead {F : Type 0} (faults : F → ℕ) (o : OpenFile F) : Type 0 w
   pub short : length o.rest ≤ longest_read
   pub failed : o.failed ≡ true → Rose 0 (faults o.feed)
 
--- whole lines of the bytes that came were cut off
-pub record IsCutOff {F : Type 0} (o u : OpenFile F) (w : Work) : Type 0 where
-  pub part : List ℕ
-  pub json : o.form ≡ Json
-  pub line : EndsLine part
-  pub cut : o.rest ≡ part ++ u.rest
-  pub is : w ≡ work.Ingest o.form o.begin o.name part
-  pub form_is : u.form ≡ o.form
-  pub begin_is : u.begin ≡ After
-  pub name_is : u.name ≡ o.name
-  pub feed_is : u.feed ≡ o.feed
-  pub failed_is : u.failed ≡ o.failed
-  pub room_is : length part + u.room ≡ o.room
-
--- these bytes came, and are kept after the others
-pub record HasRead {F : Type 0} (left : F → Option (List ℕ)) (o u : OpenFile F) : Type 0 where
-  pub more : List ℕ
-  pub took : Took (left o.feed) (left u.feed) more
-  pub rest_is : u.rest ≡ o.rest ++ more
-  pub form_is : u.form ≡ o.form
-  pub begin_is : u.begin ≡ o.begin
-  pub name_is : u.name ≡ o.name
-  pub room_is : u.room ≡ o.room
-
--- so many bytes came, unless a read failed
-abbrev pub IsFull : {F : Type 0} → ℕ → OpenFile F → Type 0
-IsFull wanted o = o.failed ≡ false → wanted ≤ length o.rest
-
 -- a part of it was given, perhaps once more bytes had come
 pub record IsPartOf {F : Type 0} (left : F → Option (List ℕ)) (o : OpenFile F) (w : Work) (u : OpenFile F)
     : Type 0 where

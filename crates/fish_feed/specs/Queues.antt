@@ -1,7 +1,7 @@
 -- What a lane is still to be given, and what a step of that leaves. Feeds are of a type F; left says which bytes one
 -- still gives, and faults how often it failed.
 use Rattle.std.specs.Prelude.{ℕ, ◌≡◌, ◌+◌, ◌<◌, ◌≤◌, ◌⊎◌, List, [], ◌∷◌, ◌++◌, Bool, true, false}
-use Rattle.std.specs.Prelude.{Option, None, Some, IfSome, IsSome, length, map, slice_get, ⊤, ◌≢◌}
+use Rattle.std.specs.Prelude.{Option, None, Some, IfSome, IsSome, length, map, slice_get, ⊤}
 use Rattle.fish_feed.specs.OpenFiles.{CanRead, IsBegun}
 use Rattle.fish_feed.specs.Parts.{AreParts, begin_after, longest_given, longest_in_parts}
 use Rattle.fish_feed.specs.Works.{AreAnewAfterFirst, AreDone, IsWorkOf, Pairs, StoresNone, bytes_of}
@@ -19,7 +19,6 @@ use Rattle.fish_script.specs.Runnable.{AreRunnable}
 use Rattle.fish_script.specs.Script.{AreFree}
 use Rattle.fish_script.specs.declared.script.Statement.{Statement}
 use Rattle.fish_script.specs.declared.script.Statement.TheVariants as does
-use Rattle.fish_value.specs.declared.field.Form.{Form}
 
 -- ---- statements that are to be given
 
@@ -70,11 +69,6 @@ abbrev pub MayEnd
 MayEnd told left ss given q =
     (more : List Work) × (IsQueue told left ss (given ++ more) q ⊎ AreDone told ss (given ++ more))
 
--- nothing is to be given
-pub record IsEmpty {F : Type 0} (q : Queue F) : Type 0 where
-  pub none : q.current ≡ None
-  pub empty : q.todos.items ≡ []
-
 -- ---- before a block
 
 -- the statements of each lane can be run
@@ -84,10 +78,6 @@ AllRunnable texts = (i : ℕ) (ss : List Statement) → slice_get texts i ≡ So
 -- and what the first lane alone may hold stands in no other
 abbrev pub AllFree : List (List Statement) → Type 0
 AllFree texts = (i : ℕ) (ss : List Statement) → 0 < i → slice_get texts i ≡ Some ss → AreFree ss
-
--- the statement stores no file
-abbrev pub HasNoFile : Statement → Type 0
-HasNoFile s = (form : Form) (header : Bool) (name : List ℕ) → s ≢ does.Ingest form header name
 
 -- ---- works that a lane may do
 

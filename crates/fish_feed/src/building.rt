@@ -1,7 +1,8 @@
 //! The lanes of a block, as a script has them, with the files that they store.
 
 ghost use Rattle.std.specs.Prelude.{◌≡◌, [], Bool, IfOk, false, true};
-ghost use Rattle.fish_feed.specs.Queues.{AllFree, AllRunnable, AreFit, HasNoFile, IsDue, IsFit, IsFitTodo, IsQueue};
+ghost use Rattle.fish_feed.specs.Queues.{AllFree, AllRunnable, AreFit, IsDue, IsFit, IsFitTodo, IsQueue};
+ghost use Rattle.fish_feed.specs.within.Queues.{HasNoFile};
 ghost use Rattle.fish_outside.specs.Reading.{HasReadCause};
 ghost use Rattle.fish_feed.specs.Works.{IsWorkOf, Pairs, ask_of, how_of};
 ghost use Rattle.fish_lang.specs.Definition.{definition_of};

@@ -3,7 +3,8 @@
 ghost use Rattle.std.specs.Prelude.{◌≡◌, ◌<◌, ◌≤◌, [], None, length, take, true, false};
 ghost use Rattle.std.specs.Prelude.{IfOk, IfSome, IsErrOf, IsSome, OnErr, OnOk};
 ghost use Rattle.fish_feed.specs.Parts.{EndsLine, HasNoEnd, longest_read};
-ghost use Rattle.fish_feed.specs.OpenFiles.{CanRead, GivesPart, HasRead, IsCutOff, IsFull, IsStuck, IsUnread};
+ghost use Rattle.fish_feed.specs.OpenFiles.{CanRead, GivesPart, IsStuck, IsUnread};
+ghost use Rattle.fish_feed.specs.within.OpenFiles.{HasRead, IsCutOff, IsFull};
 ghost use Rattle.fish_lanes.specs.declared.work.Work.TheVariants as work;
 ghost use Rattle.fish_outside.specs.Causes.{Rose, counted_on};
 ghost use Rattle.fish_outside.specs.Content.{IsAtEnd, SameFiles};

@@ -8,8 +8,9 @@ use Rattle.fish_catalog.specs.PageStarts.{starts_after}
 use Rattle.fish_catalog.specs.declared.page_start.PageStart.{PageStart}
 use Rattle.fish_flush.proofs.RegionSteps.{holds_later, line_later, line_same, line_start, read_more}
 use Rattle.fish_flush.proofs.TableRegions.{ends_inside, some_lines}
-use Rattle.fish_flush.specs.Filling.{HasAdded, HasRoom, IsCopied, pending}
-use Rattle.fish_flush.specs.Reading.{IsLineAt, IsLooked, IsReadTo}
+use Rattle.fish_flush.specs.within.Filling.{HasAdded, HasRoom, IsCopied, pending}
+use Rattle.fish_flush.specs.Reading.{IsLineAt}
+use Rattle.fish_flush.specs.within.Reading.{IsLooked, IsReadTo}
 use Rattle.fish_flush.specs.declared.batch.Batch.{Batch}
 use Rattle.fish_image.specs.Stands.{words_in}
 use Rattle.fish_layout.specs.Header.{lines_of}

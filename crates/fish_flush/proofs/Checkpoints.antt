@@ -6,7 +6,8 @@ use Rattle.std.proofs.lemmas.Nat.{pow_pos}
 use Rattle.fish_catalog.specs.declared.commit.Commit.{Commit}
 use Rattle.fish_catalog.specs.declared.entry.Entry.{Entry}
 use Rattle.fish_catalog.specs.declared.row.CatRow.{CatRow}
-use Rattle.fish_flush.specs.Carrying.{Carries, Drafts, HasSettled, MayDraft, MaySave, Reads}
+use Rattle.fish_flush.specs.Carrying.{Carries, HasSettled, Reads}
+use Rattle.fish_flush.specs.within.Carrying.{Drafts, MayDraft, MaySave}
 use Rattle.fish_flush.specs.Causes.{HasFlushCause}
 use Rattle.fish_flush.specs.Rows.{HoldsRows}
 use Rattle.fish_flush.specs.declared.flusher.Flusher.{Flusher}

@@ -8,11 +8,12 @@ use Rattle.fish_catalog.specs.declared.entry.Entry.{Entry}
 use Rattle.fish_catalog.specs.declared.row.CatRow.{CatRow}
 use Rattle.fish_disk.specs.Crash.{LeavesOnly}
 use Rattle.fish_disk.proofs.Moments.{leaves_more}
-use Rattle.fish_flush.specs.Carrying.{Carries, IsDrafted, LeavesEither, flusher_after}
+use Rattle.fish_flush.specs.Carrying.{Carries, LeavesEither}
+use Rattle.fish_flush.specs.within.Carrying.{IsDrafted, flusher_after}
 use Rattle.fish_flush.specs.Going.{ComesFrom, GoesOnFrom}
 use Rattle.fish_flush.specs.Kept.{IsAtRest, IsCommitted, commit_of}
 use Rattle.fish_flush.specs.Rows.{HoldsRows}
-use Rattle.fish_flush.specs.Writing.{EitherCommit, Grows}
+use Rattle.fish_flush.specs.within.Writing.{EitherCommit, Grows}
 use Rattle.fish_flush.specs.declared.drafting.Draft.{Draft}
 use Rattle.fish_flush.specs.declared.flusher.Flusher.{Flusher}
 use Rattle.fish_flush.proofs.Growing.{grown_self}

@@ -10,13 +10,14 @@ use Rattle.fish_catalog.specs.declared.entry.Entry.{Entry}
 use Rattle.fish_catalog.specs.declared.row.CatRow.{CatRow}
 use Rattle.fish_catalog.specs.Words.{bound_word}
 use Rattle.fish_catalog.specs.declared.page_start.PageStart.{PageStart}
-use Rattle.fish_flush.specs.Carrying.{Drafts, IsDrafted, MayDraft, flusher_after}
-use Rattle.fish_flush.specs.Filling.{HasCopied, IsReady}
+use Rattle.fish_flush.specs.within.Carrying.{Drafts, IsDrafted, MayDraft, flusher_after}
+use Rattle.fish_flush.specs.within.Filling.{HasCopied, IsReady}
 use Rattle.fish_flush.specs.Kept.{IsCommitted, commit_of}
 use Rattle.fish_flush.specs.declared.batch.Batch.{Batch}
 use Rattle.fish_flush.specs.declared.drafting.Draft.{Draft}
 use Rattle.fish_rule.specs.Logs.{Extends}
-use Rattle.fish_flush.specs.Reading.{IsLineAt, IsReadTo}
+use Rattle.fish_flush.specs.Reading.{IsLineAt}
+use Rattle.fish_flush.specs.within.Reading.{IsReadTo}
 use Rattle.fish_flush.specs.Rows.{HaveGrown, HoldsRows}
 use Rattle.fish_flush.specs.declared.flusher.Flusher.{Flusher}
 use Rattle.fish_flush.proofs.Growing.{grown_agrees}

@@ -7,8 +7,9 @@ use Rattle.fish_catalog.specs.declared.commit.Commit.{Commit}
 use Rattle.fish_catalog.specs.declared.entry.Entry.{Entry}
 use Rattle.fish_flush.proofs.RegionSteps.{holds_later, line_later}
 use Rattle.fish_flush.proofs.Words.{words_both}
-use Rattle.fish_flush.specs.Filling.{HasAdded, HasCopied, HasRoom, IsReady, buffer_bytes, pending}
-use Rattle.fish_flush.specs.Reading.{IsLineAt, IsReadTo}
+use Rattle.fish_flush.specs.within.Filling.{HasAdded, HasCopied, HasRoom, IsReady, buffer_bytes, pending}
+use Rattle.fish_flush.specs.Reading.{IsLineAt}
+use Rattle.fish_flush.specs.within.Reading.{IsReadTo}
 use Rattle.fish_flush.specs.Rows.{HoldsRows}
 use Rattle.fish_flush.specs.declared.batch.Batch.{Batch}
 use Rattle.fish_image.specs.Stands.{words_in}

@@ -12,7 +12,7 @@ use Rattle.fish_disk.proofs.Regions.{put_within, told_at, torn_apart}
 use Rattle.fish_slots.specs.Commits.{HasCommit, Rests, next_turn, turn_of}
 use Rattle.fish_slots.specs.Offsets.{body_at, body_bytes, gate_at, lines_at}
 use Rattle.fish_slots.specs.Slots.{GatesAreSynced, IsOpen, SameSlot, body_of, line_count, lines_of}
-use Rattle.fish_flush.specs.Writing.{AreSealed, EitherCommit, Grows, IsPut, IsSealed}
+use Rattle.fish_flush.specs.within.Writing.{AreSealed, EitherCommit, Grows, IsPut, IsSealed}
 
 -- ---- apart
 

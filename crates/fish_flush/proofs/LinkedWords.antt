@@ -13,7 +13,7 @@ use Rattle.fish_image.proofs.Spelling.{parted}
 use Rattle.fish_image.specs.Progress.{AreHeads}
 use Rattle.fish_image.specs.Reached.{AreLinked, bucket_of_key, head_of, with_keys}
 use Rattle.fish_layout.specs.Pages.{place_of}
-use Rattle.fish_flush.specs.Linking.{AreSpelled}
+use Rattle.fish_flush.specs.within.Linking.{AreSpelled}
 use Rattle.fish_layout.proofs.Buckets.{bucket_of-key}
 use Rattle.fish_layout.proofs.Clearing.{head_stays}
 use Rattle.fish_layout.proofs.Links.{length-relink, relink, relink-none, relink-relink, relinked, relinked_at}

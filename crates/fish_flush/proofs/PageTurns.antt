@@ -6,7 +6,7 @@ use Rattle.fish_disk.specs.Content.{HasWritten}
 use Rattle.fish_disk.specs.Crash.{LeavesOnly, TornFrom}
 use Rattle.fish_flush.proofs.FilledPages.{AreFilled, filled_more, filled_none, filled_written, pending_size}
 use Rattle.fish_flush.proofs.PageWrites.{AreWritten, written_more, written_none}
-use Rattle.fish_flush.specs.Filling.{HasAdded, IsReady, pending}
+use Rattle.fish_flush.specs.within.Filling.{HasAdded, IsReady, pending}
 use Rattle.fish_flush.specs.declared.batch.Batch.{Batch}
 use Rattle.fish_layout.specs.Pages.{page_of}
 use Rattle.fish_rule.specs.Logs.{Extends}

@@ -8,7 +8,7 @@ use Rattle.fish_disk.specs.Content.{HasWritten, part, put_at}
 use Rattle.fish_disk.specs.Crash.{LeavesOnly, Torn, TornFrom}
 use Rattle.fish_disk.proofs.Moments.{leaves_more, leaves_none, leaves_then}
 use Rattle.fish_disk.proofs.Regions.{put_part, put_within, told_at, torn_below, torn_more, torn_then}
-use Rattle.fish_flush.specs.Writing.{HasPut, IsPut}
+use Rattle.fish_flush.specs.within.Writing.{HasPut, IsPut}
 use Rattle.fish_slots.specs.Offsets.{lines_at}
 use Rattle.fish_flush.proofs.Images.{part-add}
 

@@ -7,8 +7,9 @@ use Rattle.std.proofs.lemmas.List.{take_all}
 use Rattle.fish_catalog.specs.declared.commit.Commit.{Commit}
 use Rattle.fish_catalog.specs.declared.entry.Entry.{Entry}
 use Rattle.fish_catalog.specs.declared.page_start.PageStart.{PageStart}
-use Rattle.fish_flush.specs.Linking.{AreSpelled}
-use Rattle.fish_flush.specs.Reading.{IsLineAt, IsLooked, IsReadTo}
+use Rattle.fish_flush.specs.within.Linking.{AreSpelled}
+use Rattle.fish_flush.specs.Reading.{IsLineAt}
+use Rattle.fish_flush.specs.within.Reading.{IsLooked, IsReadTo}
 use Rattle.fish_catalog.specs.PageStarts.{starts_after}
 use Rattle.fish_flush.specs.Rows.{HoldsRows}
 use Rattle.fish_flush.proofs.Growing.{grown_agrees, grown_self, meant_self}

@@ -12,10 +12,11 @@ use Rattle.fish_flush.proofs.Drafted.{drafted}
 use Rattle.fish_flush.proofs.Images.{grows_on}
 use Rattle.fish_flush.proofs.PageWrites.{put_is, told_in}
 use Rattle.fish_flush.specs.Going.{ComesFrom}
-use Rattle.fish_flush.specs.Carrying.{Carries, IsDrafted, LeavesEither, MaySave, flusher_after}
-use Rattle.fish_flush.specs.Filling.{HasCopied}
+use Rattle.fish_flush.specs.Carrying.{Carries, LeavesEither}
+use Rattle.fish_flush.specs.within.Carrying.{IsDrafted, MaySave, flusher_after}
+use Rattle.fish_flush.specs.within.Filling.{HasCopied}
 use Rattle.fish_flush.specs.Kept.{commit_of}
-use Rattle.fish_flush.specs.Writing.{EitherCommit, GrowsBy, HasPut}
+use Rattle.fish_flush.specs.within.Writing.{EitherCommit, GrowsBy, HasPut}
 use Rattle.fish_flush.specs.declared.batch.Batch.{Batch}
 use Rattle.fish_flush.specs.declared.drafting.Draft.{Draft}
 use Rattle.fish_flush.specs.declared.flusher.Flusher.{Flusher}

@@ -10,7 +10,7 @@ use Rattle.fish_catalog.specs.declared.commit.Commit.{Commit}
 use Rattle.fish_catalog.specs.declared.entry.Entry.{Entry}
 use Rattle.fish_catalog.specs.declared.entry.Entry.TheVariants as entry
 use Rattle.fish_catalog.specs.declared.row.CatRow.{CatRow}
-use Rattle.fish_flush.specs.Linking.{IsLinked}
+use Rattle.fish_flush.specs.within.Linking.{IsLinked}
 use Rattle.fish_flush.specs.Rows.{HoldsRows}
 use Rattle.fish_flush.proofs.KeyedValues.{under_unlink}
 use Rattle.fish_flush.proofs.TableKeys.{table_keys}

@@ -1,10 +1,9 @@
 pub mod Carrying
 pub mod Causes
-pub mod Filling
 pub mod Going
 pub mod Kept
 pub mod Laws
-pub mod Linking
 pub mod Reading
 pub mod Rows
 pub mod Writing
+pub mod within

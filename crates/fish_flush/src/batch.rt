@@ -11,7 +11,7 @@ ghost use Rattle.fish_image.specs.Stands.{words_in};
 ghost use Rattle.fish_layout.specs.Pages.{page_of};
 ghost use Rattle.fish_rule.specs.Logs.{Extends, KnowsAs};
 ghost use Rattle.fish_rule.specs.Passes.{IsPassOf, view};
-ghost use Rattle.fish_flush.specs.Filling.{Begins, HasAdded, HasRoom};
+ghost use Rattle.fish_flush.specs.within.Filling.{Begins, HasAdded, HasRoom};
 ghost use Rattle.fish_flush.specs.Reading.{IsLineAt};
 
 use crate::flusher::Flusher;

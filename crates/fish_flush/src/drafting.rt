@@ -4,8 +4,9 @@ ghost use Rattle.std.specs.Prelude.{◌≡◌, ◌≤◌, ◌+◌, ◌*◌, ℕ,
 ghost use Rattle.fish_image.specs.Reading.{IsBodyOf};
 ghost use Rattle.fish_rule.specs.Logs.{Extends};
 ghost use Rattle.fish_rule.specs.Passes.{IsPassOf, view};
-ghost use Rattle.fish_flush.specs.Carrying.{Drafts, MayDraft};
-ghost use Rattle.fish_flush.specs.Reading.{EndsWithin, IsLineAt};
+ghost use Rattle.fish_flush.specs.within.Carrying.{Drafts, MayDraft};
+ghost use Rattle.fish_flush.specs.Reading.{IsLineAt};
+ghost use Rattle.fish_flush.specs.within.Reading.{EndsWithin};
 
 use crate::batch::{Batch, new_batch};
 use crate::flusher::Flusher;

@@ -7,7 +7,7 @@ ghost use Rattle.fish_slots.specs.Commits.{Rests};
 ghost use Rattle.fish_slots.specs.Offsets.{body_bytes, gate_at};
 ghost use Rattle.fish_slots.specs.Slots.{GatesAreSynced};
 ghost use Rattle.fish_flush.specs.Going.{ComesFrom};
-ghost use Rattle.fish_flush.specs.Writing.{AreSealed, EitherCommit, GrowsBy};
+ghost use Rattle.fish_flush.specs.within.Writing.{AreSealed, EitherCommit, GrowsBy};
 
 use fish_disk::Disk;
 use fish_outside::Failed;

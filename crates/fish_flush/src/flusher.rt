@@ -1,7 +1,7 @@
 //! What is kept of the last commit.
 
 ghost use Rattle.std.specs.Prelude.{◌≡◌, ◌≤◌, false, IfOk};
-ghost use Rattle.fish_flush.specs.Carrying.{flusher_after};
+ghost use Rattle.fish_flush.specs.within.Carrying.{flusher_after};
 ghost use Rattle.fish_flush.specs.Kept.{IsKeptOf};
 
 use crate::drafting::Draft;

@@ -6,7 +6,7 @@
 
 ghost use Rattle.std.specs.Prelude.{◌≡◌, ◌<◌, ◌^◌, ◌*◌, length, slice_index};
 ghost use Rattle.fish_layout.specs.Header.{keys_of};
-ghost use Rattle.fish_flush.specs.Linking.{AreSpelled};
+ghost use Rattle.fish_flush.specs.within.Linking.{AreSpelled};
 
 use crate::bucket::entry_bucket;
 use fish_layout::{entry_at, keys_in, place_of};

@@ -6,8 +6,8 @@ ghost use Rattle.fish_rule.specs.Passes.{IsPassOf, view};
 ghost use Rattle.fish_rule.specs.Views.{Among};
 ghost use Rattle.fish_rule.specs.declared.view.Found.{Found};
 ghost use Rattle.fish_rule.specs.declared.view.Kind.TheVariants.{Mark};
-ghost use Rattle.fish_flush.specs.Filling.{region_words};
-ghost use Rattle.fish_flush.specs.Reading.{IsLooked};
+ghost use Rattle.fish_flush.specs.within.Filling.{region_words};
+ghost use Rattle.fish_flush.specs.within.Reading.{IsLooked};
 
 use fish_layout::{keys_in, lines_in};
 use fish_rule::{Log, Pass, line_of_word, look_at, read_word};

@@ -7,9 +7,10 @@ ghost use Rattle.fish_disk.specs.Crash.{LeavesOnly, TornFrom};
 ghost use Rattle.fish_rule.specs.Logs.{Extends};
 ghost use Rattle.fish_rule.specs.Passes.{IsPassOf, view};
 ghost use Rattle.fish_slots.specs.Offsets.{lines_at};
-ghost use Rattle.fish_flush.specs.Filling.{HasCopied, IsReady, pending};
-ghost use Rattle.fish_flush.specs.Reading.{EndsWithin};
-ghost use Rattle.fish_flush.specs.Writing.{HasPut, pages_between};
+ghost use Rattle.fish_flush.specs.within.Filling.{HasCopied, IsReady, pending};
+ghost use Rattle.fish_flush.specs.within.Reading.{EndsWithin};
+ghost use Rattle.fish_flush.specs.Writing.{pages_between};
+ghost use Rattle.fish_flush.specs.within.Writing.{HasPut};
 
 use crate::batch::{Batch, add_region};
 use fish_disk::Disk;

@@ -4,7 +4,7 @@ ghost use Rattle.std.specs.Prelude.{◌≡◌, ◌<◌, ◌≤◌, ◌+◌, ◌*
 ghost use Rattle.fish_image.specs.Stands.{words_in};
 ghost use Rattle.fish_rule.specs.Logs.{Extends};
 ghost use Rattle.fish_rule.specs.Passes.{IsPassOf, view};
-ghost use Rattle.fish_flush.specs.Filling.{IsCopied, region_words};
+ghost use Rattle.fish_flush.specs.within.Filling.{IsCopied, region_words};
 
 use crate::linking::link;
 use crate::loading::{find_region, load_region};

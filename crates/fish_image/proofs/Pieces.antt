@@ -9,7 +9,8 @@ use Rattle.fish_image.specs.declared.refusal.ImageRefusal.TheVariants.{Damaged, 
 use Rattle.std.specs.Prelude.{Result, Ok, Err}
 use Rattle.fish_image.specs.Log.{Follows, IsDamaged}
 use Rattle.fish_image.specs.Reached.{Reached}
-use Rattle.fish_image.specs.Steps.{Advances, Breaks, HasCome}
+use Rattle.fish_image.specs.Steps.{Breaks, HasCome}
+use Rattle.fish_image.specs.within.Steps.{Advances}
 use Rattle.fish_image.specs.declared.progress.Progress.{Progress}
 use Rattle.fish_image.proofs.Agreement.{agrees_more}
 

@@ -14,7 +14,7 @@ use Rattle.fish_layout.proofs.Headers.{form_of-void}
 use Rattle.fish_layout.proofs.Spelled.{body_head, header_fits}
 use Rattle.fish_image.specs.Log.{void_words}
 use Rattle.fish_layout.specs.Body.{IsBody}
-use Rattle.fish_layout.specs.Cleared.{IsNumberWord}
+use Rattle.fish_layout.specs.within.Cleared.{IsNumberWord}
 use Rattle.fish_layout.specs.declared.parts.BodyParts.{BodyParts}
 use Rattle.fish_layout.specs.declared.parts.KeyPart.{KeyPart}
 use Rattle.fish_layout.proofs.Numbers.{body_numbered}

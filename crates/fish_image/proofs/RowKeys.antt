@@ -9,7 +9,7 @@ use Rattle.fish_lang.specs.declared.parse.LangRefusal.{LangRefusal}
 use Rattle.fish_layout.specs.declared.parts.BodyParts.{BodyParts}
 use Rattle.fish_psf.specs.Records.{evaluation, is_record}
 use Rattle.fish_image.specs.Log.{AreSomeOf, HasKeys, values_under}
-use Rattle.fish_image.specs.Regions.{HasKeysIn}
+use Rattle.fish_image.specs.within.Regions.{HasKeysIn}
 use Rattle.fish_image.specs.Terms.{AreIndexRows}
 use Rattle.fish_image.specs.declared.terms.IndexRow.{IndexRow}
 use Rattle.fish_image.proofs.Spelling.{parted}

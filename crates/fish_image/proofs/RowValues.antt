@@ -7,7 +7,7 @@ use Rattle.fish_lang.specs.Definition.{definition_of}
 use Rattle.fish_psf.specs.Eval.{Fields, values}
 use Rattle.fish_value.specs.declared.value.Value.{Value}
 use Rattle.fish_image.specs.Log.{AreSomeOf}
-use Rattle.fish_image.specs.Terms.{HasIndexValues, IndexCovers}
+use Rattle.fish_image.specs.within.Terms.{HasIndexValues, IndexCovers}
 use Rattle.fish_image.specs.declared.terms.IndexRow.{IndexRow}
 
 -- all of a list are some of it

@@ -14,7 +14,8 @@ use Rattle.fish_catalog.proofs.RowReads.{canonical_short}
 use Rattle.fish_catalog.specs.declared.commit.Commit.{Commit}
 use Rattle.fish_catalog.specs.declared.row.CatRow.{CatRow}
 use Rattle.fish_image.specs.Commits.{HasBoundaries, HasTexts, IsBoundary}
-use Rattle.fish_image.specs.Reading.{AreRowsOf, IsRowOf, IsSpellable, IsBodyOf}
+use Rattle.fish_image.specs.Reading.{IsBodyOf}
+use Rattle.fish_image.specs.within.Reading.{AreRowsOf, IsRowOf, IsSpellable}
 use Rattle.fish_image.specs.Slot.{boundary_word, boundary_words, bytes_behind, head_words, number, padded, row_bytes}
 use Rattle.fish_image.specs.Slot.{slot_bytes, word, zeros}
 

@@ -5,8 +5,8 @@ pub mod Newest
 pub mod Progress
 pub mod Reached
 pub mod Reading
-pub mod Regions
 pub mod Slot
 pub mod Stands
 pub mod Steps
 pub mod Terms
+pub mod within

@@ -1,30 +1,10 @@
 -- How a checker goes through words.
-use Rattle.std.specs.Prelude.{ℕ, ◌≡◌, ◌*◌, ◌<◌, ◌≤◌, List, ◌++◌, Option, Some, None, drop, length}
+use Rattle.std.specs.Prelude.{ℕ, ◌≡◌, ◌*◌, ◌<◌, ◌≤◌, List, ◌++◌, drop}
 use Rattle.fish_catalog.specs.declared.commit.Commit.{Commit}
-use Rattle.fish_image.specs.Log.{Agrees, Follows, FollowsAt, region_lines}
+use Rattle.fish_image.specs.Log.{Agrees, Follows}
 use Rattle.fish_image.specs.Progress.{IsAt}
 use Rattle.fish_image.specs.Reached.{Reached}
-use Rattle.fish_image.specs.Terms.{AreTermsOf}
 use Rattle.fish_image.specs.declared.progress.Progress.{Progress}
-use Rattle.fish_image.specs.declared.step.Step.{Step}
-use Rattle.fish_image.specs.declared.step.Step.TheVariants.{Took, Waits, Damaged}
-use Rattle.fish_image.specs.declared.terms.Terms.{Terms}
-
--- the terms are some commit's, and the reading has come somewhere, an entry being wanted
-pub record IsReading (terms : Terms) (at : Progress) : Type 0 where
-  pub commit : Commit
-  pub come : Reached
-  pub terms_of : AreTermsOf commit terms
-  pub is_at : IsAt commit come at
-  pub wanted : come.number < commit.count
-
--- what a step does: it reads the region at the front of what is left, which takes so many words; or no region is there as
--- yet; or none will be, whatever comes after
-abbrev pub Stepped : Step → Commit → Reached → List ℕ → Progress → Type 0
-Stepped (Took n) c s rest new =
-    (m : Reached) × FollowsAt c s rest m × IsAt c m new × (n ≡ 4 * region_lines rest) × (n ≤ length rest)
-Stepped Waits c s rest new = IsAt c s new × ((m : Reached) → FollowsAt c s rest m → ⊥)
-Stepped Damaged c s rest new = (more : List ℕ) (m : Reached) → FollowsAt c s (rest ++ more) m → ⊥
 
 -- the reading of words has come so far, which agrees with the commit
 pub record HasCome (c : Commit) (w : List ℕ) (s : Reached) (at : Progress) : Type 0 where
@@ -45,8 +25,3 @@ pub record Stops (c : Commit) (w left : List ℕ) (at : Progress) : Type 0 where
   pub come : HasCome c w end at
   pub left_is : end.number < c.count → left ≡ drop (4 * end.line) w
   pub none : end.number < c.count → (m : Reached) → Follows c w end m → ⊥
-
--- what reading all regions of words does
-abbrev pub Advances : Option ℕ → Commit → List ℕ → List ℕ → Progress → Type 0
-Advances (Some n) c w left new = Breaks c w n
-Advances None c w left new = Stops c w left new

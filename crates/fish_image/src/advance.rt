@@ -4,7 +4,8 @@ ghost use Rattle.std.specs.Prelude.{◌≡◌, ◌↔◌, ◌+◌, ◌*◌, ◌^
 ghost use Rattle.fish_catalog.specs.declared.commit.Commit.{Commit};
 ghost use Rattle.fish_image.specs.Progress.{IsAt};
 ghost use Rattle.fish_image.specs.Reached.{Reached};
-ghost use Rattle.fish_image.specs.Steps.{Advances, HasCome, IsReading, Stepped};
+ghost use Rattle.fish_image.specs.Steps.{HasCome};
+ghost use Rattle.fish_image.specs.within.Steps.{Advances, IsReading, Stepped};
 ghost use Rattle.fish_image.specs.Terms.{AreTermsOf};
 
 use crate::progress::Progress;

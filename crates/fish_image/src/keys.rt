@@ -6,7 +6,7 @@ ghost use Rattle.std.specs.Prelude.{◌≡◌, ◌↔◌, ◌<◌, [], IfOk, IsT
 ghost use Rattle.fish_layout.specs.Body.{AreProperKeys};
 ghost use Rattle.fish_layout.specs.declared.parts.KeyPart.{KeyPart as Key};
 ghost use Rattle.fish_image.specs.Log.{AreSomeOf, values_under};
-ghost use Rattle.fish_image.specs.Terms.{HasIndexValues, HasKeysFor, IndexCovers};
+ghost use Rattle.fish_image.specs.within.Terms.{HasIndexValues, HasKeysFor, IndexCovers};
 
 use crate::terms::IndexRow;
 use fish_layout::KeyPart;

@@ -8,7 +8,8 @@ ghost use Rattle.fish_catalog.specs.declared.commit.Commit.{Commit};
 ghost use Rattle.fish_catalog.specs.declared.row.CatRow.{CatRow};
 ghost use Rattle.fish_image.specs.Commits.{IsBoundary};
 ghost use Rattle.fish_image.specs.Slot.{boundary_word, number};
-ghost use Rattle.fish_image.specs.Reading.{AreRowsOf, IsRowOf, IsBodyOf};
+ghost use Rattle.fish_image.specs.Reading.{IsBodyOf};
+ghost use Rattle.fish_image.specs.within.Reading.{AreRowsOf, IsRowOf};
 
 use crate::slot::{DIGIT, ROW_BYTES, SLOT_BYTES, has_format, is_within, slot_body};
 use byteorder::{ByteOrder, LittleEndian};

@@ -11,11 +11,12 @@ ghost use Rattle.fish_layout.specs.Body.{IsBody, IsProper};
 ghost use Rattle.fish_layout.specs.Header.{lines_of};
 ghost use Rattle.fish_layout.specs.declared.parts.BodyParts.{BodyParts};
 ghost use Rattle.fish_image.specs.Log.{FollowsIn, IsKeptAt, IsRecordAt, behind_record, void_words};
-ghost use Rattle.fish_image.specs.Progress.{AreHeads, IsAt, Linked, Took};
+ghost use Rattle.fish_image.specs.Progress.{AreHeads, IsAt};
+ghost use Rattle.fish_image.specs.within.Progress.{Linked, Took};
 ghost use Rattle.fish_image.specs.Reached.{Reached, behind};
 ghost use Rattle.fish_layout.specs.Pages.{page_of};
 ghost use Rattle.fish_image.specs.Terms.{AreTermsOf};
-ghost use Rattle.fish_image.specs.Regions.{CanTake, HasKeysIn};
+ghost use Rattle.fish_image.specs.within.Regions.{CanTake, HasKeysIn};
 ghost use Rattle.fish_psf.specs.Blanks.{IsBlankOf};
 
 use crate::keys::has_keys;

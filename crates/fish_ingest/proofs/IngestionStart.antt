@@ -18,10 +18,12 @@ use Rattle.fish_rule.proofs.laws.Clocks.{later_both, later_self, later_ticked, l
 use Rattle.fish_rule.specs.Clocks.{HasLoaded}
 use Rattle.fish_rule.specs.declared.view.Noted.TheVariants.{Version}
 use Rattle.fish_ingest.specs.Passing.{OnlyIngests}
-use Rattle.fish_ingest.specs.Placement.{IsInPlace, IsShutBy}
-use Rattle.fish_ingest.specs.Preparation.{AreDefs, ArePartsFor, HasPrepared, IsRecordFor, id_of}
+use Rattle.fish_ingest.specs.within.Placement.{IsInPlace, IsShutBy}
+use Rattle.fish_ingest.specs.Preparation.{AreDefs, ArePartsFor, IsRecordFor, id_of}
+use Rattle.fish_ingest.specs.within.Preparation.{HasPrepared}
 use Rattle.fish_ingest.specs.Refusal.{HasNotClaimed, IsFull}
-use Rattle.fish_ingest.specs.Ingestion.{CanStart, HasStarted, CanPlaceFor}
+use Rattle.fish_ingest.specs.Ingestion.{CanStart, HasStarted}
+use Rattle.fish_ingest.specs.within.Ingestion.{CanPlaceFor}
 use Rattle.fish_ingest.specs.Placement.{HoldsParts}
 use Rattle.fish_ingest.specs.declared.placement.Pending.{Pending}
 use Rattle.fish_ingest.specs.declared.preparation.Prepared.{Prepared}

@@ -7,7 +7,7 @@ use Rattle.fish_claim.specs.declared.claimed.Claimed.{Claimed}
 use Rattle.fish_claim.specs.declared.claimed.Claimed.TheVariants as answer
 use Rattle.fish_ingest.proofs.Passing.{found_both, found_map, found_same, moved_to, on_both, on_self}
 use Rattle.fish_ingest.specs.Passing.{OnlyIngests, HasMark, FoundSince}
-use Rattle.fish_ingest.specs.Placement.{HasPlace, IsShutBy}
+use Rattle.fish_ingest.specs.within.Placement.{HasPlace, IsShutBy}
 use Rattle.fish_rule.proofs.laws.Clocks.{later_ticked}
 use Rattle.fish_rule.specs.Clocks.{IsLater}
 use Rattle.fish_rule.specs.Regions.{kind_of}

@@ -4,7 +4,7 @@ use Rattle.std.proofs.lemmas.Nat.{div-mul-add}
 use Rattle.fish_claim.proofs.Known.{knows_later}
 use Rattle.fish_ingest.proofs.Passing.{moved_to, on_both, on_lane}
 use Rattle.fish_ingest.proofs.PlacementBody.{body_fills}
-use Rattle.fish_ingest.specs.Placement.{CanPlace, HasPlace, IsInPlace, IsShutBy}
+use Rattle.fish_ingest.specs.within.Placement.{CanPlace, HasPlace, IsInPlace, IsShutBy}
 use Rattle.fish_ingest.specs.Placement.{CanWrite, HoldsParts, HasWritten, claimed_parts}
 use Rattle.fish_ingest.specs.declared.placement.Pending.{Pending}
 use Rattle.fish_ingest.specs.declared.preparation.Prepared.{Prepared}

@@ -12,7 +12,8 @@ use Rattle.fish_catalog.specs.Limits.{most_active, most_rows}
 use Rattle.fish_catalog.specs.declared.row.CatRow.{CatRow}
 use Rattle.fish_claim.proofs.Known.{knows_start}
 use Rattle.fish_psf.specs.declared.key.ActiveDef.{ActiveDef}
-use Rattle.fish_rule.specs.Keys.{AreActive, IsWritten, text_of}
+use Rattle.fish_rule.specs.Keys.{IsWritten, text_of}
+use Rattle.fish_rule.specs.within.Keys.{AreActive}
 use Rattle.fish_rule.specs.Registry.{KnowsActive}
 use Rattle.fish_rule.specs.declared.view.Key.{Key}
 use Rattle.fish_rule.specs.declared.view.Learned.{Learned}

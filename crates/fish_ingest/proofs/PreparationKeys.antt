@@ -11,7 +11,7 @@ use Rattle.std.specs.List.Sorted.{IsStrictlyIncreasing}
 use Rattle.std.specs.List.{list_any}
 use Rattle.std.specs.Prelude.{IfSome, None, Option, Some, if◌then◌else◌, nat_le, option_map, option_to_list}
 use Rattle.fish_ingest.specs.Preparation.{AreDefs, id_of}
-use Rattle.fish_ingest.specs.Preparation.{AreEntriesFor, AreMore, IsKey, IsShort}
+use Rattle.fish_ingest.specs.within.Preparation.{AreEntriesFor, AreMore, IsKey, IsShort}
 use Rattle.fish_lang.specs.Definition.{Definition, buckets, definition_of, eaches, flags, takes}
 use Rattle.fish_layout.specs.Body.{AreProperKeys, IsApart}
 use Rattle.fish_layout.specs.Cleared.{AreUnlinked}

@@ -8,7 +8,7 @@ use Rattle.fish_csv.specs.Reading.{row_of, row_reading}
 use Rattle.fish_value.specs.Limits.{longest_payload}
 use Rattle.fish_ingest.proofs.PreparationKeys.{keys_few, keys_proper, keys_unlinked}
 use Rattle.fish_ingest.specs.Preparation.{AreDefs}
-use Rattle.fish_ingest.specs.Preparation.{AreEntriesFor}
+use Rattle.fish_ingest.specs.within.Preparation.{AreEntriesFor}
 use Rattle.fish_ingest.specs.Preparation.{ArePartsFor, IsBodyFor, IsOrigin, IsRead}
 use Rattle.fish_ingest.specs.declared.preparation.Origin.{Origin}
 use Rattle.fish_json.proofs.Records.{record_is_text}

@@ -2,16 +2,13 @@
 use Rattle.std.specs.Prelude.{ℕ, ◌≡◌, ◌⊎◌, ◌<◌, ◌≤◌, List, [], ◌∷◌, ◌++◌, None, true}
 use Rattle.fish_catalog.specs.declared.entry.Entry.TheVariants as entry
 use Rattle.fish_epoch.specs.Definitions.{IsDefsOf}
-use Rattle.fish_epoch.specs.Entering.{OnlyEnters}
 use Rattle.fish_epoch.specs.declared.definitions.Defs.{Defs}
 use Rattle.fish_ingest.specs.Passing.{OnlyIngests, FoundSince}
-use Rattle.fish_ingest.specs.Placement.{CanPlace, HoldsParts, number_of}
+use Rattle.fish_ingest.specs.Placement.{HoldsParts, number_of}
 use Rattle.fish_ingest.specs.Preparation.{IsRecordFor}
 use Rattle.fish_ingest.specs.declared.placement.Pending.{Pending}
-use Rattle.fish_ingest.specs.declared.preparation.Prepared.{Prepared}
 use Rattle.fish_layout.specs.declared.parts.BodyParts.{BodyParts}
 use Rattle.fish_psf.specs.Records.{is_record}
-use Rattle.fish_rule.specs.Clocks.{HasLoaded}
 use Rattle.fish_rule.specs.Logs.{KnowsAs}
 use Rattle.fish_rule.specs.Passes.{IsPassOf, view}
 use Rattle.fish_rule.specs.SpaceSteps.{CanPublishRegion, flight_kind}
@@ -22,7 +19,6 @@ use Rattle.fish_rule.specs.declared.view.Epoch.TheVariants.{Out}
 use Rattle.fish_rule.specs.declared.view.Flight.{Flight}
 use Rattle.fish_rule.specs.declared.view.Found.{Found}
 use Rattle.fish_rule.specs.declared.view.Kind.TheVariants.{Stored, Void}
-use Rattle.fish_rule.specs.declared.view.Noted.TheVariants.{Version}
 use Rattle.fish_rule.specs.declared.view.View.{View}
 use Rattle.fish_value.specs.declared.field.Form.{Form}
 
@@ -45,18 +41,6 @@ pub record IsPending (v : View) (pending : Pending) : Type 0 where
   pub ready : CanPublishRegion v flight
   pub stored : flight_kind v flight ≡ Stored
   pub number_is : flight.number ≡ number_of pending
-
--- ---- on the way
-
--- the pass is entered with the record that a payload is, at the version that it found by a load on the way and that it
--- knows to be the last, and may place it; else it is as it was, but for what it learned of the registry
-pub record CanPlaceFor (v : View) (form : Form) (payload : List ℕ) (prepared : Prepared) (u : View) : Type 0 where
-  pub keeps : OnlyEnters v u
-  pub can : CanPlace u prepared
-  pub form_is : can.origin.form ≡ form
-  pub payload_is : can.payload ≡ payload
-  pub known : u.learned.version ≡ can.origin.version
-  pub loaded : HasLoaded v.clock u.clock Version can.origin.version
 
 -- ---- afterwards
 

@@ -4,3 +4,4 @@ pub mod Passing
 pub mod Placement
 pub mod Preparation
 pub mod Refusal
+pub mod within

@@ -35,17 +35,6 @@ IsCause form payload refusal.NotRecord = (length payload ≤ longest_payload) ×
 IsCause form payload refusal.OutOfMemory = ⊤
 IsCause form payload (refusal.Full line lines end) = is_record form payload ≡ true
 
--- it is one of the parse
-abbrev pub IsEarly : IngestRefusal → Type 0
-IsEarly (refusal.Full line lines end) = ⊥
-IsEarly e = ⊤
-
--- it comes after the parse
-abbrev pub IsLate : IngestRefusal → Type 0
-IsLate refusal.OutOfMemory = ⊤
-IsLate (refusal.Full line lines end) = ⊤
-IsLate e = ⊥
-
 -- the pass isn't entered and has nothing in flight, and no number is its own that wasn't before
 pub record HasLeft (v u : View) : Type 0 where
   pub on : OnlyIngests v u

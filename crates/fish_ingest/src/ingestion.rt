@@ -2,11 +2,13 @@
 
 ghost use Rattle.std.specs.Prelude.{◌≡◌, ◌↔◌, ◌<◌, ◌≤◌, IfErr, IfOk, IsErrOf, None, OnErr, Some, length};
 ghost use Rattle.fish_epoch.specs.Definitions.{IsDefsOf, IsKnownOf};
-ghost use Rattle.fish_ingest.specs.Ingestion.{CanIngest, CanStart, HasIngested, HasStarted, IsPending, CanPlaceFor};
+ghost use Rattle.fish_ingest.specs.Ingestion.{CanIngest, CanStart, HasIngested, HasStarted, IsPending};
+ghost use Rattle.fish_ingest.specs.within.Ingestion.{CanPlaceFor};
 ghost use Rattle.fish_ingest.specs.Laws.{FullAgrees, FullFollows, IngestedAscend, IngestedIsClosed};
 ghost use Rattle.fish_ingest.specs.Placement.{number_of};
 ghost use Rattle.fish_ingest.specs.Preparation.{IsRead};
-ghost use Rattle.fish_ingest.specs.Refusal.{HasNotClaimed, HasRefused, IsCause, IsEarly, IsLate};
+ghost use Rattle.fish_ingest.specs.Refusal.{HasNotClaimed, HasRefused, IsCause};
+ghost use Rattle.fish_ingest.specs.within.Refusal.{IsEarly, IsLate};
 ghost use Rattle.fish_ingest.specs.declared.refusal.IngestRefusal.TheVariants as refusal;
 ghost use Rattle.fish_psf.specs.Blanks.{IsBlankOf};
 ghost use Rattle.fish_read.specs.Rows.{fields_in_row};

@@ -1,7 +1,8 @@
 //! A place in the log for a record that is prepared, its words there, and its entries in their chains.
 
 ghost use Rattle.std.specs.Prelude.{◌≡◌, ◌<◌, ◌≤◌, IfErr, IfOk, Some};
-ghost use Rattle.fish_ingest.specs.Placement.{CanPlace, CanWrite, HasPlace, IsInPlace, HoldsParts, HasWritten, IsShutBy};
+ghost use Rattle.fish_ingest.specs.Placement.{CanWrite, HoldsParts, HasWritten};
+ghost use Rattle.fish_ingest.specs.within.Placement.{CanPlace, HasPlace, IsInPlace, IsShutBy};
 ghost use Rattle.fish_ingest.specs.Placement.{claimed_parts};
 ghost use Rattle.fish_rule.specs.Passes.{IsPassOf, view};
 ghost use Rattle.fish_rule.specs.SpaceSteps.{CanClaimLines};

@@ -3,8 +3,9 @@
 ghost use Rattle.std.specs.Prelude.{◌≡◌, ◌≤◌, ◌/◌, [], ◌∷◌, All, IfOk, OnOk, length};
 ghost use Rattle.fish_epoch.specs.Definitions.{IsKnownOf};
 ghost use Rattle.fish_epoch.specs.Rows.{OnlyReads};
-ghost use Rattle.fish_ingest.specs.Preparation.{AreDefs, AreEntriesFor, AreMore, HasPrepared, IsOrigin, IsPreparedFor, IsRead};
-ghost use Rattle.fish_ingest.specs.Preparation.{IsShort};
+ghost use Rattle.fish_ingest.specs.Preparation.{AreDefs, IsOrigin, IsPreparedFor, IsRead};
+ghost use Rattle.fish_ingest.specs.within.Preparation.{AreEntriesFor, AreMore, HasPrepared};
+ghost use Rattle.fish_ingest.specs.within.Preparation.{IsShort};
 ghost use Rattle.fish_layout.specs.Body.{IsProperValue};
 ghost use Rattle.fish_psf.specs.Given.{given_values};
 ghost use Rattle.fish_read.specs.Rows.{fields_in_row};

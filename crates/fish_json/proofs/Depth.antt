@@ -6,7 +6,7 @@ use Rattle.json.specs.Json as json
 use Rattle.json.specs.Tree.{json_tokens, items_tokens, members_tokens}
 use Rattle.serde_json.specs.Data.{Data, Items, Members, number, array, object, item, put}
 use Rattle.serde_json.specs.Read.{max_depth, number_of, of_json, of_items, of_members}
-use Rattle.fish_json.specs.Tape.{open_after}
+use Rattle.fish_json.specs.within.Tape.{open_after}
 
 -- a value that stands within n open objects and arrays keeps to the depth, and its numbers are in range
 abbrev mutual

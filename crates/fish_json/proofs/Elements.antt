@@ -8,7 +8,7 @@ use Rattle.serde_json.specs.Data.{Data, no_members, number, array, object}
 use Rattle.serde_json.specs.Find.{as_i64}
 use Rattle.serde_json.specs.Read.{number_of, of_json, of_items, of_members}
 use Rattle.fish_value.specs.declared.field.Field.TheVariants as kind
-use Rattle.fish_json.specs.Tape.{Stands}
+use Rattle.fish_json.specs.within.Tape.{Stands}
 use Rattle.fish_json.specs.Reading.{if_object, int_or_other, kind_of}
 
 inner : {A : Type 0} (f : A → Data) (o : Option A) (d : Data) → option_map f o ≡ Some d

@@ -14,7 +14,7 @@ use Rattle.serde_json.specs.Read.{number_of, of_json, of_items, of_members}
 use Rattle.serde_json.proofs.Views.{get_member-put, get_member-put_other}
 use Rattle.fish_value.specs.declared.field.Field.{Field}
 use Rattle.fish_json.specs.Reading.{at_path, field_in, field_of, kind_of}
-use Rattle.fish_json.specs.Tape.{FindsData, Stands}
+use Rattle.fish_json.specs.within.Tape.{FindsData, Stands}
 
 -- the members go in after those that were found, and o is the last with the name: then r is what the data has there
 abbrev After : List ℕ → Members → Option json.Json → Option Data → Type 0

@@ -11,7 +11,7 @@ use Rattle.serde_json.specs.declared.value.Value.{Value}
 use Rattle.std.specs.Option.{option_map_or}
 use Rattle.fish_value.specs.declared.field.Field.{Field}
 use Rattle.fish_json.specs.Reading.{items_of, item_fields, kind_of}
-use Rattle.fish_json.specs.Tape.{StandItems, Stands}
+use Rattle.fish_json.specs.within.Tape.{StandItems, Stands}
 
 -- what an optional value was made of
 inner : {A B : Type 0} (f : A → B) (o : Option A) (d : B) → option_map f o ≡ Some d

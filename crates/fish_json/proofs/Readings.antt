@@ -14,7 +14,8 @@ use Rattle.serde_json.specs.Read.{max_depth, of_json, read}
 use Rattle.fish_value.specs.Json.{reading}
 use Rattle.fish_value.specs.Limits.{longest_payload}
 use Rattle.fish_json.specs.Reading.{if_object, record_of}
-use Rattle.fish_json.specs.Tape.{data_at, open_after, Stands}
+use Rattle.fish_json.specs.Tape.{data_at}
+use Rattle.fish_json.specs.within.Tape.{open_after, Stands}
 use Rattle.fish_json.proofs.Depth.{good, open_after-json, passed, has_data}
 use Rattle.fish_json.proofs.Nesting.{shallow, is_good}
 

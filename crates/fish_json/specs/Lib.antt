@@ -3,3 +3,4 @@ pub mod Lines
 pub mod Reading
 pub mod Row
 pub mod Tape
+pub mod within

@@ -1,7 +1,7 @@
 -- The records of a file in JSON Lines, by the whole list of its bytes.
 use Rattle.std.specs.Prelude.{ℕ, ◌==◌, ◌&&◌, ◌||◌, List, [], ◌∷◌, length, drop, map, filter, nat_eq, nat_le, Bool, not}
-use Rattle.std.specs.Prelude.{Option, option_map, is_none, count_by, if◌then◌else◌}
-use Rattle.std.specs.List.{filter_map, list_all, slice_split, starts_with}
+use Rattle.std.specs.Prelude.{Option, option_map, if◌then◌else◌}
+use Rattle.std.specs.List.{list_all, slice_split, starts_with}
 use Rattle.std.specs.Str.Lines.{strip_carriage_return}
 use Rattle.fish_json.specs.Reading.{record_of}
 use Rattle.fish_value.specs.Limits.{longest_payload}
@@ -41,11 +41,3 @@ outcomes_of parts = map payload_of (lines_of parts)
 -- of each line of a file its payload, or none where it is refused
 unfoldable pub outcomes : List ℕ → List (Option (List ℕ))
 outcomes b = outcomes_of (slice_split is_line_end (without_mark b))
-
--- the payloads that were accepted, in order
-abbrev pub accepted : List (Option (List ℕ)) → List (List ℕ)
-accepted os = filter_map (λ o. o) os
-
--- how many lines were refused
-abbrev pub refused : List (Option (List ℕ)) → ℕ
-refused os = count_by is_none os

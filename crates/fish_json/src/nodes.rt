@@ -3,7 +3,7 @@
 
 ghost use Rattle.std.specs.Prelude.{◌≡◌, is_some, map};
 ghost use Rattle.json.specs.Tape.{node_token};
-ghost use Rattle.fish_json.specs.Tape.{open_after, open_behind};
+ghost use Rattle.fish_json.specs.within.Tape.{open_after, open_behind};
 
 use crate::number::in_range;
 use json::Node;

@@ -7,7 +7,8 @@ ghost use Rattle.fish_value.specs.Json.{reading};
 ghost use Rattle.fish_value.specs.Limits.{longest_payload};
 ghost use Rattle.fish_json.specs.Reading.{if_object, record_of};
 ghost use Rattle.fish_json.specs.Row.{row_contents};
-ghost use Rattle.fish_json.specs.Tape.{data_at, Stands};
+ghost use Rattle.fish_json.specs.Tape.{data_at};
+ghost use Rattle.fish_json.specs.within.Tape.{Stands};
 
 use crate::nodes::fits;
 use crate::record::RecordRefusal;

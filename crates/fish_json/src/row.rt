@@ -7,7 +7,8 @@ ghost use Rattle.serde_json.specs.Find.{as_i64, get};
 ghost use Rattle.serde_json.specs.Read.{number_of};
 ghost use Rattle.fish_value.specs.Seen.{field_seen};
 ghost use Rattle.fish_json.specs.Reading.{at_path, items_in, items_of, field_in, int_or_other, item_fields, kind_of};
-ghost use Rattle.fish_json.specs.Tape.{data_at, FindsData, StandItems, Stands};
+ghost use Rattle.fish_json.specs.Tape.{data_at};
+ghost use Rattle.fish_json.specs.within.Tape.{FindsData, StandItems, Stands};
 
 use crate::number::as_int;
 use crate::record::to_fields;

@@ -51,7 +51,8 @@ use Rattle.fish_value.specs.declared.field.Form.{Form}
 use Rattle.fish_value.specs.declared.row.Row.{Row}
 use Rattle.fish_whole.proofs.Entries.{entry_here, entry_there, sure_settled, word_there}
 use Rattle.fish_whole.proofs.Wholes.{sure_rows}
-use Rattle.fish_whole.specs.Whole.{MayHold, MustHold, MustHoldUpTo, Whole}
+use Rattle.fish_whole.specs.Whole.{MayHold, MustHold, Whole}
+use Rattle.fish_whole.specs.within.Whole.{MustHoldUpTo}
 
 -- ---- lists
 

@@ -51,7 +51,8 @@ use Rattle.fish_rule.specs.declared.view.Own.{Own}
 use Rattle.fish_rule.specs.declared.view.View.{View}
 use Rattle.fish_whole.proofs.Entries.{sure_settled, up_to_will}
 use Rattle.fish_whole.proofs.Wholes.{may_hold, up_to_later}
-use Rattle.fish_whole.specs.Whole.{Later, MustHoldUpTo, Whole, WillHold}
+use Rattle.fish_whole.specs.Whole.{Later, Whole, WillHold}
+use Rattle.fish_whole.specs.within.Whole.{MustHoldUpTo}
 
 module _ {Past : Whole → Type 0} {log : Log} {v w : View} {r q : Registrar} {first first' : Lane} {before done : List Lane}
     (run : AllRan Past log v w r q first first' before done) where

@@ -41,7 +41,8 @@ use Rattle.fish_rule.specs.declared.view.View.{View}
 use Rattle.fish_scan.specs.declared.ask.Ask.{Ask}
 use Rattle.fish_value.specs.declared.field.Form.{Form}
 use Rattle.fish_whole.proofs.Wholes.{sure_rows}
-use Rattle.fish_whole.specs.Whole.{MustHold, MustHoldUpTo, Whole}
+use Rattle.fish_whole.specs.Whole.{MustHold, Whole}
+use Rattle.fish_whole.specs.within.Whole.{MustHoldUpTo}
 
 -- none
 pub told_self : (Past : Whole → Type 0) (v : View) → v.epoch ≡ Out → v.flight ≡ None → HasAnswered Past v v [] []

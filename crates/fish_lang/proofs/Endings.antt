@@ -8,7 +8,7 @@ use Rattle.fish_lang.specs.Grammar.{Terminal, terminal, keyword, terminals, path
 use Rattle.fish_lang.specs.Derivation.{Step, ident, Path, one_step, more_steps, truth, Cond, one_conj, more_conjs}
 use Rattle.fish_lang.specs.Derivation.{one_neg, Neg, compare, exist, start, test, Derivation, take_def, each_def, bucket_def}
 use Rattle.fish_lang.specs.Derivation.{flag_def, meaning, cond_formula}
-use Rattle.fish_lang.specs.Moves.{finish, definition_with}
+use Rattle.fish_lang.specs.within.Moves.{finish, definition_with}
 use Rattle.fish_lang.specs.declared.token.Keyword.TheVariants as word
 use Rattle.fish_lang.specs.declared.token.Token.TheVariants as kind
 use Rattle.fish_lang.specs.Language.{AreTokens}

@@ -10,10 +10,10 @@ use Rattle.fish_lang.specs.Derivation.{Test, compare, exist, start, Cond, one_co
 use Rattle.fish_lang.specs.Derivation.{more_negs, Neg, not_neg, group, test, Derivation, take_def, each_def, bucket_def, flag_def}
 use Rattle.fish_lang.specs.Derivation.{path_steps, step_name, literal_value, test_formula, cond_formula, conj_formula}
 use Rattle.fish_lang.specs.Derivation.{neg_formula, meaning}
-use Rattle.fish_lang.specs.Machine as machine
-use Rattle.fish_lang.specs.Machine.{State, Head, Owner, Whole, Joint, Operand, complete, at_front, nesting}
-use Rattle.fish_lang.specs.Machine.{joint_nesting, whole_nesting, or_with, whole_of}
-use Rattle.fish_lang.specs.Moves.{advance, fault_at, finish, definition_with}
+use Rattle.fish_lang.specs.within.Machine as machine
+use Rattle.fish_lang.specs.within.Machine.{State, Head, Owner, Whole, Joint, Operand, complete, at_front, nesting}
+use Rattle.fish_lang.specs.within.Machine.{joint_nesting, whole_nesting, or_with, whole_of}
+use Rattle.fish_lang.specs.within.Moves.{advance, fault_at, finish, definition_with}
 use Rattle.fish_lang.specs.declared.definition.Op.{Op}
 use Rattle.fish_lang.specs.declared.token.Keyword.TheVariants as word
 use Rattle.fish_lang.specs.declared.token.Token.TheVariants as kind

@@ -5,8 +5,9 @@ use Rattle.std.proofs.lemmas.Bool.Decides.{nat_tests}
 use Rattle.fish_lang.specs.Canonical.{definition_text}
 use Rattle.fish_lang.specs.Definition.{Definition, definition_of}
 use Rattle.fish_lang.specs.Language.{IsVerdict, IsAnswer, IsOutcome, UnlessMemory}
-use Rattle.fish_lang.specs.Machine.{start}
-use Rattle.fish_lang.specs.Outcome.{Gives, run, and_then, unless_long, outcome}
+use Rattle.fish_lang.specs.within.Machine.{start}
+use Rattle.fish_lang.specs.Outcome.{Gives}
+use Rattle.fish_lang.specs.within.Outcome.{run, and_then, unless_long, outcome}
 use Rattle.fish_lang.specs.Token.{tokens}
 use Rattle.fish_lang.specs.declared.definition.Def.{Def}
 use Rattle.fish_lang.specs.declared.parse.LangRefusal.{LangRefusal}

@@ -7,10 +7,10 @@ use Rattle.fish_lang.specs.Grammar.{Terminal, step_token, literal_terminal}
 use Rattle.fish_lang.specs.Derivation.{Step, ident, string, Path, one_step, more_steps, Literal, truth, number, text}
 use Rattle.fish_lang.specs.Derivation.{compare, exist, start, Conj, group, test, path_steps, step_name, literal_value}
 use Rattle.fish_lang.specs.Derivation.{conj_formula, one_conj, more_conjs}
-use Rattle.fish_lang.specs.Machine as machine
-use Rattle.fish_lang.specs.Moves as moves
-use Rattle.fish_lang.specs.Machine.{State, complete, nesting}
-use Rattle.fish_lang.specs.Moves.{advance, fault_at, finish, name_of, text_of, value_of, number_of}
+use Rattle.fish_lang.specs.within.Machine as machine
+use Rattle.fish_lang.specs.within.Moves as moves
+use Rattle.fish_lang.specs.within.Machine.{State, complete, nesting}
+use Rattle.fish_lang.specs.within.Moves.{advance, fault_at, finish, name_of, text_of, value_of, number_of}
 use Rattle.fish_lang.specs.declared.definition.Op.{Op}
 use Rattle.fish_lang.specs.declared.token.Token.{Token}
 use Rattle.fish_lang.specs.declared.token.Token.TheVariants.{Keyword, Ident, Str, Number, Compare, Open, Close, Dot}

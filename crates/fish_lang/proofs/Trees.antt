@@ -7,8 +7,8 @@ use Rattle.fish_lang.specs.Grammar.{cond_terminals, conj_terminals, neg_terminal
 use Rattle.fish_lang.specs.Derivation.{Path, Cond, one_conj, more_conjs, Conj, one_neg, more_negs, Neg, not_neg, group}
 use Rattle.fish_lang.specs.Derivation.{Derivation, take_def, each_def, bucket_def, flag_def, path_steps, cond_formula}
 use Rattle.fish_lang.specs.Derivation.{conj_formula, neg_formula}
-use Rattle.fish_lang.specs.Machine as machine
-use Rattle.fish_lang.specs.Machine.{State, complete, nesting, joint_nesting, whole_nesting}
+use Rattle.fish_lang.specs.within.Machine as machine
+use Rattle.fish_lang.specs.within.Machine.{State, complete, nesting, joint_nesting, whole_nesting}
 use Rattle.fish_lang.specs.declared.definition.Op.{Op}
 use Rattle.fish_lang.specs.declared.token.Keyword.TheVariants as word
 use Rattle.fish_lang.specs.declared.token.Token.TheVariants as kind

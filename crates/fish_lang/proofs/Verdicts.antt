@@ -5,10 +5,10 @@ use Rattle.fish_lang.specs.Definition.{Definition}
 use Rattle.fish_lang.specs.Grammar.{Terminal, terminal, terminals, spelled}
 use Rattle.fish_lang.specs.Derivation.{Derivation}
 use Rattle.fish_lang.specs.Language.{kinds, unrefused, IsRead, BeginsWell, BeginsNone, Faulty, IsVerdict}
-use Rattle.fish_lang.specs.Machine as machine
-use Rattle.fish_lang.specs.Machine.{State}
-use Rattle.fish_lang.specs.Moves.{advance, fault_at, finish}
-use Rattle.fish_lang.specs.Outcome.{run, and_then, end_of, unless_unexpected, refusal_of}
+use Rattle.fish_lang.specs.within.Machine as machine
+use Rattle.fish_lang.specs.within.Machine.{State}
+use Rattle.fish_lang.specs.within.Moves.{advance, fault_at, finish}
+use Rattle.fish_lang.specs.within.Outcome.{run, and_then, end_of, unless_unexpected, refusal_of}
 use Rattle.fish_lang.specs.declared.parse.LangRefusal.{LangRefusal}
 use Rattle.fish_lang.specs.declared.parse.LangRefusal.TheVariants as refusal
 use Rattle.fish_lang.specs.declared.fault.Fault.{Fault}

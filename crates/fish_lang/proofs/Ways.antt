@@ -3,8 +3,8 @@ use Rattle.std.proofs.Common.{◌≡◌, List, [], ◌∷◌, ◌++◌, refl, sy
 use Rattle.std.specs.Prelude.{Some, None}
 use Rattle.fish_lang.specs.Grammar.{Terminal, terminal, spelled}
 use Rattle.fish_lang.specs.Language.{kinds, unrefused}
-use Rattle.fish_lang.specs.Machine.{State}
-use Rattle.fish_lang.specs.Moves.{advance, fault_at}
+use Rattle.fish_lang.specs.within.Machine.{State}
+use Rattle.fish_lang.specs.within.Moves.{advance, fault_at}
 use Rattle.fish_lang.specs.declared.token.Token.{Token}
 use Rattle.fish_lang.specs.declared.token.Placed.{Placed}
 use Rattle.fish_lang.proofs.Follows.{Follows}

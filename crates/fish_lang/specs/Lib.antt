@@ -4,10 +4,8 @@ pub mod Derivation
 pub mod Grammar
 pub mod Language
 pub mod Limits
-pub mod Machine
-pub mod Moves
 pub mod Outcome
 pub mod Pieces
 pub mod RefusalText
 pub mod Token
-pub mod Views
+pub mod within

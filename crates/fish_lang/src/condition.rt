@@ -2,9 +2,9 @@
 
 ghost use Rattle.std.specs.Prelude.{◌≡◌, ◌∷◌, [], Option, Some, option_map, IfOk};
 ghost use Rattle.fish_lang.specs.Definition.{formula_of, both, compares, begins};
-ghost use Rattle.fish_lang.specs.Machine as machine;
-ghost use Rattle.fish_lang.specs.Moves as moves;
-ghost use Rattle.fish_lang.specs.Views.{whole_view, joint_view, operand_view, head_view, state_view};
+ghost use Rattle.fish_lang.specs.within.Machine as machine;
+ghost use Rattle.fish_lang.specs.within.Moves as moves;
+ghost use Rattle.fish_lang.specs.within.Views.{whole_view, joint_view, operand_view, head_view, state_view};
 
 use crate::definition::{Cond, Op};
 use crate::position::{Joint, Operand, Whole};

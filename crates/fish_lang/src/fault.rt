@@ -1,8 +1,8 @@
 //! Tokens that fit in their position and are refused there.
 
 ghost use Rattle.std.specs.Prelude.{◌≡◌};
-ghost use Rattle.fish_lang.specs.Moves.{fault_at, nests, number_of, width_of};
-ghost use Rattle.fish_lang.specs.Views.{state_view};
+ghost use Rattle.fish_lang.specs.within.Moves.{fault_at, nests, number_of, width_of};
+ghost use Rattle.fish_lang.specs.within.Views.{state_view};
 
 use crate::position::nests_less;
 use crate::state::State;

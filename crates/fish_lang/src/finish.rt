@@ -2,9 +2,9 @@
 
 ghost use Rattle.std.specs.Prelude.{◌≡◌, option_map, IfOk};
 ghost use Rattle.fish_lang.specs.Definition.{formula_of, definition_of};
-ghost use Rattle.fish_lang.specs.Machine as machine;
-ghost use Rattle.fish_lang.specs.Moves as moves;
-ghost use Rattle.fish_lang.specs.Views.{whole_view, joint_view, head_view, owner_view, state_view};
+ghost use Rattle.fish_lang.specs.within.Machine as machine;
+ghost use Rattle.fish_lang.specs.within.Moves as moves;
+ghost use Rattle.fish_lang.specs.within.Views.{whole_view, joint_view, head_view, owner_view, state_view};
 
 use crate::condition::or_with;
 use crate::definition::{Cond, Def};

@@ -2,10 +2,11 @@
 
 ghost use Rattle.std.specs.Prelude.{◌≡◌, Result, Ok, Err, IfOk};
 ghost use Rattle.fish_lang.specs.Definition.{Definition, definition_of};
-ghost use Rattle.fish_lang.specs.Machine.{start};
+ghost use Rattle.fish_lang.specs.within.Machine.{start};
 ghost use Rattle.fish_lang.specs.Token.{tokens};
-ghost use Rattle.fish_lang.specs.Views.{state_view};
-ghost use Rattle.fish_lang.specs.Outcome.{Gives, run, turn, unless_fault, unless_long, outcome};
+ghost use Rattle.fish_lang.specs.within.Views.{state_view};
+ghost use Rattle.fish_lang.specs.Outcome.{Gives};
+ghost use Rattle.fish_lang.specs.within.Outcome.{run, turn, unless_fault, unless_long, outcome};
 ghost use Rattle.fish_lang.specs.Language.{IsOutcome, UnlessMemory};
 ghost use Rattle.fish_lang.specs.declared.parse.LangRefusal.{LangRefusal};
 

@@ -1,8 +1,8 @@
 //! Positions in a condition: what stands before a position, as far as it is not closed.
 
 ghost use Rattle.std.specs.Prelude.{◌≡◌, nat_lt};
-ghost use Rattle.fish_lang.specs.Machine.{nesting, joint_nesting, whole_nesting};
-ghost use Rattle.fish_lang.specs.Views.{operand_view, joint_view, whole_view};
+ghost use Rattle.fish_lang.specs.within.Machine.{nesting, joint_nesting, whole_nesting};
+ghost use Rattle.fish_lang.specs.within.Views.{operand_view, joint_view, whole_view};
 
 use crate::definition::Cond;
 

@@ -1,9 +1,9 @@
 //! What the parser knows between two tokens, and where a token leads.
 
 ghost use Rattle.std.specs.Prelude.{◌≡◌, ◌++◌, ◌∷◌, [], Option, option_map, IfOk};
-ghost use Rattle.fish_lang.specs.Machine as machine;
-ghost use Rattle.fish_lang.specs.Moves as moves;
-ghost use Rattle.fish_lang.specs.Views.{head_view, owner_view, steps_so_far, state_view};
+ghost use Rattle.fish_lang.specs.within.Machine as machine;
+ghost use Rattle.fish_lang.specs.within.Moves as moves;
+ghost use Rattle.fish_lang.specs.within.Views.{head_view, owner_view, steps_so_far, state_view};
 
 use crate::condition::{behind_test, from_joint, from_literal, from_operand, from_prefix};
 use crate::definition::{Cond, Op};

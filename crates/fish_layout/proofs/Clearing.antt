@@ -1,7 +1,8 @@
 -- Words that are put to 0, and words that stay: what clearing a region rests on.
 use Rattle.std.proofs.Common.{◌≡◌, ℕ, ◌-◌, ◌*◌, ◌%◌, ◌<◌, ◌≤◌, refl, ◌∙◌, arith}
 use Rattle.std.proofs.Math.Decide.{ℕ_discrete, dec_le}
-use Rattle.fish_layout.specs.Cleared.{Agrees, IsKeyWord, choose, cleared}
+use Rattle.fish_layout.specs.Cleared.{IsKeyWord, choose, cleared}
+use Rattle.fish_layout.specs.within.Cleared.{Agrees}
 use Rattle.fish_layout.specs.Header.{keys_of, lines_of}
 
 -- choices by one test are equal where they are equal on each side that it can take

@@ -4,7 +4,8 @@ use Rattle.std.proofs.lemmas.Nat.{shr_high, mod_low}
 use Rattle.fish_value.specs.declared.field.Form.{Form}
 use Rattle.fish_value.specs.declared.field.Form.TheVariants.{Json, Csv}
 use Rattle.fish_layout.specs.Header.{field, form_code, form_of, header_word, keys_of}
-use Rattle.fish_layout.specs.Header.{lane_of, length_of, lines_of, version_of}
+use Rattle.fish_layout.specs.Header.{lane_of, length_of, lines_of}
+use Rattle.fish_layout.specs.within.Header.{version_of}
 
 -- the fields of a header are within their bits
 pub record FitHeader (lines form keys lane version length : ℕ) : Type 0 where

@@ -2,7 +2,8 @@
 use Rattle.std.proofs.Common.{◌≡◌, ℕ, ◌^◌, ◌<◌, ◌≤◌, Option, Some, None, MatchOption, refl, sym, ap, ◌∙◌, subst, arith}
 use Rattle.fish_value.specs.declared.field.Form.{Form}
 use Rattle.fish_value.specs.declared.field.Form.TheVariants.{Json, Csv}
-use Rattle.fish_layout.specs.Header.{form_code, form_of, keys_of, lane_of, length_of, lines_of, version_of, void_word}
+use Rattle.fish_layout.specs.Header.{form_code, form_of, keys_of, lane_of, length_of, lines_of, void_word}
+use Rattle.fish_layout.specs.within.Header.{version_of}
 use Rattle.fish_layout.specs.Headers.{IsHeader, IsHeaderOf, IsRecordHeader, IsVoidHeader}
 use Rattle.fish_layout.specs.declared.header.Header.{Header}
 use Rattle.fish_layout.proofs.Fields.{FitHeader, form_code_fits, form_of-header, keys_of-header}

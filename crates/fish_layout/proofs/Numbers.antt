@@ -5,8 +5,8 @@ use Rattle.std.proofs.lemmas.List.{ext_get_or}
 use Rattle.std.proofs.Math.Decide.{ℕ_discrete, dec_le}
 use Rattle.fish_layout.specs.Body.{IsBody, IsProper, body_header, body_words, key_words, values_of, words_behind}
 use Rattle.fish_layout.specs.Bytes.{words_of_bytes}
-use Rattle.fish_layout.specs.Cleared.{IsNumberWord}
-use Rattle.fish_layout.specs.Entry.{renumbered}
+use Rattle.fish_layout.specs.within.Cleared.{IsNumberWord}
+use Rattle.fish_layout.specs.within.Entry.{renumbered}
 use Rattle.fish_layout.specs.Header.{form_code, header_word}
 use Rattle.fish_layout.specs.Values.{value_bytes}
 use Rattle.fish_layout.specs.declared.parts.BodyParts.{BodyParts}

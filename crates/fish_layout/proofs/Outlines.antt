@@ -8,7 +8,7 @@ use Rattle.fish_layout.specs.Body.{IsBody, body_header, body_lines, body_words, 
 use Rattle.fish_layout.specs.Bytes.{bytes_in, words_for, words_of_bytes}
 use Rattle.fish_layout.specs.Cleared.{entry_at}
 use Rattle.fish_layout.specs.Entry.{value_offset, value_size}
-use Rattle.fish_layout.specs.Outline.{IsOutline}
+use Rattle.fish_layout.specs.within.Outline.{IsOutline}
 use Rattle.fish_layout.specs.Values.{value_bytes}
 use Rattle.fish_layout.specs.declared.outline.Outline.{Outline}
 use Rattle.fish_layout.specs.declared.parts.BodyParts.{BodyParts}

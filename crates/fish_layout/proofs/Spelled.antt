@@ -5,7 +5,8 @@ use Rattle.std.proofs.lemmas.List.{ext_get_or, get_or_past}
 use Rattle.std.proofs.Math.Decide.{ℕ_discrete, dec_le}
 use Rattle.fish_layout.specs.Body.{IsBody, IsProper, body_header, body_lines, body_words}
 use Rattle.fish_layout.specs.Cleared.{IsKeyWord, Spells, body_of, cleared, unlinked}
-use Rattle.fish_layout.specs.Header.{form_code, form_of, keys_of, lane_of, length_of, lines_of, version_of}
+use Rattle.fish_layout.specs.Header.{form_code, form_of, keys_of, lane_of, length_of, lines_of}
+use Rattle.fish_layout.specs.within.Header.{version_of}
 use Rattle.fish_layout.specs.declared.parts.BodyParts.{BodyParts}
 use Rattle.fish_layout.proofs.Fields.{FitHeader, form_code_fits, form_of-header, keys_of-header}
 use Rattle.fish_layout.proofs.Fields.{lane_of-header, length_of-header, lines_of-header, version_of-header}

@@ -19,10 +19,6 @@ entry_at c = 1 + 3 * c
 abbrev pub IsKeyWord : ℕ → ℕ → Type 0
 IsKeyWord n i = (i ≤ 3 * n) × (i % 3 ≡ 1)
 
--- of a record with n key entries, word i is the second of one
-abbrev pub IsNumberWord : ℕ → ℕ → Type 0
-IsNumberWord n i = (i ≤ 3 * n) × (i % 3 ≡ 2)
-
 -- the words of a region with the first words of its key entries put to 0, and 0 after its lines
 unfoldable pub cleared : (ℕ → ℕ) → ℕ → ℕ
 cleared f i =
@@ -32,10 +28,6 @@ cleared f i =
 -- the same of a list of words
 abbrev pub body_of : List ℕ → ℕ → ℕ
 body_of words = cleared (slice_index words)
-
--- two regions have the same words within the lines of the first, but for the first words of its key entries
-abbrev pub Agrees : (ℕ → ℕ) → (ℕ → ℕ) → Type 0
-Agrees f g = (i : ℕ) → i ≤ lines_of (f 0) * 4 - 1 → ¬ IsKeyWord (keys_of (f 0)) i → g i ≡ f i
 
 -- no entry has a previous node
 abbrev pub AreUnlinked : List KeyPart → Type 0

@@ -1,5 +1,5 @@
 -- The second and third words of a key entry: where each of their fields lies.
-use Rattle.std.specs.Prelude.{ℕ, ◌+◌, ◌*◌, ◌/◌, ◌^◌}
+use Rattle.std.specs.Prelude.{ℕ}
 use Rattle.fish_layout.specs.Header.{field}
 
 -- the record's number: bits 0 to 27 of the second word
@@ -25,7 +25,3 @@ value_size w = field w 2 9
 -- the offset of the value's bytes: bits 11 to 28 of the third word
 unfoldable pub value_offset : ℕ → ℕ
 value_offset w = field w 11 18
-
--- the second word of a key entry with another number
-abbrev pub renumbered : ℕ → ℕ → ℕ
-renumbered w number = w / 2 ^ 28 * 2 ^ 28 + number

@@ -23,10 +23,6 @@ keys_of w = field w 18 9
 unfoldable pub lane_of : ℕ → ℕ
 lane_of w = field w 27 5
 
--- the version: bits 32 to 41
-unfoldable pub version_of : ℕ → ℕ
-version_of w = field w 32 10
-
 -- the bytes of the payload: bits 42 to 61
 unfoldable pub length_of : ℕ → ℕ
 length_of w = field w 42 20

@@ -7,7 +7,7 @@ pub mod Hash
 pub mod Header
 pub mod Headers
 pub mod Operation
-pub mod Outline
 pub mod Pages
 pub mod Payloads
 pub mod Values
+pub mod within

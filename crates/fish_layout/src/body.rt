@@ -2,8 +2,8 @@
 
 ghost use Rattle.std.specs.Prelude.{◌≡◌, ◌+◌, ◌*◌, ◌<◌, ◌^◌, ℕ, length, slice_index};
 ghost use Rattle.fish_layout.specs.Body.{IsBody};
-ghost use Rattle.fish_layout.specs.Cleared.{IsNumberWord};
-ghost use Rattle.fish_layout.specs.Entry.{renumbered};
+ghost use Rattle.fish_layout.specs.within.Cleared.{IsNumberWord};
+ghost use Rattle.fish_layout.specs.within.Entry.{renumbered};
 ghost use Rattle.fish_layout.specs.declared.parts.BodyParts.{BodyParts};
 
 use crate::word::{keys_in, renumber};

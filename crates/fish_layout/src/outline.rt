@@ -5,7 +5,7 @@ ghost use Rattle.fish_layout.specs.Body.{IsBody, values_of};
 ghost use Rattle.fish_layout.specs.Bytes.{words_for as words_for_bytes};
 ghost use Rattle.fish_layout.specs.Header.{form_code};
 ghost use Rattle.fish_value.specs.declared.field.Form.{Form};
-ghost use Rattle.fish_layout.specs.Outline.{HasRoom, IsOutline};
+ghost use Rattle.fish_layout.specs.within.Outline.{HasRoom, IsOutline};
 ghost use Rattle.fish_layout.specs.declared.parts.BodyParts.{BodyParts};
 
 use crate::word::{form_in, keys_in, lane_in, length_in, offset_in, size_in, version_in};

@@ -5,9 +5,11 @@
 
 ghost use Rattle.std.specs.Prelude.{◌≡◌, ◌<◌, ◌≤◌, ◌^◌};
 ghost use Rattle.fish_layout.specs.Body.{entry_word, packed_value};
-ghost use Rattle.fish_layout.specs.Entry.{entry_id, entry_number, entry_place, renumbered, value_kind, value_offset, value_size};
+ghost use Rattle.fish_layout.specs.Entry.{entry_id, entry_number, entry_place, value_kind, value_offset, value_size};
+ghost use Rattle.fish_layout.specs.within.Entry.{renumbered};
 ghost use Rattle.fish_layout.specs.Header.{form_code, form_of, header_word, keys_of, lane_of, length_of, lines_of};
-ghost use Rattle.fish_layout.specs.Header.{version_of, void_word};
+ghost use Rattle.fish_layout.specs.Header.{void_word};
+ghost use Rattle.fish_layout.specs.within.Header.{version_of};
 
 use crate::header::Header;
 use fish_value::Form;

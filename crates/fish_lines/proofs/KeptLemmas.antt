@@ -11,7 +11,8 @@ use Rattle.std.proofs.Math.Seq.{take-append-add}
 use Rattle.fish_json.specs.Lines.{is_blank, is_line_end}
 use Rattle.fish_value.specs.Limits.{longest_payload}
 use Rattle.fish_lines.specs.Lines.{given, given_of}
-use Rattle.fish_lines.specs.Open.{IsOpen, cr_if, ends_in_cr, line_in}
+use Rattle.fish_lines.specs.Open.{IsOpen, ends_in_cr, line_in}
+use Rattle.fish_lines.specs.within.Open.{cr_if}
 use Rattle.fish_lines.specs.declared.open_line.OpenLine.{OpenLine}
 use Rattle.fish_lines.specs.Open.{longest_kept}
 use Rattle.fish_lines.specs.declared.splitter.Line.TheVariants.{TooLong}

@@ -5,7 +5,7 @@ use Rattle.std.specs.List.{slice_split, onto_first}
 use Rattle.std.specs.Str.Lines.{strip_carriage_return}
 use Rattle.memchr.specs.Find.{Passes, is_byte}
 use Rattle.fish_json.specs.Lines.{is_blank, is_line_end, lines_of}
-use Rattle.fish_lines.specs.Lines.{with_line}
+use Rattle.fish_lines.specs.within.Lines.{with_line}
 
 -- a test that isn't true is false
 failed : (b : Bool) → ¬ (b ≡ true) → b ≡ false

@@ -5,3 +5,4 @@ pub mod Open
 pub mod Resuming
 pub mod Split
 pub mod Texts
+pub mod within

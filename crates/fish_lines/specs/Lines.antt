@@ -1,7 +1,7 @@
 -- The lines of a file in JSON Lines, as they are given out, by the whole list of the file's bytes.
 use Rattle.std.specs.Prelude.{ℕ, List, [], ◌∷◌, length, map, nat_le, if◌then◌else◌}
 use Rattle.std.specs.List.{slice_split}
-use Rattle.fish_json.specs.Lines.{is_blank, is_line_end, lines_of, without_mark}
+use Rattle.fish_json.specs.Lines.{is_line_end, lines_of, without_mark}
 use Rattle.fish_value.specs.Limits.{longest_payload}
 use Rattle.fish_lines.specs.declared.splitter.Line.{Line}
 use Rattle.fish_lines.specs.declared.splitter.Line.TheVariants.{Whole, TooLong}
@@ -25,10 +25,6 @@ last_part (part ∷ next ∷ parts) = last_part (next ∷ parts)
 -- the lines of a file: each without one CR at its end, and the blank ones count nowhere
 abbrev pub file_lines : List ℕ → List (List ℕ)
 file_lines b = lines_of (parts_of b)
-
--- lines with one more in front, unless it is blank
-abbrev pub with_line : List ℕ → List (List ℕ) → List (List ℕ)
-with_line line more = if is_blank line then more else line ∷ more
 
 -- a line as it is given: its bytes, or that it has more than 524,288
 abbrev pub given : List ℕ → Line

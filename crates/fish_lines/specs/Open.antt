@@ -15,10 +15,6 @@ longest_kept = 524289
 abbrev pub ends_in_cr : List ℕ → Bool
 ends_in_cr b = slice_index b (length b - 1) == 13
 
--- a CR or nothing
-abbrev pub cr_if : Bool → List ℕ
-cr_if cr = if cr then 13 ∷ [] else []
-
 -- an open line holds what counts of these bytes, among which is no LF
 pub record IsOpen (o : OpenLine) (t : List ℕ) : Type 0 where
   pub no_end : slice_split is_line_end t ≡ t ∷ []

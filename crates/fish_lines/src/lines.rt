@@ -3,7 +3,7 @@
 ghost use Rattle.std.specs.Prelude.{◌≡◌, ◌<◌, ◌≤◌, ◌∷◌, [], length, IfSome, MatchOption};
 ghost use Rattle.std.specs.List.{slice_split};
 ghost use Rattle.fish_json.specs.Lines.{is_line_end, lines_of};
-ghost use Rattle.fish_lines.specs.Lines.{with_line};
+ghost use Rattle.fish_lines.specs.within.Lines.{with_line};
 
 use crate::line::{cut, is_blank, without_carriage_return, without_mark};
 

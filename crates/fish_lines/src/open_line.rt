@@ -7,7 +7,8 @@ ghost use Rattle.std.specs.Prelude.{◌≡◌, ◌≤◌, ◌++◌, ◌∷◌, �
 ghost use Rattle.std.specs.List.{slice_split};
 ghost use Rattle.fish_json.specs.Lines.{is_line_end};
 ghost use Rattle.fish_lines.specs.Lines.{given_of};
-ghost use Rattle.fish_lines.specs.Open.{IsOpen, cr_if, ends_in_cr, line_in, longest_kept};
+ghost use Rattle.fish_lines.specs.Open.{IsOpen, ends_in_cr, line_in, longest_kept};
+ghost use Rattle.fish_lines.specs.within.Open.{cr_if};
 
 use crate::line::{is_blank, without_carriage_return};
 use crate::splitter::Line;

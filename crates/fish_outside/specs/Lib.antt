@@ -1,8 +1,6 @@
 pub mod Causes
 pub mod Content
 pub mod Memory
-pub mod MemoryFeed
 pub mod Reading
-pub mod Room
 pub mod SureSink
 pub mod within

@@ -1,1 +1,3 @@
+pub mod MemoryFeed
 pub mod Reading
+pub mod Room

@@ -105,7 +105,7 @@ impl MemoryHost {
 }
 
 impl Host for MemoryHost {
-    ghost use Rattle.fish_outside.specs.MemoryFeed.{feed_of, is_refused};
+    ghost use Rattle.fish_outside.specs.within.MemoryFeed.{feed_of, is_refused};
 
     type Feed = MemorySource;
 

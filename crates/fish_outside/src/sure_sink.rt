@@ -3,7 +3,7 @@
 ghost use Rattle.std.specs.Prelude.{◌≡◌, ◌≤◌, ◌++◌, [], Some, length, take, vec_capacity, option_map, IfOk, IfSome};
 ghost use Rattle.fish_outside.specs.Causes.{HasCause};
 ghost use Rattle.fish_outside.specs.Content.{Writes};
-ghost use Rattle.fish_outside.specs.Room.{content_within};
+ghost use Rattle.fish_outside.specs.within.Room.{content_within};
 
 use crate::fault::Failed;
 use crate::sink::Sink;

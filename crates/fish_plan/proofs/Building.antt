@@ -7,7 +7,7 @@ use Rattle.fish_catalog.specs.declared.interval.Interval.{Interval}
 use Rattle.fish_plan.proofs.Lists.{longer, push_cases}
 use Rattle.fish_plan.specs.Cover.{IsRight, cut}
 use Rattle.fish_plan.specs.Intervals.{IsHeld}
-use Rattle.fish_plan.specs.Next.{IsMet, IsNext}
+use Rattle.fish_plan.specs.within.Next.{IsMet, IsNext}
 use Rattle.fish_plan.specs.Pieces.{Fill, piece_from, piece_to}
 use Rattle.fish_plan.specs.declared.pieces.Piece.{Piece}
 use Rattle.fish_plan.specs.declared.pieces.Piece.TheVariants.{Index, Full}

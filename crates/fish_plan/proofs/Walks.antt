@@ -7,7 +7,7 @@ use Rattle.fish_plan.proofs.Lists.{last, longer, push_cases}
 use Rattle.fish_plan.specs.Intervals.{Holds, IsBelowEnd, IsHeld}
 use Rattle.std.proofs.lemmas.List.{take_more}
 use Rattle.std.proofs.lemmas.Option.{slice_get-get_or}
-use Rattle.fish_plan.specs.Next.{IsLowEnd, KeepsLowEnd}
+use Rattle.fish_plan.specs.within.Next.{IsLowEnd, KeepsLowEnd}
 
 -- a number that is held stays so
 pub held_longer : (xs : List Interval) (x : Interval) (n : ℕ) → IsHeld xs n → IsHeld (xs ++ x ∷ []) n

@@ -2,7 +2,7 @@
 
 ghost use Rattle.std.specs.Prelude.{◌≡◌, ◌≤◌, ◌<◌, IfOk};
 ghost use Rattle.fish_plan.specs.Cover.{IsCover};
-ghost use Rattle.fish_plan.specs.Next.{IsNext};
+ghost use Rattle.fish_plan.specs.within.Next.{IsNext};
 ghost use Rattle.fish_plan.specs.Pieces.{one_full};
 
 use crate::lookup::{low_end, oldest};

@@ -2,7 +2,7 @@
 
 ghost use Rattle.std.specs.Prelude.{◌≡◌, ◌↔◌, ◌-◌, ◌<◌, IsTrue};
 ghost use Rattle.fish_plan.specs.Intervals.{Holds, IsAhead, IsHeld};
-ghost use Rattle.fish_plan.specs.Next.{IsLowEnd, IsOldestOf, KeepsLowEnd, KeepsOldest};
+ghost use Rattle.fish_plan.specs.within.Next.{IsLowEnd, IsOldestOf, KeepsLowEnd, KeepsOldest};
 
 use fish_catalog::Interval;
 

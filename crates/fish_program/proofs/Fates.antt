@@ -13,7 +13,8 @@ use Rattle.fish_run.specs.declared.fault.RunFault.{RunFault}
 use Rattle.fish_run.specs.declared.fault.RunFault.TheVariants as ran
 use Rattle.fish_run.specs.declared.running.Ran.{Ran}
 use Rattle.fish_script.specs.declared.script.Block.{Block}
-use Rattle.fish_program.specs.Faults.{open_fault, ran_fault}
+use Rattle.fish_program.specs.Faults.{open_fault}
+use Rattle.fish_program.specs.within.Faults.{ran_fault}
 use Rattle.fish_program.specs.Outcome.{DidNothing, EndsScript}
 use Rattle.fish_program.specs.Runs.{HasScript, IsLeft, IsStoppedRun}
 use Rattle.fish_program.specs.Stores.{IsUnopened, Opens}

@@ -1,7 +1,7 @@
 -- What `select` answers, from the whole list of a file's bytes.
 use Rattle.std.specs.Prelude.{◌≡◌, ◌<◌, ◌⊎◌, ℕ, List, [], ◌∷◌, length, Bool, Some}
 use Rattle.fish_feed.specs.Parts.{IsTooLong}
-use Rattle.fish_lang.specs.Definition.{Definition, definition_of}
+use Rattle.fish_lang.specs.Definition.{Definition}
 use Rattle.fish_lines.specs.File.{accepted, outcomes}
 use Rattle.fish_outside.specs.Content.{Files}
 use Rattle.fish_report.specs.declared.item.Item.{Item}
@@ -9,7 +9,6 @@ use Rattle.fish_report.specs.declared.item.Item.TheVariants as item
 use Rattle.fish_select.specs.Selection.{most_records, selection_of}
 use Rattle.fish_value.specs.declared.field.Form.{Form}
 use Rattle.fish_value.specs.declared.value.Value.{Value}
-use Rattle.fish_command.specs.declared.command.Select.{Select}
 
 -- the file is too long to be read, or has more records than there are numbers
 abbrev pub PassesLimits : Form → Bool → List ℕ → Type 0
@@ -20,10 +19,6 @@ abbrev pub Answers : Definition → Value → Form → Bool → List ℕ → Lis
 Answers def v form header file b x =
     (x ≡ selection_of def v form (outcomes form header b))
     ⊎ ((x ≡ item.SelectTooLong file) × PassesLimits form header b)
-
--- it answers a command that was read
-abbrev pub AnswersTo : Select → List ℕ → Item → Type 0
-AnswersTo s = Answers (definition_of s.def) s.value s.form s.header s.file
 
 -- the one item answers for the bytes of the file with this name
 abbrev pub IsAnswer : (List ℕ → Item → Type 0) → List ℕ → Files → List Item → Type 0

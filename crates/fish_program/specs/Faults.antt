@@ -1,6 +1,5 @@
 -- Which fault each refusal of a step is, the line that tells of it, and where a step may end by it.
-use Rattle.std.specs.Prelude.{ℕ, List, ◌++◌, codes, Option, Some, None, ⊤}
-use Rattle.fish_outside.specs.Causes.{Rose}
+use Rattle.std.specs.Prelude.{ℕ, List, ◌++◌, codes, Option, Some, None}
 use Rattle.fish_outside.specs.declared.fault.FeedRefusal.{FeedRefusal}
 use Rattle.fish_outside.specs.declared.fault.FeedRefusal.TheVariants as feed
 use Rattle.fish_recover.specs.RefusalText.{open_refusal_text}
@@ -79,21 +78,3 @@ run_fault ran.Output = fault.Output
 run_fault ran.Memory = fault.Memory
 run_fault ran.Disk = fault.Disk
 run_fault (ran.Damaged n) = fault.Store (opening.Damaged n)
-
--- and what its run does, by a fault if one came
-abbrev pub ran_fault : Option RunFault → Fault
-ran_fault None = fault.None
-ran_fault (Some why) = run_fault why
-
--- ---- where a step may end so
-
--- a step over the input may end by the input only where its faults rose, or since memory ran out
-abbrev pub IsStepFault : ℕ → ℕ → Fault → Type 0
-IsStepFault before now fault.Input = Rose before now
-IsStepFault before now fault.Memory = ⊤
-IsStepFault before now fault.None = ⊥
-IsStepFault before now fault.Output = ⊥
-IsStepFault before now (fault.Usage cause) = ⊥
-IsStepFault before now (fault.Script refusal) = ⊥
-IsStepFault before now (fault.Store refusal) = ⊥
-IsStepFault before now fault.Disk = ⊥

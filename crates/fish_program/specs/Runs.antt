@@ -1,6 +1,5 @@
 -- What a run of a script tells of the file that the script stands in, of the disk, of the output and of the log.
 use Rattle.std.specs.Prelude.{◌≡◌, ◌≢◌, ℕ, List, [], Option, Some, None, IfSome, IsSome, ⊤}
-use Rattle.fish_outside.specs.Causes.{Rose}
 use Rattle.fish_outside.specs.Content.{Files}
 use Rattle.fish_recover.specs.declared.opened.Opened.{Opened}
 use Rattle.fish_recover.specs.declared.refusal.Asked.{Asked}
@@ -33,17 +32,6 @@ pub record RefusesScript (file : List ℕ) (told : Option Files) (refusal : Scri
   pub of_file : IfSome told (λ files. ReadsFile longest_read file files text)
   pub is : IsRefusal text refusal
   pub named : refusal ≢ OutOfMemory
-
--- reading a script may fail so: it is none, the input failed and its faults rose, or memory ran out
-abbrev pub IsScriptFault : List ℕ → Option Files → ℕ → ℕ → Fault → Type 0
-IsScriptFault file told before now (fault.Script refusal) = RefusesScript file told refusal
-IsScriptFault file told before now fault.Input = Rose before now
-IsScriptFault file told before now fault.Memory = ⊤
-IsScriptFault file told before now fault.None = ⊥
-IsScriptFault file told before now fault.Output = ⊥
-IsScriptFault file told before now fault.Disk = ⊥
-IsScriptFault file told before now (fault.Store refusal) = ⊥
-IsScriptFault file told before now (fault.Usage cause) = ⊥
 
 -- so a run may end that read none
 abbrev pub IsUnread : List ℕ → Option Files → Fault → Type 0

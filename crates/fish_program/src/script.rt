@@ -6,9 +6,10 @@ ghost use Rattle.fish_outside.specs.Content.{SameFiles};
 ghost use Rattle.fish_recover.specs.Stores.{asked_shape};
 ghost use Rattle.fish_rule.specs.Start.{IsShape};
 ghost use Rattle.fish_script.specs.Runnable.{CanRun};
-ghost use Rattle.fish_program.specs.Faults.{ran_fault};
+ghost use Rattle.fish_program.specs.within.Faults.{ran_fault};
 ghost use Rattle.fish_program.specs.Outcome.{EndsRun, EndsScript, status_of};
-ghost use Rattle.fish_program.specs.Runs.{HasScript, IsScriptFault};
+ghost use Rattle.fish_program.specs.Runs.{HasScript};
+ghost use Rattle.fish_program.specs.within.Runs.{IsScriptFault};
 ghost use Rattle.fish_program.specs.Stores.{shape_asked};
 
 use crate::fault::Fault;

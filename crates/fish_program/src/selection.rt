@@ -5,8 +5,9 @@ ghost use Rattle.std.specs.List.{list_any};
 ghost use Rattle.fish_outside.specs.Causes.{Rose};
 ghost use Rattle.fish_outside.specs.Content.{SameFiles};
 ghost use Rattle.fish_report.specs.ReportText.{is_refusal, report_text};
-ghost use Rattle.fish_program.specs.Answer.{AnswersTo, IsAnswer};
-ghost use Rattle.fish_program.specs.Faults.{IsStepFault};
+ghost use Rattle.fish_program.specs.Answer.{IsAnswer};
+ghost use Rattle.fish_program.specs.within.Answer.{AnswersTo};
+ghost use Rattle.fish_program.specs.within.Faults.{IsStepFault};
 ghost use Rattle.fish_program.specs.Outcome.{EndsSelect, status_of};
 
 use crate::fault::Fault;

@@ -7,7 +7,7 @@ use Rattle.fish_value.proofs.SameLemmas.{same_value-Decides}
 use Rattle.fish_value.specs.Same.{same_value}
 use Rattle.fish_value.specs.declared.value.Value.{Value}
 use Rattle.fish_psf.specs.Eval.{distinct}
-use Rattle.fish_psf.specs.Gathering.{with_value}
+use Rattle.fish_psf.specs.within.Gathering.{with_value}
 
 -- no two are the same
 abbrev pub Differ : List Value → Type 0

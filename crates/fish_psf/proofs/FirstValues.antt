@@ -11,7 +11,7 @@ use Rattle.fish_value.specs.declared.field.Field.{Field}
 use Rattle.fish_value.specs.declared.field.FieldView.{FieldView}
 use Rattle.fish_value.specs.declared.value.Value.{Value}
 use Rattle.fish_psf.specs.Eval.{distinct, first_values, most_values, value_of}
-use Rattle.fish_psf.specs.Gathering.{with_field, with_value}
+use Rattle.fish_psf.specs.within.Gathering.{with_field, with_value}
 use Rattle.fish_psf.proofs.Distinct.{distinct-append, distinct-more}
 
 -- the values of fields that are seen, each once

@@ -2,10 +2,10 @@ pub mod Blanks
 pub mod BucketLaw
 pub mod Eval
 pub mod Fields
-pub mod Gathering
 pub mod Given
 pub mod Keys
 pub mod Parsing
 pub mod Records
 pub mod Select
 pub mod SelectLaw
+pub mod within

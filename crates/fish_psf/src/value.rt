@@ -8,7 +8,7 @@ ghost use Rattle.fish_value.specs.Seen.{field_seen};
 ghost use Rattle.fish_lang.specs.Definition.{definition_of, formula_of};
 ghost use Rattle.fish_psf.specs.Select.{has_value};
 ghost use Rattle.fish_psf.specs.Eval.{bucket, bucket_of, first_values, holds_when, value_of, values};
-ghost use Rattle.fish_psf.specs.Gathering.{with_field, with_value};
+ghost use Rattle.fish_psf.specs.within.Gathering.{with_field, with_value};
 ghost use Rattle.fish_psf.specs.Given.{given_values};
 
 use crate::condition::holds;

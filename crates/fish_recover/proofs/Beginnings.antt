@@ -39,7 +39,8 @@ use Rattle.fish_slots.proofs.Commits.{rests_commit}
 use Rattle.fish_recover.specs.Beginning.{BeginsAt, IsKept}
 use Rattle.fish_recover.proofs.Keepings.{kept_committed, whole_lines}
 use Rattle.fish_recover.specs.Opening.{IsRead}
-use Rattle.fish_recover.specs.Stores.{IsBegun, Resumes}
+use Rattle.fish_recover.specs.Stores.{IsBegun}
+use Rattle.fish_recover.specs.within.Stores.{Resumes}
 use Rattle.fish_recover.specs.declared.finding.Found.{Found}
 use Rattle.fish_recover.specs.declared.opened.Opened.{Opened}
 

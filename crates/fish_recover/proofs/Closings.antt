@@ -10,7 +10,7 @@ use Rattle.fish_disk.proofs.Regions.{still_told, told_at, torn_apart}
 use Rattle.fish_slots.specs.Commits.{Counts, HasCommit, Rests, next_turn, turn_of}
 use Rattle.fish_slots.specs.Offsets.{body_at, body_bytes, gate_at, lines_at}
 use Rattle.fish_slots.specs.Slots.{IsOpen, body_of, line_count, lines_of}
-use Rattle.fish_recover.specs.Resting.{AreAtRest, AreStored, AreWhole}
+use Rattle.fish_recover.specs.within.Resting.{AreAtRest, AreStored, AreWhole}
 
 -- ---- lengths
 

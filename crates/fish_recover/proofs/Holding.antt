@@ -9,8 +9,9 @@ use Rattle.fish_image.specs.Reading.{IsBodyOf}
 use Rattle.fish_image.specs.Slot.{number}
 use Rattle.fish_slots.specs.Slots.{body_of, line_count, lines_of}
 use Rattle.fish_recover.proofs.Slots.{newer_commit}
-use Rattle.fish_recover.specs.Choosing.{IsChosen}
-use Rattle.fish_recover.specs.Opening.{IsFound, IsLinesCause, IsOpenCause, IsOtherShape, first_words}
+use Rattle.fish_recover.specs.within.Choosing.{IsChosen}
+use Rattle.fish_recover.specs.Opening.{IsFound, IsOpenCause, IsOtherShape}
+use Rattle.fish_recover.specs.within.Opening.{IsLinesCause, first_words}
 use Rattle.fish_recover.specs.declared.finding.Found.{Found}
 use Rattle.fish_recover.specs.declared.refusal.Asked.{Asked}
 use Rattle.fish_recover.specs.declared.refusal.OpenRefusal.{OpenRefusal}

@@ -22,7 +22,7 @@ use Rattle.fish_slots.specs.Slots.{IsOpen, line_count, lines_of}
 use Rattle.fish_recover.proofs.Holding.{body_lines}
 use Rattle.fish_recover.proofs.Words.{length-words_of}
 use Rattle.fish_recover.specs.Opening.{IsFound, IsRead}
-use Rattle.fish_recover.specs.Resting.{AreAtRest, AreLong, AreStored, AreWhole}
+use Rattle.fish_recover.specs.within.Resting.{AreAtRest, AreLong, AreStored, AreWhole}
 use Rattle.fish_recover.specs.declared.finding.Found.{Found}
 use Rattle.fish_recover.specs.declared.refusal.Asked.{Asked}
 

@@ -7,7 +7,8 @@ use Rattle.fish_catalog.specs.declared.commit.Commit.{Commit}
 use Rattle.fish_catalog.specs.declared.row.CatRow.{CatRow}
 use Rattle.fish_image.proofs.Spelling.{name_length, name_read, next_row, row_word, text_length, text_read, told_rows, told_word}
 use Rattle.fish_image.specs.Commits.{IsBoundary}
-use Rattle.fish_image.specs.Reading.{AreRowsOf, IsRowOf, IsBodyOf}
+use Rattle.fish_image.specs.Reading.{IsBodyOf}
+use Rattle.fish_image.specs.within.Reading.{AreRowsOf, IsRowOf}
 use Rattle.fish_image.specs.Slot.{boundary_word, bytes_behind, row_bytes, zeros}
 
 -- a word says one boundary

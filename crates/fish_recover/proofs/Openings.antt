@@ -15,7 +15,7 @@ use Rattle.fish_slots.specs.Commits.{Counts, HasCommit}
 use Rattle.fish_recover.proofs.Closings.{body_long}
 use Rattle.fish_recover.proofs.Keepings.{KeptIn, kept_stands, stands_whole}
 use Rattle.fish_recover.specs.Opening.{IsFound}
-use Rattle.fish_recover.specs.Resting.{AreStored}
+use Rattle.fish_recover.specs.within.Resting.{AreStored}
 use Rattle.fish_recover.specs.Stores.{HasOpened, IsOf, IsOpened, asked_shape}
 use Rattle.fish_recover.specs.declared.finding.Found.{Found}
 use Rattle.fish_recover.specs.declared.opened.Opened.{Opened}

@@ -7,8 +7,10 @@ use Rattle.fish_flush.specs.Causes.{HasFlushCause}
 use Rattle.fish_flush.specs.declared.refusal.FlushRefusal.{FlushRefusal}
 use Rattle.fish_flush.specs.declared.refusal.FlushRefusal.TheVariants as flush
 use Rattle.fish_recover.specs.Choosing.{HasOpenCause}
-use Rattle.fish_recover.specs.Opening.{IsOfStore, IsOpenCause, IsOutside}
-use Rattle.fish_recover.specs.Stores.{IsFlushed, IsStoreCause}
+use Rattle.fish_recover.specs.Opening.{IsOfStore, IsOpenCause}
+use Rattle.fish_recover.specs.within.Opening.{IsOutside}
+use Rattle.fish_recover.specs.Stores.{IsStoreCause}
+use Rattle.fish_recover.specs.within.Stores.{IsFlushed}
 use Rattle.fish_recover.specs.declared.refusal.Asked.{Asked}
 use Rattle.fish_recover.specs.declared.refusal.OpenRefusal.{OpenRefusal}
 use Rattle.fish_recover.specs.declared.refusal.OpenRefusal.TheVariants.{Damaged, DiskFault, NotAStore, OutOfMemory, ShapeDiffers}

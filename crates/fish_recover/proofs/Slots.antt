@@ -8,7 +8,7 @@ use Rattle.fish_image.specs.Reading.{IsBodyOf}
 use Rattle.fish_slots.proofs.Commits.{one_commit}
 use Rattle.fish_slots.specs.Commits.{Counts, HasCommit, next_turn, turn_of}
 use Rattle.fish_slots.specs.Slots.{IsOpen, body_of, line_count, lines_of}
-use Rattle.fish_recover.specs.Choosing.{IsBodyCause, IsChosen, IsNewer, IsSlotCause}
+use Rattle.fish_recover.specs.within.Choosing.{IsBodyCause, IsChosen, IsNewer, IsSlotCause}
 use Rattle.fish_recover.specs.declared.refusal.OpenRefusal.{OpenRefusal}
 use Rattle.fish_recover.specs.declared.refusal.OpenRefusal.TheVariants.{Damaged, DiskFault, NotAStore, OutOfMemory, ShapeDiffers}
 

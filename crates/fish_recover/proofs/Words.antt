@@ -11,7 +11,7 @@ use Rattle.fish_disk.specs.Content.{part}
 use Rattle.fish_image.specs.Slot.{number}
 use Rattle.fish_image.specs.Stands.{words_in, words_of}
 use Rattle.fish_slots.specs.Offsets.{lines_at}
-use Rattle.fish_recover.specs.Opening.{first_words}
+use Rattle.fish_recover.specs.within.Opening.{first_words}
 
 -- so many words
 pub length-words_of : (n : ℕ) (b : List ℕ) → length (words_of n b) ≡ n

@@ -2,5 +2,5 @@ pub mod Beginning
 pub mod Choosing
 pub mod Opening
 pub mod RefusalText
-pub mod Resting
 pub mod Stores
+pub mod within

@@ -2,16 +2,12 @@
 use Rattle.std.specs.Prelude.{ℕ, ◌≡◌, ◌≢◌, ◌+◌, ◌-◌, ◌*◌, ◌/◌, ◌≤◌, ◌⊎◌, ◌↔◌, List, Option, Some, None, IsTrue, length, ⊤}
 use Rattle.fish_catalog.specs.declared.commit.Checked.{Checked}
 use Rattle.fish_catalog.specs.declared.commit.Commit.{Commit}
-use Rattle.fish_image.specs.Checking.{HasChecked, HasSeen}
+use Rattle.fish_image.specs.Checking.{HasChecked}
 use Rattle.fish_image.specs.Log.{IsDamaged}
 use Rattle.fish_image.specs.Reading.{IsBodyOf}
 use Rattle.fish_image.specs.Stands.{words_in}
-use Rattle.fish_image.specs.Steps.{Breaks}
-use Rattle.fish_image.specs.declared.checker.Checker.{Checker}
-use Rattle.fish_image.specs.declared.refusal.ImageRefusal.{ImageRefusal}
-use Rattle.fish_image.specs.declared.refusal.ImageRefusal.TheVariants.{Damaged as Broken, OutOfMemory as NoMemory}
 use Rattle.fish_slots.specs.Commits.{HasCommit}
-use Rattle.fish_slots.specs.Slots.{IsOpen, lines_of}
+use Rattle.fish_slots.specs.Slots.{IsOpen}
 use Rattle.fish_recover.specs.Choosing.{IsSlotRead, IsSlotless}
 use Rattle.fish_recover.specs.declared.finding.Found.{Found}
 use Rattle.fish_recover.specs.declared.refusal.Asked.{Asked}
@@ -24,52 +20,11 @@ use Rattle.fish_recover.specs.declared.refusal.OpenRefusal.TheVariants.{Damaged,
 abbrev pub pages_of : ℕ → ℕ
 pages_of lines = (lines + 32767) / 32768
 
--- the words of the first lines of the log, as far as the image has them
-abbrev pub first_words : ℕ → List ℕ → List ℕ
-first_words lines image = words_in (lines_of lines image)
-
--- whatever the disk tells of its content: the checker has seen the words of some bytes, which are no more than so many lines have
-pub record HasRead (commit : Commit) (checker : Checker) (line : ℕ) : Type 0 where
-  pub bytes : List ℕ
-  pub words : ℕ
-  pub size : length bytes ≡ 8 * words
-  pub within : length bytes ≤ 32 * line
-  pub seen : HasSeen commit checker (words_in bytes)
-
 -- and so what was found is that of some lines
 pub record AreRead (commit : Commit) (checked : Checked) : Type 0 where
   pub lines : List ℕ
   pub size : length lines ≤ 32 * commit.lines
   pub held : HasChecked commit (words_in lines) checked
-
--- no more words are taken: so many entries agree, and no other will, whatever comes after; or the disk failed, or memory ran out
-abbrev pub IsPieceCause : Commit → List ℕ → OpenRefusal → Type 0
-IsPieceCause commit w NotAStore = ⊥
-IsPieceCause commit w (Damaged n) = Breaks commit w n
-IsPieceCause commit w (ShapeDiffers kept asked) = ⊥
-IsPieceCause commit w DiskFault = ⊤
-IsPieceCause commit w OutOfMemory = ⊤
-
--- the words stand for no log, and exactly so many leading entries agree; or the disk failed, or memory ran out
-abbrev pub IsLinesCause : Commit → List ℕ → OpenRefusal → Type 0
-IsLinesCause commit w NotAStore = ⊥
-IsLinesCause commit w (Damaged n) = IsDamaged commit w n
-IsLinesCause commit w (ShapeDiffers kept asked) = ⊥
-IsLinesCause commit w DiskFault = ⊤
-IsLinesCause commit w OutOfMemory = ⊤
-
--- the refusal says nothing of the image
-abbrev pub IsOutside : OpenRefusal → Type 0
-IsOutside NotAStore = ⊥
-IsOutside (Damaged n) = ⊥
-IsOutside (ShapeDiffers kept asked) = ⊥
-IsOutside DiskFault = ⊤
-IsOutside OutOfMemory = ⊤
-
--- the refusal of a store is that of its image
-abbrev pub IsSame : ImageRefusal → OpenRefusal → Type 0
-IsSame (Broken n) refusal = refusal ≡ Damaged n
-IsSame NoMemory refusal = refusal ≡ OutOfMemory
 
 -- ---- the shape
 

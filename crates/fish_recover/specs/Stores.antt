@@ -6,17 +6,13 @@ use Rattle.fish_catalog.specs.declared.entry.Entry.{Entry}
 use Rattle.fish_catalog.specs.declared.row.CatRow.{CatRow}
 use Rattle.fish_cold.specs.Carries.{CarriesTable}
 use Rattle.fish_flush.specs.Carrying.{Carries}
-use Rattle.fish_flush.specs.Kept.{IsKeptOf, first_commit}
-use Rattle.fish_flush.specs.declared.refusal.FlushRefusal.{FlushRefusal}
-use Rattle.fish_flush.specs.declared.refusal.FlushRefusal.TheVariants.{DiskFault as FlushFault, OutOfMemory as NoMemory}
+use Rattle.fish_flush.specs.Kept.{first_commit}
 use Rattle.fish_image.specs.Stands.{Stands}
 use Rattle.fish_rule.specs.Passes.{IsPassOf, view}
 use Rattle.fish_rule.specs.Start.{table_lines}
 use Rattle.fish_rule.specs.Table.{first_view}
 use Rattle.fish_rule.specs.declared.table.Shape.{Shape}
-use Rattle.fish_recover.specs.Beginning.{BeginsAt}
 use Rattle.fish_recover.specs.Opening.{IsOpenCause, IsOtherShape}
-use Rattle.fish_recover.specs.declared.finding.Found.{Found}
 use Rattle.fish_recover.specs.declared.opened.Opened.{Opened}
 use Rattle.fish_recover.specs.declared.refusal.Asked.{Asked}
 use Rattle.fish_recover.specs.declared.refusal.OpenRefusal.{OpenRefusal}
@@ -25,10 +21,6 @@ use Rattle.fish_recover.specs.declared.refusal.OpenRefusal.TheVariants.{Damaged,
 -- the shape of a store that is made: what is asked for, and else 8 pages and 12 bits
 abbrev pub asked_shape : Asked → Shape
 asked_shape asked = record { pages = unwrap_or asked.pages 8; bucket_bits = unwrap_or asked.bucket_bits 12 }
-
--- the shape of a table of a commit
-abbrev pub shape_of : Commit → Shape
-shape_of c = record { pages = c.pages; bucket_bits = c.bucket_bits }
 
 -- ---- what is open
 
@@ -86,16 +78,3 @@ IsStoreCause image asked (Damaged n) = IsOpenCause image asked (Damaged n)
 IsStoreCause image asked (ShapeDiffers kept other) = IsOpenCause image asked (ShapeDiffers kept other)
 IsStoreCause image asked DiskFault = ⊤
 IsStoreCause image asked OutOfMemory = ⊤
-
--- the refusal of an opening is that of a commit
-abbrev pub IsFlushed : FlushRefusal → OpenRefusal → Type 0
-IsFlushed FlushFault refusal = refusal ≡ DiskFault
-IsFlushed NoMemory refusal = refusal ≡ OutOfMemory
-
--- ---- steps
-
--- what was found is open again: its commit is kept, and the table begins after it
-pub record Resumes (found : Found) (o : Opened) : Type 0 where
-  pub kept : IsKeptOf found.slot found.commit found.checked.heads found.checked.starts o.flusher
-  pub live : o.flusher.shut ≡ false
-  pub begins : BeginsAt o.flusher (shape_of found.commit) found.commit.rows 0 false o

@@ -7,7 +7,8 @@ ghost use Rattle.fish_disk.specs.Crash.{LeavesOnly};
 ghost use Rattle.fish_image.specs.Reading.{IsBodyOf};
 ghost use Rattle.fish_slots.specs.Commits.{next_turn, turn_of};
 ghost use Rattle.fish_slots.specs.Slots.{IsOpen, body_of};
-ghost use Rattle.fish_recover.specs.Choosing.{HasOpenCause, IsBodyCause, IsChosen, IsNewer, IsSlotCause, IsSlotRead};
+ghost use Rattle.fish_recover.specs.Choosing.{HasOpenCause, IsSlotRead};
+ghost use Rattle.fish_recover.specs.within.Choosing.{IsBodyCause, IsChosen, IsNewer, IsSlotCause};
 
 use crate::bytes::{number_in, zeros};
 use crate::refusal::OpenRefusal;

@@ -3,7 +3,8 @@
 ghost use Rattle.std.specs.Prelude.{◌≡◌, ◌≤◌, ◌+◌, ◌↔◌, ℕ, List, Some, IfErr, IfOk, IfSome, IsTrue, OnOk};
 ghost use Rattle.fish_disk.specs.Content.{StillReads};
 ghost use Rattle.fish_disk.specs.Crash.{LeavesOnly};
-ghost use Rattle.fish_recover.specs.Choosing.{HasOpenCause, IsChosen, IsSlotRead};
+ghost use Rattle.fish_recover.specs.Choosing.{HasOpenCause, IsSlotRead};
+ghost use Rattle.fish_recover.specs.within.Choosing.{IsChosen};
 ghost use Rattle.fish_recover.specs.Opening.{IsFound, IsOpenCause, IsOtherShape, IsRead, pages_of};
 
 use crate::choosing::{Chosen, find_slot};

@@ -9,8 +9,8 @@ ghost use Rattle.fish_slots.specs.Commits.{HasCommit, Rests};
 ghost use Rattle.fish_slots.specs.Offsets.{lines_at};
 ghost use Rattle.fish_slots.specs.Slots.{line_count};
 ghost use Rattle.fish_recover.specs.Choosing.{HasOpenCause};
-ghost use Rattle.fish_recover.specs.Opening.{IsOutside};
-ghost use Rattle.fish_recover.specs.Resting.{AreAtRest, AreLong, AreStored};
+ghost use Rattle.fish_recover.specs.within.Opening.{IsOutside};
+ghost use Rattle.fish_recover.specs.within.Resting.{AreAtRest, AreLong, AreStored};
 
 use crate::bytes::zeros;
 use crate::refusal::OpenRefusal;

@@ -9,8 +9,10 @@ ghost use Rattle.fish_flush.specs.Kept.{first_commit};
 ghost use Rattle.fish_image.specs.Stands.{Stands};
 ghost use Rattle.fish_rule.specs.Start.{IsShape};
 ghost use Rattle.fish_recover.specs.Choosing.{HasOpenCause};
-ghost use Rattle.fish_recover.specs.Opening.{IsOfStore, IsOpenCause, IsOutside, IsRead, pages_of};
-ghost use Rattle.fish_recover.specs.Stores.{HasOpened, IsFlushed, IsOpened, IsStoreCause, Resumes, StandsSince};
+ghost use Rattle.fish_recover.specs.Opening.{IsOfStore, IsOpenCause, IsRead, pages_of};
+ghost use Rattle.fish_recover.specs.within.Opening.{IsOutside};
+ghost use Rattle.fish_recover.specs.Stores.{HasOpened, IsOpened, IsStoreCause, StandsSince};
+ghost use Rattle.fish_recover.specs.within.Stores.{IsFlushed, Resumes};
 ghost use Rattle.fish_recover.specs.Stores.{asked_shape};
 
 use crate::finding::{Found, find_store};

@@ -15,7 +15,7 @@ use Rattle.fish_lang.specs.Definition.{definition_of}
 use Rattle.fish_lang.specs.declared.definition.Def.{Def}
 use Rattle.fish_registry.specs.Knowing.{KnowsRows}
 use Rattle.fish_registry.specs.Refusing.{IsSaid}
-use Rattle.fish_registry.specs.Rows.{HasRegistered, MayRegister}
+use Rattle.fish_registry.specs.within.Rows.{HasRegistered, MayRegister}
 use Rattle.fish_rule.specs.declared.view.View.{View}
 
 -- the last of the longer list

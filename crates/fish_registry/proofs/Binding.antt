@@ -2,7 +2,8 @@
 use Rattle.std.proofs.Common.{◌≡◌, ℕ, ◌≤◌, suc, List, ◌∷◌, Some, None, refl, sym, ap, ◌∙◌, subst, inl, inr, arith}
 use Rattle.fish_registry.proofs.Changing.{changes_from}
 use Rattle.fish_registry.specs.Knowing.{IsAwaited}
-use Rattle.fish_registry.specs.Looking.{HasBound, at_lane}
+use Rattle.fish_registry.specs.Looking.{at_lane}
+use Rattle.fish_registry.specs.within.Looking.{HasBound}
 use Rattle.fish_registry.specs.declared.registrar.Waiting.{Waiting}
 use Rattle.fish_rule.proofs.laws.Clocks.{later_both, later_noted, later_self, later_ticked, loaded_within, noted_load}
 use Rattle.fish_rule.specs.BoundarySteps.{CanLoadBound, CanStoreFrom, after_load_bound, after_store_from}

@@ -2,7 +2,7 @@
 use Rattle.std.proofs.Common.{◌≡◌, ℕ, ◌≤◌, List, [], ◌∷◌, inr, Option, Some, refl, sym, ap, ◌∙◌, subst, arith}
 use Rattle.fish_catalog.specs.declared.listed.Listed.{Listed}
 use Rattle.fish_registry.specs.Changing.{Changes, HasCounted, IsAtTail, Stays}
-use Rattle.fish_registry.specs.Looking.{Looks}
+use Rattle.fish_registry.specs.within.Looking.{Looks}
 use Rattle.fish_rule.proofs.laws.Clocks.{later_both, later_noted, later_self, loaded_within, noted_load}
 use Rattle.fish_rule.specs.Clocks.{HasLoaded, IsLater}
 use Rattle.fish_rule.specs.RegistrySteps.{after_load_version}

@@ -3,7 +3,7 @@ use Rattle.std.proofs.Common.{◌≡◌, ℕ, ◌+◌, ◌<◌, ◌≤◌, inl, 
 use Rattle.std.proofs.Common.{length, slice_index, refl, sym, ap, ◌∙◌, subst, arith}
 use Rattle.std.proofs.Math.Decide.{ℕ_discrete}
 use Rattle.fish_layout.proofs.Clearing.{choose_first, choose_second}
-use Rattle.fish_registry.specs.Rows.{HasDrafted}
+use Rattle.fish_registry.specs.within.Rows.{HasDrafted}
 use Rattle.fish_rule.proofs.laws.Clocks.{later_both, later_self, later_ticked}
 use Rattle.fish_rule.specs.RegistrySteps.{CanDefineWord, after_define_word}
 use Rattle.fish_rule.specs.Registry.{control_word, row_at}

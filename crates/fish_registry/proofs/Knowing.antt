@@ -14,10 +14,12 @@ use Rattle.fish_catalog.specs.declared.listed.Listed.{Listed}
 use Rattle.fish_catalog.specs.declared.row.CatRow.{CatRow}
 use Rattle.fish_layout.proofs.Clearing.{choose_first, choose_second}
 use Rattle.fish_registry.specs.Changing.{Stays}
-use Rattle.fish_registry.specs.Knowing.{Awaits, HasBegunBy, IsAwaited, IsWaitingFor, KnowsFirst, KnowsOn}
+use Rattle.fish_registry.specs.Knowing.{Awaits, HasBegunBy, IsAwaited, IsWaitingFor, KnowsFirst}
+use Rattle.fish_registry.specs.within.Knowing.{KnowsOn}
 use Rattle.fish_registry.specs.Knowing.{KnowsRows}
-use Rattle.fish_registry.specs.Looking.{HasBound, Looks, at_lane}
-use Rattle.fish_registry.specs.Rows.{HasEnded, HasRegistered, HasTailed, MayEnd}
+use Rattle.fish_registry.specs.Looking.{at_lane}
+use Rattle.fish_registry.specs.within.Looking.{HasBound, Looks}
+use Rattle.fish_registry.specs.within.Rows.{HasEnded, HasRegistered, HasTailed, MayEnd}
 use Rattle.fish_registry.specs.declared.registrar.Registrar.{Registrar}
 use Rattle.fish_registry.specs.declared.registrar.Waiting.{Waiting}
 use Rattle.fish_rule.proofs.laws.Versions.{drafted_here, set_here}

@@ -4,7 +4,8 @@ use Rattle.std.proofs.Math.Decide.{ℕ_discrete, dec_lt}
 use Rattle.fish_layout.proofs.Clearing.{choose_second}
 use Rattle.fish_layout.specs.Cleared.{choose}
 use Rattle.fish_registry.specs.Knowing.{IsAwaited}
-use Rattle.fish_registry.specs.Looking.{IsOlder, Looks, at_lane}
+use Rattle.fish_registry.specs.Looking.{at_lane}
+use Rattle.fish_registry.specs.within.Looking.{IsOlder, Looks}
 use Rattle.fish_registry.specs.declared.registrar.Waiting.{Waiting}
 use Rattle.fish_rule.proofs.laws.Clocks.{later_both, later_noted, later_self, loaded_within, noted_load}
 use Rattle.fish_rule.specs.BoundarySteps.{after_check_lane, checked_after, with_lane}

@@ -12,7 +12,7 @@ use Rattle.fish_layout.proofs.Clearing.{choose_first, choose_second}
 use Rattle.fish_layout.specs.Bytes.{word_at}
 use Rattle.fish_layout.specs.Cleared.{choose}
 use Rattle.fish_registry.proofs.Changing.{changes_from}
-use Rattle.fish_registry.specs.Rows.{HasDrafted, HasRegistered, MayMake, MayRegister}
+use Rattle.fish_registry.specs.within.Rows.{HasDrafted, HasRegistered, MayMake, MayRegister}
 use Rattle.fish_rule.proofs.laws.Clocks.{later_both, later_ticked}
 use Rattle.fish_rule.specs.RegistrySteps.{CanRaiseVersion, CanDefineWord, after_raise_version, after_define_word}
 use Rattle.fish_rule.specs.RegistrySteps.{next_operation}

@@ -6,17 +6,12 @@ use Rattle.fish_catalog.specs.Words.{bound_word}
 use Rattle.fish_catalog.specs.declared.row.CatRow.{CatRow}
 use Rattle.fish_registry.specs.declared.registrar.Registrar.{Registrar}
 use Rattle.fish_registry.specs.declared.registrar.Waiting.{Waiting}
-use Rattle.fish_rule.specs.Logs.{Learns}
 use Rattle.fish_rule.specs.Registry.{control_word, row_at}
 use Rattle.fish_rule.specs.Table.{first_view}
 use Rattle.fish_rule.specs.Views.{Among}
 use Rattle.fish_rule.specs.declared.view.Key.{Key}
 use Rattle.fish_rule.specs.declared.view.Round.{Round}
 use Rattle.fish_rule.specs.declared.view.View.{View}
-
--- the rows that it keeps
-abbrev pub rows_of : Registrar → List CatRow
-rows_of r = r.catalog
 
 -- the row with this id waits for the number at which its index begins
 abbrev pub IsWaitingFor : Option Waiting → ℕ → Type 0
@@ -75,10 +70,3 @@ pub record HasBegunBy (n : ℕ) (row : CatRow) : Type 0 where
 -- a registrar of the rows with which a log begins keeps what the log's first pass knows
 abbrev pub KnowsFirst : Registrar → Type 0
 KnowsFirst r = (k : Key) → k.rows.value ≡ r.catalog → All (HasBegunBy k.number) r.catalog → Knows (first_view k) r
-
--- what a registrar keeps stays what its pass knows, whatever else that pass does: its lane, definitions, boundaries and
--- the registration that waits are the same, and it has learned no less
-abbrev pub KnowsOn : Type 0
-KnowsOn = (v u : View) (r : Registrar) → u.lane ≡ v.lane → u.rows ≡ v.rows → u.control_words ≡ v.control_words
-    → u.round ≡ v.round
-    → Learns v u → Knows v r → Knows u r

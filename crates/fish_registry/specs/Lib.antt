@@ -2,4 +2,4 @@ pub mod Changing
 pub mod Knowing
 pub mod Looking
 pub mod Refusing
-pub mod Rows
+pub mod within

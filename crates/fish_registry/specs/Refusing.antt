@@ -66,23 +66,9 @@ abbrev pub BeginsAtTail : View → Poll → Type 0
 BeginsAtTail v (poll.Bound id from) = IsAtTail v from
 BeginsAtTail v x = ⊤
 
--- a refusal that comes before the rows are looked at
-abbrev pub IsOfVersions : RegRefusal → Type 0
-IsOfVersions (refusal.Rolling id) = ⊤
-IsOfVersions refusal.TooManyVersions = ⊤
-IsOfVersions e = ⊥
-
 -- a refusal of an end
 abbrev pub IsOfEnds : RegRefusal → Type 0
 IsOfEnds (refusal.Rolling id) = ⊤
 IsOfEnds refusal.TooManyVersions = ⊤
 IsOfEnds refusal.UnknownName = ⊤
 IsOfEnds e = ⊥
-
--- a refusal of a row that is to be added
-abbrev pub IsOfRows : RegRefusal → Type 0
-IsOfRows refusal.NameActive = ⊤
-IsOfRows refusal.TooManyActive = ⊤
-IsOfRows refusal.TooManyDefinitions = ⊤
-IsOfRows refusal.OutOfMemory = ⊤
-IsOfRows e = ⊥

@@ -3,7 +3,8 @@
 ghost use Rattle.std.specs.Prelude.{◌≡◌, IfSome, IsNone};
 ghost use Rattle.fish_registry.specs.Changing.{IsAtTail};
 ghost use Rattle.fish_registry.specs.Knowing.{IsAwaited};
-ghost use Rattle.fish_registry.specs.Looking.{HasBound, IsOlder, Looks, at_lane};
+ghost use Rattle.fish_registry.specs.Looking.{at_lane};
+ghost use Rattle.fish_registry.specs.within.Looking.{HasBound, IsOlder, Looks};
 ghost use Rattle.fish_rule.specs.Passes.{IsPassOf, view};
 ghost use Rattle.fish_rule.specs.LoadSteps.{IsAlone};
 ghost use Rattle.fish_rule.specs.declared.view.Epoch.TheVariants.{Out};

@@ -3,8 +3,8 @@
 
 ghost use Rattle.std.specs.Prelude.{◌≡◌, ◌<◌, length};
 ghost use Rattle.fish_registry.specs.Changing.{IsAtTail};
-ghost use Rattle.fish_registry.specs.Rows.{HasDrafted, HasEnded, HasRegistered, HasTailed, MayEnd, MayMake};
-ghost use Rattle.fish_registry.specs.Rows.{MayRegister};
+ghost use Rattle.fish_registry.specs.within.Rows.{HasDrafted, HasEnded, HasRegistered, HasTailed, MayEnd, MayMake};
+ghost use Rattle.fish_registry.specs.within.Rows.{MayRegister};
 ghost use Rattle.fish_rule.specs.LoadSteps.{IsAlone};
 ghost use Rattle.fish_rule.specs.Passes.{IsPassOf, view};
 

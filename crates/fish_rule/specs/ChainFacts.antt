@@ -29,7 +29,3 @@ pub record IsNodeIn (b n c p id : ℕ) (k : Key) (w : World) : Type 0 where
 -- the other
 abbrev pub IsClear : ℕ → ℕ → ℕ → ℕ → ℕ → Key → World → Type 0
 IsClear b from to above below k w = (n c p : ℕ) → from ≤ n → n < to → IsEntryIn b n c p k w → p < above → p ≤ below
-
--- no entry of such a record is at the place
-abbrev pub IsNowhere : ℕ → ℕ → ℕ → Key → World → Type 0
-IsNowhere from to p k w = (b n c : ℕ) → from ≤ n → n < to → ¬ IsEntryIn b n c p k w

@@ -1,7 +1,5 @@
 -- Which key entries a record has: the values that the active definitions give for it.
-use Rattle.std.specs.Prelude.{ℕ, ◌≡◌, List, All, filter, map}
-use Rattle.fish_catalog.specs.Rows.{is_active}
-use Rattle.fish_catalog.specs.declared.row.CatRow.{CatRow}
+use Rattle.std.specs.Prelude.{ℕ, ◌≡◌, List, All, map}
 use Rattle.fish_lang.specs.Canonical.{definition_text}
 use Rattle.fish_lang.specs.Definition.{definition_of}
 use Rattle.fish_lang.specs.Language.{IsAccepted}
@@ -20,10 +18,6 @@ text_of d = (d.id, definition_text (definition_of d.def))
 -- the definition is what its text is read as
 abbrev pub IsWritten : ActiveDef → Type 0
 IsWritten d = IsAccepted (definition_text (definition_of d.def)) (definition_of d.def)
-
--- the definitions of the active rows, in the order of their ids
-abbrev pub AreActive : List CatRow → List ActiveDef → Type 0
-AreActive rows defs = map text_of defs ≡ map (λ row. (row.id, row.def)) (filter is_active rows)
 
 -- a key without the place of its previous entry
 abbrev pub property : KeyPart → KeyValue

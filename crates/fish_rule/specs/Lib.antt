@@ -33,3 +33,4 @@ pub mod Table
 pub mod Told
 pub mod Views
 pub mod World
+pub mod within

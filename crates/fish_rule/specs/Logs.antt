@@ -1,5 +1,5 @@
 -- The log that the words spell, and what a pass knows of it.
-use Rattle.std.specs.Prelude.{ℕ, ◌≡◌, ◌≢◌, ◌+◌, ◌*◌, ◌<◌, ◌≤◌, ◌++◌, suc, List, length, slice_index, Option, Some, None}
+use Rattle.std.specs.Prelude.{ℕ, ◌≡◌, ◌≢◌, ◌+◌, ◌*◌, ◌<◌, ◌≤◌, ◌++◌, List, length, slice_index}
 use Rattle.std.proofs.Common.{◌⊎◌}
 use mathlib.Core.Option.{some}
 use Rattle.std.proofs.Math.ListN.{get_elem?}
@@ -92,29 +92,12 @@ pub record Extends (v u : View) : Type 0 where
   pub clock : IsLater v.clock u.clock
   pub frame : u ≡ record v { learned = u.learned; clock = u.clock }
 
--- word i of the region at a line, which has n key entries, became known by one load, or it is the
--- first of a key entry and nothing was loaded
-abbrev pub IsWordKnown : View → View → ℕ → ℕ → ℕ → Option ℕ → Type 0
-IsWordKnown v u n line i None = IsKeyWord n i × (u.clock.loads ≡ v.clock.loads)
-IsWordKnown v u n line i (Some x) = Among (record { place = line * 4 + i; value = x }) u.learned.known
-    × (u.clock.loads ≡ suc v.clock.loads)
-
--- this became of a word that was asked for, and else the view is as it was
-pub record IsWordRead (v u : View) (keys line offset : ℕ) (word : Option ℕ) : Type 0 where
-  pub extends : Extends v u
-  pub told : IsWordKnown v u keys line offset word
-
 -- ---- one log
 
 -- the number at which the log ends, in every moment of a view that knows as much
 abbrev pub KnowsMark : View → ℕ → Type 0
 KnowsMark v n = (u : View) → Learns v u → (w : World) → Rule u.about w → (j : ℕ) → get_elem? w.views j ≡ some u
     → high (w.dir n) ≡ code Mark
-
--- what a number was found to be: an entry, or a mark
-abbrev pub KnowsNext : View → ℕ → Option Entry → Type 0
-KnowsNext v n None = KnowsMark v n
-KnowsNext v n (Some e) = KnowsAs v n e
 
 -- each of the entries stands at its number
 abbrev pub AreKnown : View → ℕ → List Entry → Type 0

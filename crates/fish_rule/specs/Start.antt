@@ -8,8 +8,7 @@ use Rattle.fish_catalog.specs.declared.row.CatRow.{CatRow}
 use Rattle.fish_rule.specs.Registry.{epoch_at, op_at, opened_at, row_at, version_at}
 use Rattle.fish_rule.specs.Parts.{IsOlder, first_head}
 use Rattle.fish_rule.specs.Table.{first_view}
-use Rattle.fish_rule.specs.World.{last_line, last_number, line_range, World, area, dir_at, heads_at, registry_size}
-use Rattle.fish_rule.specs.World.{total}
+use Rattle.fish_rule.specs.World.{last_line, last_number, World}
 use Rattle.fish_rule.specs.declared.seats.Start.{Start}
 use Rattle.fish_rule.specs.declared.table.Shape.{Shape}
 use Rattle.fish_rule.specs.declared.view.Key.{Key}
@@ -27,16 +26,6 @@ pub record IsOpening (s number : ℕ) (rows : List CatRow) (g : ℕ → ℕ) : T
   pub words : (id : ℕ) (row : CatRow) → slice_get rows id ≡ Some row
       → IsWritable row × ((i : ℕ) → i < 39 → g (row_at id i) ≡ row_word row i)
   pub rest : (id i : ℕ) → length rows ≤ id → id < 256 → i < 39 → g (row_at id i) ≡ 0
-
--- the tail is at the key's number and line, all before is settled, the registry is that of the key's rows and
--- version, the heads are the key's, and every other word is 0
-pub record IsEmpty (k : Key) (ws : List ℕ) : Type 0 where
-  pub wide : length ws ≡ total k
-  pub tail : slice_index ws 0 ≡ k.number * line_range + k.line
-  pub settled : slice_index ws 1 ≡ k.number
-  pub registry : IsOpening k.version k.number k.rows.value (area ws 2 2 registry_size)
-  pub heads : (b : ℕ) → b < k.buckets → slice_index ws (heads_at + b) ≡ first_head k b
-  pub zeros : (i : ℕ) → dir_at k ≤ i → slice_index ws i ≡ 0
 
 -- 1 to 512 pages, and 4 to 16 bits
 pub record IsShape (s : Shape) : Type 0 where

@@ -1,7 +1,8 @@
 //! The end of a log: the control pass looks at every number and every head, and the table's words stay as what is left.
 
 ghost use Rattle.std.specs.Prelude.{◌≡◌, ◌<◌, ◌≤◌, ℕ, [], true, IfOk, IfErr, OnErr, OnOk};
-ghost use Rattle.fish_rule.specs.ClosedLog.{AreHeads, HasStart, IsAdded, IsClosed, IsNext, IsRead, IsReadUpTo, IsWhole};
+ghost use Rattle.fish_rule.specs.ClosedLog.{IsClosed};
+ghost use Rattle.fish_rule.specs.within.ClosedLog.{AreHeads, HasStart, IsAdded, IsNext, IsRead, IsReadUpTo, IsWhole};
 ghost use Rattle.fish_rule.specs.ClosedLog.{ReadsOn, StaysOpen};
 ghost use Rattle.fish_rule.specs.Logs.{Extends};
 ghost use Rattle.fish_rule.specs.Passes.{IsOf, IsPassOf, view};

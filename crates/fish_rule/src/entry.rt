@@ -3,7 +3,8 @@
 ghost use Rattle.std.specs.Prelude.{◌≡◌, ◌≢◌, ◌+◌, ◌-◌, ◌*◌, ◌^◌, ◌<◌, ◌≤◌, ◌++◌, ℕ, List, IfOk, OnErr, OnOk, length, slice_index};
 ghost use Rattle.std.specs.Vec.{vec_capacity, vec_len};
 ghost use Rattle.fish_layout.specs.Header.{keys_of};
-ghost use Rattle.fish_rule.specs.Logs.{Extends, HasMoreWords, IsWordRead};
+ghost use Rattle.fish_rule.specs.Logs.{Extends, HasMoreWords};
+ghost use Rattle.fish_rule.specs.within.Logs.{IsWordRead};
 ghost use Rattle.fish_rule.specs.Passes.{IsPassOf, view};
 ghost use Rattle.fish_rule.specs.LoadSteps.{CanReadWord};
 ghost use Rattle.fish_rule.specs.Views.{Among};

@@ -8,7 +8,7 @@ ghost use Rattle.fish_catalog.specs.Words.{IsWritable, row_word};
 ghost use Rattle.fish_catalog.specs.declared.row.CatRow.{CatRow};
 ghost use Rattle.fish_rule.specs.Parts.{Fits};
 ghost use Rattle.fish_rule.specs.Registry.{row_at};
-ghost use Rattle.fish_rule.specs.Start.{IsEmpty};
+ghost use Rattle.fish_rule.specs.within.Start.{IsEmpty};
 ghost use Rattle.fish_rule.specs.World.{heads_at, total};
 
 use crate::area::{HEADS, OPENED, ROWS, VERSION, log_at};

@@ -30,9 +30,10 @@ use Rattle.fish_rule.specs.Views.{AllOf, Among}
 use Rattle.fish_rule.specs.ChainFacts.{Always}
 use Rattle.fish_rule.specs.declared.view.Key.{Key}
 use Rattle.fish_rule.specs.declared.view.View.{View}
-use Rattle.fish_run.specs.Blocks.{AreAcknowledged, AreMarked, FullsAgree, IsFullOf, Round, SaysPart, after_round, first_items}
+use Rattle.fish_run.specs.Blocks.{AreAcknowledged, FullsAgree, IsFullOf, Round, SaysPart, after_round, first_items}
+use Rattle.fish_run.specs.within.Blocks.{AreMarked}
 use Rattle.fish_run.specs.Blocks.{lanes_controls}
-use Rattle.fish_run.specs.Steps.{AreWhole, HasCutOne, HasRunOne, Leaves}
+use Rattle.fish_run.specs.within.Steps.{AreWhole, HasCutOne, HasRunOne, Leaves}
 use Rattle.fish_whole.proofs.Wholes.{may_hold, sure_rows}
 use Rattle.fish_whole.specs.Whole.{MayEnd, Whole, WillHold}
 

@@ -28,8 +28,8 @@ use Rattle.fish_run.specs.Faults.{IsUndamaged}
 use Rattle.fish_run.specs.Ran.{IsLost, IsStopped, IsWhole, StillKeeps, StoodFor, opened_item}
 use Rattle.fish_run.specs.Tables.{LastTable}
 use Rattle.fish_run.specs.Reports.{report_of, whole_report}
-use Rattle.fish_run.specs.Runs.{CanClose}
-use Rattle.fish_run.specs.Steps.{Finishes, HasRunFirst, RunsAll, RunsSome}
+use Rattle.fish_run.specs.within.Runs.{CanClose}
+use Rattle.fish_run.specs.within.Steps.{Finishes, HasRunFirst, RunsAll, RunsSome}
 use Rattle.fish_run.specs.Tables.{AreRenewed}
 use Rattle.fish_run.specs.declared.fault.RunFault.{RunFault}
 use Rattle.fish_run.specs.declared.fault.RunFault.TheVariants as fault

@@ -24,8 +24,8 @@ use Rattle.fish_run.specs.Ran.{AreFirst, AreNextOf, IsBlockOf}
 use Rattle.fish_run.specs.Reports.{are_refused, block_items, report_of, said_refused}
 use Rattle.fish_run.specs.Joins.{block_said}
 use Rattle.fish_run.specs.Rounds.{AreRounds, given_in}
-use Rattle.fish_run.specs.Running.{HowStopped}
-use Rattle.fish_run.specs.Steps.{HasRounds, HasRunFirst, RunsAll, RunsSome, StopsRounds, WritesBlocks}
+use Rattle.fish_run.specs.within.Running.{HowStopped}
+use Rattle.fish_run.specs.within.Steps.{HasRounds, HasRunFirst, RunsAll, RunsSome, StopsRounds, WritesBlocks}
 use Rattle.fish_run.specs.Tables.{AreRenewed}
 use Rattle.fish_run.specs.declared.fault.RunFault.TheVariants as fault
 use Rattle.fish_run.specs.declared.lasting.Stopped.{Stopped}

@@ -14,7 +14,8 @@ use Rattle.fish_outside.specs.declared.fault.FeedRefusal.TheVariants as feed
 use Rattle.fish_report.specs.declared.writing.WriteRefusal.{WriteRefusal}
 use Rattle.fish_report.specs.declared.writing.WriteRefusal.TheVariants as write
 use Rattle.fish_run.specs.Blocks.{IsFirstFault}
-use Rattle.fish_run.specs.Faults.{IsCommitFault, IsUndamaged, feed_fault, flush_fault}
+use Rattle.fish_run.specs.Faults.{IsUndamaged, feed_fault, flush_fault}
+use Rattle.fish_run.specs.within.Faults.{IsCommitFault}
 use Rattle.fish_run.specs.Faults.{lane_fault, write_fault}
 use Rattle.fish_run.specs.declared.fault.RunFault.{RunFault}
 use Rattle.fish_run.specs.declared.fault.RunFault.TheVariants as fault

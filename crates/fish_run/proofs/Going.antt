@@ -45,8 +45,8 @@ use Rattle.fish_rule.specs.declared.table.Shape.{Shape}
 use Rattle.fish_rule.specs.declared.view.Key.{Key}
 use Rattle.fish_rule.specs.declared.view.View.{View}
 use Rattle.fish_run.specs.Blocks.{begun, first_registry}
-use Rattle.fish_run.specs.Runs.{CanClose, CanGoOn, IsNewStore, IsTable}
-use Rattle.fish_run.specs.Steps.{AreWhole}
+use Rattle.fish_run.specs.within.Runs.{CanClose, CanGoOn, IsNewStore, IsTable}
+use Rattle.fish_run.specs.within.Steps.{AreWhole}
 use Rattle.fish_scan.specs.Colder.{IsBelow}
 use Rattle.fish_store.specs.Opened.{opened_point}
 use Rattle.fish_store.specs.Points.{point_at}

@@ -17,7 +17,7 @@ use Rattle.fish_rule.specs.declared.view.View.{View}
 use Rattle.fish_run.proofs.Turns.{none_full}
 use Rattle.fish_run.specs.Blocks.{Round, SaysFirst, SaysRun, first_registry}
 use Rattle.fish_run.specs.Ran.{Keeps, StillKeeps, StoodFor, entries_of}
-use Rattle.fish_run.specs.Steps.{HasRunFirst}
+use Rattle.fish_run.specs.within.Steps.{HasRunFirst}
 use Rattle.fish_store.proofs.Ending.{run_lost, run_shown}
 use Rattle.fish_store.proofs.Opening.{opened_sound, stands_part}
 use Rattle.fish_store.specs.Ending.{IsLost as LosesLog, IsShown}

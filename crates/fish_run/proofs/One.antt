@@ -21,9 +21,9 @@ use Rattle.fish_run.specs.within.Going.{EndsRounds, StopsBlock, WereGiven}
 use Rattle.fish_run.specs.Ran.{IsBlockOf}
 use Rattle.fish_run.specs.Reports.{block_items, said_items, said_refused}
 use Rattle.fish_run.specs.Rounds.{AreAll, AreRounds, FollowOn, given_in}
-use Rattle.fish_run.specs.Running.{EndsOne, StopsOne}
-use Rattle.fish_run.specs.Runs.{CanClose, CanGoOn}
-use Rattle.fish_run.specs.Steps.{HasRounds, HasRunFirst, StopsRounds}
+use Rattle.fish_run.specs.within.Running.{EndsOne, StopsOne}
+use Rattle.fish_run.specs.within.Runs.{CanClose, CanGoOn}
+use Rattle.fish_run.specs.within.Steps.{HasRounds, HasRunFirst, StopsRounds}
 use Rattle.fish_run.specs.declared.fault.RunFault.TheVariants as fault
 use Rattle.fish_run.specs.declared.lasting.Stopped.{Stopped}
 use Rattle.fish_run.specs.declared.parts.Ended.{Ended}

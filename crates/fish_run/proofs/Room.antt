@@ -21,7 +21,7 @@ use Rattle.fish_rule.specs.World.{World, high, last_line, low}
 use Rattle.fish_rule.specs.declared.view.Key.{Key}
 use Rattle.fish_rule.specs.declared.view.Kind.TheVariants.{Mark, Stored, Void}
 use Rattle.fish_rule.specs.declared.view.View.{View}
-use Rattle.fish_run.specs.Runs.{CanGoOn}
+use Rattle.fish_run.specs.within.Runs.{CanGoOn}
 use Rattle.fish_run.specs.Tables.{IsNearLimits}
 use Rattle.fish_store.proofs.Beginning.{carried_shape}
 use Rattle.fish_store.specs.declared.store.Store.{Store}

@@ -34,11 +34,11 @@ use Rattle.fish_run.specs.within.Going.{EndsRounds, GoesIn, HasNext, HasStepped,
 use Rattle.fish_run.specs.within.Turning.{IsRenewed}
 use Rattle.fish_run.specs.within.Parts.{StopsLanes}
 use Rattle.fish_run.specs.Reports.{end_of, first_number, last_end}
-use Rattle.fish_run.specs.Rolls.{RollsOn, StopsRoll}
+use Rattle.fish_run.specs.within.Rolls.{RollsOn, StopsRoll}
 use Rattle.fish_run.specs.Joins.{block_said, lanes_after, nothing_said, said_over}
 use Rattle.fish_run.specs.Rounds.{AreAll, FollowOn, GoOn, GoesOnWith, IsNext, given_after, given_in}
-use Rattle.fish_run.specs.Runs.{Behind, CanClose, CanGoOn}
-use Rattle.fish_run.specs.Steps.{AreWhole, HasRounds, Leaves}
+use Rattle.fish_run.specs.within.Runs.{Behind, CanClose, CanGoOn}
+use Rattle.fish_run.specs.within.Steps.{AreWhole, HasRounds, Leaves}
 use Rattle.fish_run.specs.Tables.{AreRenewed, IsNearLimits}
 use Rattle.fish_run.specs.Works.{AreNumbered, to_do}
 use Rattle.fish_run.specs.declared.fault.RunFault.{RunFault}

@@ -11,7 +11,7 @@ use Rattle.fish_rule.specs.declared.view.Key.{Key}
 use Rattle.fish_rule.specs.declared.view.View.{View}
 use Rattle.fish_run.specs.Blocks.{AreInOne, Round}
 use Rattle.fish_run.specs.within.Turning.{FindNoneFull, says_full}
-use Rattle.fish_run.specs.Steps.{IsTableAfter}
+use Rattle.fish_run.specs.within.Steps.{IsTableAfter}
 use Rattle.fish_run.specs.Tables.{AreRenewed, IsNearLimits, is_next_new}
 
 one_join : (rounds more : List Round) → AreInOne rounds → AreInOne more → AreInOne (rounds ++ more)

@@ -12,10 +12,11 @@ use Rattle.fish_rule.specs.declared.view.Shut.{Shut}
 use Rattle.fish_rule.specs.declared.view.View.{View}
 use Rattle.fish_run.proofs.Blocks.{committed_later, committed_more, marked_later, marks_more}
 use Rattle.fish_run.proofs.Tables.{table_both, table_cut, table_more, table_on, table_rolled, table_self}
-use Rattle.fish_run.specs.Blocks.{AreAcknowledged, AreFullSince, AreMarked, HasFoundFull, IsFullOf, Round, SaysCut, SaysFirst, SaysOne}
+use Rattle.fish_run.specs.Blocks.{AreAcknowledged, AreFullSince, HasFoundFull, IsFullOf, Round, SaysCut, SaysFirst, SaysOne}
+use Rattle.fish_run.specs.within.Blocks.{AreMarked}
 use Rattle.fish_run.specs.Blocks.{SaysRest, SaysRounds, after_round, after_rounds, begun, begun_for, first_items, in_table, last_table}
 use Rattle.fish_run.specs.Blocks.{left_table, with_cut}
-use Rattle.fish_run.specs.Steps.{HasCutOne, HasRounds, HasRunFirst, HasRunOne, IsTableAfter}
+use Rattle.fish_run.specs.within.Steps.{HasCutOne, HasRounds, HasRunFirst, HasRunOne, IsTableAfter}
 use Rattle.fish_store.proofs.Running.{runs_both}
 use Rattle.fish_store.specs.Sound.{GoesOnHere, IsSoundBehind, Point, Runs}
 use Rattle.fish_whole.proofs.Parts.{goes_later}

@@ -2,7 +2,7 @@
 use Rattle.std.specs.Prelude.{ℕ, ◌≡◌, ◌<◌, ◌≤◌, ◌+◌, List, [], ◌∷◌, ◌++◌, length, map, slice_get, Bool, true, false, Option, Some, None, ⊤}
 use Rattle.fish_catalog.specs.Clamps.{clamped}
 use Rattle.fish_catalog.specs.declared.row.CatRow.{CatRow}
-use Rattle.fish_lanes.specs.Blocks.{AreEnded, EachLane, NameMarks, SaysBlock, control_items}
+use Rattle.fish_lanes.specs.Blocks.{AreEnded, EachLane, SaysBlock, control_items}
 use Rattle.fish_lanes.specs.Controlling.{IsCommitted}
 use Rattle.fish_lanes.specs.Outcome.{IsFullIn, LanesSayPlans}
 use Rattle.fish_lanes.specs.Plans.{RowsAre}
@@ -17,7 +17,6 @@ use Rattle.fish_lanes.specs.declared.work.Work.{Work}
 use Rattle.fish_report.specs.declared.item.Item.{Item}
 use Rattle.fish_rule.specs.Views.{AllOf, Among}
 use Rattle.fish_rule.specs.declared.view.Shut.{Shut}
-use Rattle.fish_rule.specs.declared.view.View.{View}
 use Rattle.fish_run.specs.Faults.{lane_fault}
 use Rattle.fish_run.specs.declared.fault.RunFault.{RunFault}
 use Rattle.fish_whole.specs.Whole.{Whole}
@@ -204,7 +203,3 @@ pub record IsFirstFault (lanes : List Lane) (why : RunFault) : Type 0 where
   pub lane_is : slice_get lanes at ≡ Some lane
   pub is : lane_fault lane.fault ≡ Some why
   pub before : (i : ℕ) (x : Lane) → i < at → slice_get lanes i ≡ Some x → x.fault ≡ cause.None
-
--- all refusals by a full log name marks
-abbrev pub AreMarked : View → List Round → Type 0
-AreMarked u rounds = (b : Round) → Among b rounds → NameMarks u b.lanes

@@ -1,5 +1,5 @@
 -- Why a run stops.
-use Rattle.std.specs.Prelude.{◌≡◌, ⊤, Option, None, Some}
+use Rattle.std.specs.Prelude.{⊤, Option, None, Some}
 use Rattle.fish_flush.specs.declared.refusal.FlushRefusal.{FlushRefusal}
 use Rattle.fish_flush.specs.declared.refusal.FlushRefusal.TheVariants as flush
 use Rattle.fish_lanes.specs.declared.work.LaneFault.{LaneFault}
@@ -32,10 +32,6 @@ lane_fault cause.None = None
 lane_fault cause.Memory = Some fault.Memory
 lane_fault cause.Disk = Some fault.Disk
 lane_fault (cause.Damaged number) = Some (fault.Damaged number)
-
--- the fault is one of a checkpoint
-abbrev pub IsCommitFault : RunFault → Type 0
-IsCommitFault why = (r : FlushRefusal) × (why ≡ flush_fault r)
 
 -- no record was damaged
 abbrev pub IsUndamaged : RunFault → Type 0

@@ -3,11 +3,7 @@ pub mod Faults
 pub mod Joins
 pub mod Ran
 pub mod Reports
-pub mod Rolls
 pub mod Rounds
-pub mod Running
-pub mod Runs
-pub mod Steps
 pub mod Tables
 pub mod Works
 pub mod within

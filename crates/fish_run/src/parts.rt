@@ -7,7 +7,7 @@ ghost use Rattle.fish_outside.specs.Causes.{Rose};
 ghost use Rattle.fish_outside.specs.Content.{SameFiles};
 ghost use Rattle.fish_run.specs.Joins.{nothing_said};
 ghost use Rattle.fish_run.specs.within.Parts.{AreNewLanes, EndsBlock, EndsLanes, EndsParts, StopsLanes, StopsParts};
-ghost use Rattle.fish_run.specs.Runs.{CanGoOn};
+ghost use Rattle.fish_run.specs.within.Runs.{CanGoOn};
 
 use crate::fault::RunFault;
 use crate::lasting::Stopped;

@@ -13,9 +13,9 @@ ghost use Rattle.fish_run.specs.Blocks.{IsFirstFault};
 ghost use Rattle.fish_run.specs.within.Going.{HasStepped, RestOf, StepsLane};
 ghost use Rattle.fish_run.specs.within.Turning.{FindNoneFull, IsRenewed, StopsTurn, TurnsAll, TurnsOn, says_full};
 ghost use Rattle.fish_run.specs.Joins.{goes_on};
-ghost use Rattle.fish_run.specs.Rolls.{StopsRoll};
-ghost use Rattle.fish_run.specs.Runs.{Behind, CanClose, CanGoOn};
-ghost use Rattle.fish_run.specs.Steps.{AreWhole, Leaves};
+ghost use Rattle.fish_run.specs.within.Rolls.{StopsRoll};
+ghost use Rattle.fish_run.specs.within.Runs.{Behind, CanClose, CanGoOn};
+ghost use Rattle.fish_run.specs.within.Steps.{AreWhole, Leaves};
 
 use crate::fault::RunFault;
 use crate::lasting::{Stopped, roll_on};

@@ -8,7 +8,7 @@ ghost use Rattle.fish_report.specs.Writing.{HasWriteCause};
 ghost use Rattle.fish_run.specs.Blocks.{IsFirstFault};
 ghost use Rattle.fish_run.specs.Reports.{block_foot, block_head, first_item, lane_foot, lane_head, lane_items, said_items};
 ghost use Rattle.fish_run.specs.Reports.{said_refused};
-ghost use Rattle.fish_run.specs.Steps.{AreWhole};
+ghost use Rattle.fish_run.specs.within.Steps.{AreWhole};
 
 use crate::fault::{RunFault, lane_fault};
 use crate::saying::Said;

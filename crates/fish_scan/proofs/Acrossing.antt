@@ -1,7 +1,7 @@
 -- What was read on both sides of the base is an answer.
 use Rattle.std.proofs.Common.{◌≡◌, ℕ, ◌≤◌, List, [], ◌++◌, min, refl, sym, ap, ◌∙◌, subst, arith}
 use Rattle.std.specs.Prelude.{Option}
-use Rattle.fish_cold.specs.Caching.{IsUndamaged}
+use Rattle.fish_cold.specs.within.Caching.{IsUndamaged}
 use Rattle.fish_cold.specs.Carries.{CarriesTable}
 use Rattle.fish_cold.specs.declared.cold.Cold.{Cold}
 use Rattle.fish_cold.specs.declared.refusal.ColdRefusal.{ColdRefusal}
@@ -17,16 +17,19 @@ use Rattle.fish_scan.proofs.Answering.{asked_later, planned_later}
 use Rattle.fish_scan.proofs.Loading.{records_later}
 use Rattle.fish_scan.proofs.OlderRows.{older_selection}
 use Rattle.fish_scan.proofs.Working.{all_allowed_later}
-use Rattle.fish_scan.specs.Across.{HasReadAcross, IsAnswerWith, IsRefusedWith, IsUndamagedScan}
+use Rattle.fish_scan.specs.Across.{IsAnswerWith, IsRefusedWith, IsUndamagedScan}
+use Rattle.fish_scan.specs.within.Across.{HasReadAcross}
 use Rattle.fish_scan.specs.Below.{AreOlderAllowed}
-use Rattle.fish_scan.specs.Colder.{IsDamageIn}
-use Rattle.fish_scan.specs.Cutting.{last_below, pieces_above, pieces_below}
+use Rattle.fish_scan.specs.within.Colder.{IsDamageIn}
+use Rattle.fish_scan.specs.Cutting.{pieces_above, pieces_below}
+use Rattle.fish_scan.specs.within.Cutting.{last_below}
 use Rattle.fish_scan.specs.Matching.{Finds}
-use Rattle.fish_scan.specs.Older.{FindsOlder}
+use Rattle.fish_scan.specs.within.Older.{FindsOlder}
 use Rattle.fish_scan.specs.Parses.{HasParsed}
-use Rattle.fish_scan.specs.Reach.{first_in}
+use Rattle.fish_scan.specs.within.Reach.{first_in}
 use Rattle.fish_scan.specs.Refusals.{refusal_of}
-use Rattle.fish_scan.specs.Scans.{IsPlannedScan, IsUnplanned, OnlyScans}
+use Rattle.fish_scan.specs.Scans.{IsUnplanned, OnlyScans}
+use Rattle.fish_scan.specs.within.Scans.{IsPlannedScan}
 use Rattle.fish_scan.specs.Work.{AreAllowed}
 use Rattle.fish_scan.specs.declared.ask.Ask.{Ask}
 use Rattle.fish_scan.specs.declared.refusal.ScanRefusal.{ScanRefusal}

@@ -33,13 +33,15 @@ use Rattle.fish_scan.proofs.Beginnings.{interval_later}
 use Rattle.fish_rule.proofs.laws.Members.{at_among}
 use Rattle.fish_scan.proofs.Looking.{open_later, open_sooner}
 use Rattle.fish_scan.proofs.Reaching.{reached_still}
-use Rattle.fish_scan.specs.Indices.{IsIndex}
+use Rattle.fish_scan.specs.within.Indices.{IsIndex}
 use Rattle.fish_scan.specs.Intervals.{IsIntervalOf, end_within}
 use Rattle.fish_scan.specs.Matching.{Finds}
-use Rattle.fish_scan.specs.Pieces.{AreReadable, IsReadable}
-use Rattle.fish_scan.specs.Reach.{IsExact, IsRange, IsReach, end_of}
-use Rattle.fish_scan.specs.Reading.{Adds}
-use Rattle.fish_scan.specs.Scans.{IsAsked, IsCovered, IsPlan, IsPlanRefused, IsPlanned, IsPlannedScan, IsQuery}
+use Rattle.fish_scan.specs.within.Pieces.{AreReadable, IsReadable}
+use Rattle.fish_scan.specs.Reach.{IsExact, IsRange, end_of}
+use Rattle.fish_scan.specs.within.Reach.{IsReach}
+use Rattle.fish_scan.specs.within.Reading.{Adds}
+use Rattle.fish_scan.specs.Scans.{IsAsked, IsCovered, IsPlan, IsPlanned}
+use Rattle.fish_scan.specs.within.Scans.{IsPlanRefused, IsPlannedScan, IsQuery}
 use Rattle.fish_scan.specs.Scans.{IsUnplanned, OnlyPlans, OnlyScans, first_asked}
 use Rattle.fish_scan.specs.declared.ask.Ask.{Ask}
 use Rattle.fish_scan.specs.declared.ask.How.{How}

@@ -16,8 +16,10 @@ use Rattle.fish_rule.specs.Views.{Among}
 use Rattle.fish_rule.specs.declared.view.RegistryWord.{RegistryWord}
 use Rattle.fish_rule.specs.declared.view.View.{View}
 use Rattle.fish_scan.proofs.Lists.{among_last}
-use Rattle.fish_scan.specs.Intervals.{AddsInterval, AreIntervals, HasEndKnown, IsBegun, IsIntervalOf, IsTaken}
-use Rattle.fish_scan.specs.Intervals.{IsUnbegun, OnlyBoundaries, end_within}
+use Rattle.fish_scan.specs.Intervals.{AreIntervals, HasEndKnown, IsBegun, IsIntervalOf}
+use Rattle.fish_scan.specs.within.Intervals.{AddsInterval, IsTaken}
+use Rattle.fish_scan.specs.Intervals.{end_within}
+use Rattle.fish_scan.specs.within.Intervals.{IsUnbegun, OnlyBoundaries}
 
 -- ---- loads
 

@@ -16,11 +16,13 @@ use Rattle.fish_scan.proofs.OlderLoads.{all_older_later, older_allowed_more}
 use Rattle.fish_scan.proofs.OlderRows.{adds_older_both, adds_older_none}
 use Rattle.fish_scan.proofs.Walks.{index_later}
 use Rattle.fish_scan.proofs.Working.{take_all}
-use Rattle.fish_scan.specs.Below.{AreOlderAllowed, HasReadBelow, HasReadPiece, older_parses, older_parses_of}
-use Rattle.fish_scan.specs.Cutting.{IsOlderReadable}
+use Rattle.fish_scan.specs.Below.{AreOlderAllowed, older_parses, older_parses_of}
+use Rattle.fish_scan.specs.within.Below.{HasReadBelow, HasReadPiece}
+use Rattle.fish_scan.specs.within.Cutting.{IsOlderReadable}
 use Rattle.fish_scan.specs.Indices.{bucket_of_value}
-use Rattle.fish_scan.specs.Older.{AddsOlder, stored_within}
-use Rattle.fish_scan.specs.OlderReading.{HasReadOlder, HasWalkedOlder}
+use Rattle.fish_scan.specs.Older.{stored_within}
+use Rattle.fish_scan.specs.within.Older.{AddsOlder}
+use Rattle.fish_scan.specs.within.OlderReading.{HasReadOlder, HasWalkedOlder}
 use Rattle.fish_scan.specs.OlderWork.{IsOlderFullAllowed, IsOlderIndexAllowed}
 use Rattle.fish_value.specs.declared.row.Row.{Row}
 use Rattle.fish_value.specs.declared.value.Value.{Value}

@@ -10,8 +10,9 @@ use Rattle.fish_plan.specs.declared.pieces.Piece.{Piece}
 use Rattle.fish_plan.specs.declared.pieces.Piece.TheVariants.{Full, Index}
 use Rattle.fish_rule.specs.declared.view.View.{View}
 use Rattle.fish_scan.proofs.CutPieces.{cut_none, cut_some, map_none, map_some}
-use Rattle.fish_scan.specs.Cutting.{AreOlderReadable, IsOlderReadable, above_of, below_of, ended, pieces_above, pieces_below}
-use Rattle.fish_scan.specs.Pieces.{AreReadable, IsReadable}
+use Rattle.fish_scan.specs.Cutting.{above_of, below_of, ended, pieces_above, pieces_below}
+use Rattle.fish_scan.specs.within.Cutting.{AreOlderReadable, IsOlderReadable}
+use Rattle.fish_scan.specs.within.Pieces.{AreReadable, IsReadable}
 use Rattle.fish_scan.specs.declared.reach.Reach.{Reach}
 
 -- ---- where a cut piece comes from

@@ -15,8 +15,9 @@ use Rattle.fish_rule.specs.declared.view.View.{View}
 use Rattle.fish_scan.proofs.Loading.{loaded_both, loaded_none, loaded_within, rises_both, rises_within, rows_fall, rows_given}
 use Rattle.fish_scan.proofs.Loading.{rows_later}
 use Rattle.fish_scan.specs.Indices.{bucket_of_value}
-use Rattle.fish_scan.specs.Reading.{Adds}
-use Rattle.fish_scan.specs.Work.{AreEntries, AreRecordsOf, HasLoadedRows, IsIndexWork, RisesBy, words_of}
+use Rattle.fish_scan.specs.within.Reading.{Adds}
+use Rattle.fish_scan.specs.Work.{AreEntries, RisesBy, words_of}
+use Rattle.fish_scan.specs.within.Work.{AreRecordsOf, HasLoadedRows, IsIndexWork}
 use Rattle.fish_value.specs.declared.row.Row.{Row}
 use Rattle.fish_value.specs.declared.value.Value.{Value}
 

@@ -18,10 +18,12 @@ use Rattle.fish_rule.specs.declared.view.Key.{Key}
 use Rattle.fish_rule.specs.declared.view.Kind.TheVariants.{Mark, Stored, Void}
 use Rattle.fish_rule.specs.declared.view.View.{View}
 use Rattle.fish_scan.proofs.Reaching.{found_word}
-use Rattle.fish_scan.specs.Reach.{AreLooks, IsCut, IsExact, end_of}
+use Rattle.fish_scan.specs.Reach.{IsExact, end_of}
+use Rattle.fish_scan.specs.within.Reach.{AreLooks, IsCut}
 use Rattle.fish_walk.proofs.Looking.{ends_later}
 use Rattle.fish_walk.specs.Looks.{IsLookAt, IsTailCount, KnowsEntry, with_look}
-use Rattle.fish_walk.specs.Settling.{EndsAt, HasTail, IsEnd, OnlyLooks, OnlySettles, StopsAt}
+use Rattle.fish_walk.specs.Settling.{EndsAt, HasTail, IsEnd, OnlySettles, StopsAt}
+use Rattle.fish_walk.specs.within.Settling.{OnlyLooks}
 use Rattle.fish_walk.specs.declared.outcome.Look.{Look}
 use Rattle.fish_walk.specs.declared.outcome.Look.TheVariants as look
 

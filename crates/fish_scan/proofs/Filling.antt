@@ -11,9 +11,10 @@ use Rattle.fish_scan.proofs.Parsing.{parsed_more, parsed_start}
 use Rattle.fish_scan.proofs.Telling.{adds_both, adds_later, adds_none}
 use Rattle.fish_scan.proofs.Walks.{index_later}
 use Rattle.fish_scan.proofs.Working.{take_all}
-use Rattle.fish_scan.specs.Parses.{HasParsed, HasParsedPiece}
-use Rattle.fish_scan.specs.Pieces.{AreReadable, IsReadable, full_numbers, full_of}
-use Rattle.fish_scan.specs.Reading.{Adds}
+use Rattle.fish_scan.specs.Parses.{HasParsed}
+use Rattle.fish_scan.specs.within.Parses.{HasParsedPiece}
+use Rattle.fish_scan.specs.within.Pieces.{AreReadable, IsReadable, full_numbers, full_of}
+use Rattle.fish_scan.specs.within.Reading.{Adds}
 use Rattle.fish_scan.specs.declared.reach.Reach.{Reach}
 use Rattle.fish_value.specs.declared.row.Row.{Row}
 use Rattle.fish_value.specs.declared.value.Value.{Value}

@@ -18,7 +18,8 @@ use Rattle.fish_scan.proofs.Finding.{falls_both, same_row}
 use Rattle.fish_scan.proofs.Indexing.{entry_match, match_entry}
 use Rattle.fish_scan.proofs.Lists.{among_last}
 use Rattle.fish_scan.proofs.Nodes.{node_older, node_once}
-use Rattle.fish_scan.specs.Indices.{Gathers, IsIndex, bucket_of_value}
+use Rattle.fish_scan.specs.Indices.{bucket_of_value}
+use Rattle.fish_scan.specs.within.Indices.{Gathers, IsIndex}
 use Rattle.fish_scan.specs.Matching.{Finds, Matches}
 use Rattle.fish_value.specs.declared.row.Row.{Row}
 use Rattle.fish_value.specs.declared.value.Value.{Value}

@@ -40,7 +40,8 @@ use Rattle.fish_rule.specs.declared.view.Key.{Key}
 use Rattle.fish_rule.specs.declared.view.Kind.TheVariants.{Stored}
 use Rattle.fish_rule.specs.declared.view.View.{View}
 use Rattle.fish_scan.proofs.Lists.{among_contains, contains_among}
-use Rattle.fish_scan.specs.Indices.{IsIndex, bucket_of_value}
+use Rattle.fish_scan.specs.Indices.{bucket_of_value}
+use Rattle.fish_scan.specs.within.Indices.{IsIndex}
 use Rattle.fish_scan.specs.Matching.{Matches}
 use Rattle.fish_value.specs.declared.field.Form.{Form}
 use Rattle.fish_value.specs.declared.value.Value.{Value}

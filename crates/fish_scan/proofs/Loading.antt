@@ -7,7 +7,8 @@ use Rattle.fish_rule.specs.Views.{Among}
 use Rattle.fish_rule.specs.declared.view.Found.{Found}
 use Rattle.fish_rule.specs.declared.view.Kind.TheVariants.{Stored}
 use Rattle.fish_rule.specs.declared.view.View.{View}
-use Rattle.fish_scan.specs.Work.{AreRecords, AreRecordsOf, HasLoadedRows, IsRecordAt, RisesBy, words_of}
+use Rattle.fish_scan.specs.Work.{AreRecords, RisesBy, words_of}
+use Rattle.fish_scan.specs.within.Work.{AreRecordsOf, HasLoadedRows, IsRecordAt}
 use Rattle.fish_value.specs.declared.row.Row.{Row}
 use Rattle.fish_walk.specs.Looks.{CountsLoads, HasFound}
 

@@ -20,11 +20,13 @@ use Rattle.fish_rule.specs.declared.view.Position.{Position}
 use Rattle.fish_rule.specs.declared.view.View.{View}
 use Rattle.fish_scan.proofs.Lists.{among_last, get_before, get_here, get_last, length_more}
 use Rattle.fish_scan.proofs.Reaching.{reached_word, seen_still}
-use Rattle.fish_scan.specs.Reach.{AreLooks, AreSeen, IsCut, IsExact, IsReach, IsReached, Rise, WasOpen, end_of}
+use Rattle.fish_scan.specs.Reach.{IsExact, Rise, WasOpen, end_of}
+use Rattle.fish_scan.specs.within.Reach.{AreLooks, AreSeen, IsCut, IsReach, IsReached}
 use Rattle.fish_scan.specs.declared.reach.Reach.{Reach}
 use Rattle.fish_walk.proofs.Looking.{entry_later, look_loads, looked_both, stops_within, unknown_unfinished, zero_told}
 use Rattle.fish_walk.specs.Looks.{HasOpens, IsLookAt, KeepsOpens, look_of, with_look}
-use Rattle.fish_walk.specs.Settling.{HasLoadedCount, HasTail, IsEnd, OnlyLooks, OnlySettles, StopsAt}
+use Rattle.fish_walk.specs.Settling.{HasLoadedCount, HasTail, IsEnd, OnlySettles, StopsAt}
+use Rattle.fish_walk.specs.within.Settling.{OnlyLooks}
 use Rattle.fish_walk.specs.declared.outcome.Look.{Look}
 use Rattle.fish_walk.specs.declared.outcome.Look.TheVariants as look
 

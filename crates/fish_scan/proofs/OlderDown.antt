@@ -18,8 +18,8 @@ use Rattle.fish_scan.proofs.OlderFinding.{AreCovered, IsFinding, find_end, find_
 use Rattle.fish_scan.proofs.OlderLoads.{IsDescended, entries_lower, entries_more, older_words_more, records_lower, records_more}
 use Rattle.fish_scan.proofs.PriorChains.{IsHere, IsOn, on_start}
 use Rattle.fish_scan.proofs.PriorRecords.{prior_number}
-use Rattle.fish_scan.specs.OlderReading.{IsPayloadAt, IsVisit, Passes, Takes}
-use Rattle.fish_scan.specs.Older.{FindsOlder}
+use Rattle.fish_scan.specs.within.OlderReading.{IsPayloadAt, IsVisit, Passes, Takes}
+use Rattle.fish_scan.specs.within.Older.{FindsOlder}
 use Rattle.fish_scan.specs.OlderWork.{AreOlderRecords, IsOlderEntry, IsOlderIndexAllowed, older_words}
 use Rattle.fish_value.specs.declared.row.Row.{Row}
 use Rattle.fish_value.specs.declared.value.Value.{Value}

@@ -24,7 +24,7 @@ use Rattle.fish_scan.proofs.Lists.{among_contains, among_last, contains_among}
 use Rattle.fish_scan.proofs.PriorChains.{IsHere, IsOn}
 use Rattle.fish_scan.proofs.PriorRecords.{key_once, prior_stored, stored_prior}
 use Rattle.fish_scan.proofs.UnderValues.{has_under, under_has}
-use Rattle.fish_scan.specs.Older.{FindsOlder, IsOlderMatch}
+use Rattle.fish_scan.specs.within.Older.{FindsOlder, IsOlderMatch}
 use Rattle.fish_value.specs.declared.field.Form.{Form}
 use Rattle.fish_value.specs.declared.row.Row.{Row}
 use Rattle.fish_value.specs.declared.value.Value.{Value}

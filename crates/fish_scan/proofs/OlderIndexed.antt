@@ -18,8 +18,8 @@ use Rattle.fish_rule.specs.Views.{AllOf}
 use Rattle.fish_rule.specs.declared.view.Key.{Key}
 use Rattle.fish_rule.specs.declared.view.RegistryWord.{RegistryWord}
 use Rattle.fish_rule.specs.declared.view.View.{View}
-use Rattle.fish_scan.specs.Indices.{IsIndex}
-use Rattle.fish_scan.specs.OlderReading.{IsCoveredBy, IsHeadOf}
+use Rattle.fish_scan.specs.within.Indices.{IsIndex}
+use Rattle.fish_scan.specs.within.OlderReading.{IsCoveredBy, IsHeadOf}
 
 -- the words that were read stand there
 read_of : (k : Key) (g : ℕ → ℕ) (ws : List RegistryWord) → AllOf (IsRegistered k g) ws → HasRead g ws

@@ -5,10 +5,11 @@ use Rattle.std.specs.Result.{IsErrAnd}
 use Rattle.fish_catalog.specs.declared.entry.Entry.{Entry}
 use Rattle.fish_catalog.specs.declared.entry.Entry.TheVariants.{Stored, Void}
 use Rattle.fish_cold.proofs.Carried.{carried, carried_key, record_there}
-use Rattle.fish_cold.specs.Answers.{Answers, IsDamageOf, IsReadingOf, LoadsWords, Walks}
+use Rattle.fish_cold.specs.Answers.{Answers, IsDamageOf, LoadsWords, Walks}
+use Rattle.fish_cold.specs.within.Answers.{IsReadingOf}
 use Rattle.fish_cold.specs.Cached.{HasNodeOn, HasRegion, IsReadFrom, words_on}
 use Rattle.fish_cold.specs.Chains.{IsKeyAt}
-use Rattle.fish_cold.specs.Caching.{IsUndamaged}
+use Rattle.fish_cold.specs.within.Caching.{IsUndamaged}
 use Rattle.fish_cold.specs.Carries.{CarriesTable, IsEntryAnswer, IsEntryRead}
 use Rattle.fish_cold.specs.declared.cold.Cold.{Cold}
 use Rattle.fish_cold.specs.declared.refusal.ColdRefusal.{ColdRefusal}
@@ -24,11 +25,12 @@ use Rattle.fish_scan.proofs.Carrying.{of_told}
 use Rattle.fish_scan.proofs.OlderLoads.{older_full_both, older_full_none, older_full_one, older_full_other}
 use Rattle.fish_scan.proofs.OlderRows.{adds_older_both, adds_older_none, stored_more, stored_none, stored_one}
 use Rattle.fish_scan.proofs.PriorRecords.{prior_number, prior_parsable, stored_prior}
-use Rattle.fish_scan.specs.Colder.{IsDamageIn}
-use Rattle.fish_scan.specs.Older.{AddsOlder}
-use Rattle.fish_scan.specs.OlderReading.{HasReadOlder, IsPayloadAt}
+use Rattle.fish_scan.specs.within.Colder.{IsDamageIn}
+use Rattle.fish_scan.specs.within.Older.{AddsOlder}
+use Rattle.fish_scan.specs.within.OlderReading.{HasReadOlder, IsPayloadAt}
 use Rattle.fish_scan.specs.OlderWork.{IsOlderFullAllowed}
-use Rattle.fish_scan.specs.Reading.{IsParsable, parses_of}
+use Rattle.fish_scan.specs.Reading.{parses_of}
+use Rattle.fish_scan.specs.within.Reading.{IsParsable}
 use Rattle.fish_value.specs.declared.field.Form.{Form}
 use Rattle.fish_value.specs.declared.row.Row.{Row}
 use Rattle.fish_value.specs.declared.value.Value.{Value}

@@ -16,8 +16,10 @@ use Rattle.fish_rule.specs.Views.{Among}
 use Rattle.fish_scan.proofs.Finding.{falls_below, falls_both}
 use Rattle.fish_scan.proofs.Lists.{among_contains, contains_among}
 use Rattle.fish_scan.proofs.Selecting.{falls_same}
-use Rattle.fish_scan.specs.Older.{AddsOlder, FindsOlder, IsOlderMatch, parses_at, selectable, stored_from, stored_within}
-use Rattle.fish_scan.specs.Reading.{IsMatching, parses_of}
+use Rattle.fish_scan.specs.Older.{parses_at, selectable, stored_from, stored_within}
+use Rattle.fish_scan.specs.within.Older.{AddsOlder, FindsOlder, IsOlderMatch}
+use Rattle.fish_scan.specs.Reading.{parses_of}
+use Rattle.fish_scan.specs.within.Reading.{IsMatching}
 use Rattle.fish_value.specs.declared.field.Form.{Form}
 use Rattle.fish_value.specs.declared.row.Row.{Row}
 use Rattle.fish_value.specs.declared.value.Value.{Value}

@@ -23,8 +23,9 @@ use Rattle.fish_rule.specs.declared.view.View.{View}
 use Rattle.fish_scan.proofs.Loading.{records_both, records_later}
 use Rattle.fish_scan.proofs.Reaching.{found_code, found_still}
 use Rattle.fish_scan.proofs.Telling.{stored_told}
-use Rattle.fish_scan.specs.Parses.{HasParsed, HasParsedPiece, IsInFull}
-use Rattle.fish_scan.specs.Pieces.{IsReadable}
+use Rattle.fish_scan.specs.Parses.{HasParsed, IsInFull}
+use Rattle.fish_scan.specs.within.Parses.{HasParsedPiece}
+use Rattle.fish_scan.specs.within.Pieces.{IsReadable}
 use Rattle.fish_scan.specs.Reading.{parses_of}
 use Rattle.fish_scan.specs.declared.reach.Reach.{Reach}
 use Rattle.fish_walk.specs.Looks.{HasFound, IsLookAt}

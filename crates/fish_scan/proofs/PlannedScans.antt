@@ -11,8 +11,9 @@ use Rattle.fish_rule.specs.declared.view.Key.{Key}
 use Rattle.fish_rule.specs.declared.view.View.{View}
 use Rattle.fish_scan.proofs.Answering.{asked_later, planned_later, scans_extends}
 use Rattle.fish_scan.specs.Matching.{Finds}
-use Rattle.fish_scan.specs.Reach.{first_in}
-use Rattle.fish_scan.specs.Scans.{IsAnswer, IsCold, IsExplained, IsPlan, IsPlannedScan, IsRefused, IsUnplanned, OnlyScans}
+use Rattle.fish_scan.specs.within.Reach.{first_in}
+use Rattle.fish_scan.specs.Scans.{IsAnswer, IsExplained, IsPlan, IsRefused, IsUnplanned, OnlyScans}
+use Rattle.fish_scan.specs.within.Scans.{IsCold, IsPlannedScan}
 use Rattle.fish_scan.specs.declared.ask.Ask.{Ask}
 use Rattle.fish_scan.specs.declared.ask.How.{How}
 use Rattle.fish_scan.specs.declared.ask.How.TheVariants as how

@@ -18,7 +18,7 @@ use Rattle.fish_layout.proofs.Sizes.{roomy}
 use Rattle.fish_layout.specs.declared.parts.BodyParts.{BodyParts}
 use Rattle.fish_layout.specs.declared.parts.KeyPart.{KeyPart}
 use Rattle.fish_psf.specs.Records.{is_record}
-use Rattle.fish_scan.specs.Reading.{IsParsable}
+use Rattle.fish_scan.specs.within.Reading.{IsParsable}
 use Rattle.fish_value.specs.declared.field.Form.{Form}
 
 module _ {image : List ℕ} {count : ℕ} {end : Reached} (prior : IsPrior image count end) where

@@ -17,7 +17,7 @@ use Rattle.fish_rule.specs.declared.view.Key.{Key}
 use Rattle.fish_rule.specs.declared.view.Kind.{Kind}
 use Rattle.fish_rule.specs.declared.view.Kind.TheVariants.{Mark, Stored, Void}
 use Rattle.fish_rule.specs.declared.view.View.{View}
-use Rattle.fish_scan.specs.Reach.{AreSeen, IsReached}
+use Rattle.fish_scan.specs.within.Reach.{AreSeen, IsReached}
 use Rattle.fish_scan.specs.declared.reach.Reach.{Reach}
 use Rattle.fish_walk.specs.Looks.{HasFound, IsEntryLook, IsLookAt}
 use Rattle.fish_walk.specs.declared.outcome.Look.{Look}

@@ -22,7 +22,7 @@ use Rattle.fish_rule.specs.declared.view.Kind.TheVariants.{Stored, Void}
 use Rattle.fish_rule.specs.declared.view.View.{View}
 use Rattle.fish_scan.proofs.Finding.{finds_both, finds_later, finds_none, finds_one, finds_open, finds_other, told_other, told_void}
 use Rattle.fish_scan.specs.Matching.{Finds}
-use Rattle.fish_scan.specs.Reading.{Adds, IsMatching, IsParsable}
+use Rattle.fish_scan.specs.within.Reading.{Adds, IsMatching, IsParsable}
 use Rattle.fish_chain.proofs.Comparing.{given_later, looked}
 use Rattle.fish_chain.specs.Values.{IsGiven}
 use Rattle.fish_chain.specs.declared.walk.Node.{Node}

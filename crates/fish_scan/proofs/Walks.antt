@@ -20,8 +20,9 @@ use Rattle.fish_rule.specs.declared.table.Walk.{Walk}
 use Rattle.fish_rule.specs.declared.view.Key.{Key}
 use Rattle.fish_rule.specs.declared.view.View.{View}
 use Rattle.fish_scan.proofs.Gathering.{entry_matches, gather_add, gather_end, gather_later, gather_pass, gather_start}
-use Rattle.fish_scan.specs.Indices.{AddsNode, Gathers, IsIndex, bucket_of_value}
-use Rattle.fish_scan.specs.Reading.{Adds}
+use Rattle.fish_scan.specs.Indices.{bucket_of_value}
+use Rattle.fish_scan.specs.within.Indices.{AddsNode, Gathers, IsIndex}
+use Rattle.fish_scan.specs.within.Reading.{Adds}
 use Rattle.fish_value.specs.declared.row.Row.{Row}
 use Rattle.fish_value.specs.declared.value.Value.{Value}
 

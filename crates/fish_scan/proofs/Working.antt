@@ -14,7 +14,8 @@ use Rattle.fish_rule.specs.declared.view.View.{View}
 use Rattle.fish_scan.proofs.Descending.{entries_later}
 use Rattle.fish_scan.proofs.Loading.{record_later, record_loads, records_both, records_later, rises_both, rises_none, words_both}
 use Rattle.fish_scan.proofs.Walks.{bucket_still}
-use Rattle.fish_scan.specs.Work.{AreAllowed, AreEntries, ArePiecesWork, IsAllowed, IsFullWork, IsPieceWork, IsRecordAt}
+use Rattle.fish_scan.specs.Work.{AreAllowed, AreEntries, IsAllowed}
+use Rattle.fish_scan.specs.within.Work.{ArePiecesWork, IsFullWork, IsPieceWork, IsRecordAt}
 use Rattle.fish_scan.specs.Work.{IsWork, RisesBy}
 use Rattle.fish_value.specs.declared.row.Row.{Row}
 use Rattle.fish_value.specs.declared.value.Value.{Value}

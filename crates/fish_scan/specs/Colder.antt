@@ -2,8 +2,7 @@
 use Rattle.std.specs.Prelude.{ℕ, ◌≡◌, ◌≤◌, List, Option, Result, IsErrOf, IfSome}
 use Rattle.fish_cold.specs.Cached.{IsReadFrom}
 use Rattle.fish_cold.specs.declared.cold.Cold.{Cold}
-use Rattle.fish_cold.specs.declared.refusal.ColdRefusal.{ColdRefusal}
-use Rattle.fish_cold.specs.declared.refusal.ColdRefusal.TheVariants.{Damaged, DiskFault, OutOfMemory}
+use Rattle.fish_cold.specs.declared.refusal.ColdRefusal.TheVariants.{DiskFault}
 use Rattle.fish_disk.specs.Content.{StillReads}
 use Rattle.fish_disk.specs.Crash.{LeavesOnly}
 use Rattle.fish_outside.specs.Causes.{Rose}
@@ -32,16 +31,6 @@ pub record StaysCold
   pub content_is : StillReads (content disk) (content next)
   pub crash : LeavesOnly images since moment disk next (images disk)
   pub later : faults disk ≤ faults next
-
--- where the disk failed, its count of faults rose
-abbrev pub IsFaultOf : {T : Type 0} → ℕ → ℕ → Result T ColdRefusal → Type 0
-IsFaultOf before now result = IsErrOf result DiskFault → Rose before now
-
--- damage is at a number from one on and up to another
-abbrev pub IsDamageIn : ℕ → ℕ → ColdRefusal → Type 0
-IsDamageIn from to (Damaged n) = (from ≤ n) × (n ≤ to)
-IsDamageIn from to DiskFault = from ≤ to
-IsDamageIn from to OutOfMemory = Unit {0}
 
 -- the same of a scan
 abbrev pub IsScanFault : {T : Type 0} → ℕ → ℕ → Result T ScanRefusal → Type 0

@@ -1,14 +1,9 @@
 -- The pieces of a plan, cut where a table begins.
-use Rattle.std.specs.Prelude.{ℕ, ◌≤◌, List, Option, Some, None, if◌then◌else◌, max, min, nat_lt, ◌≡◌, slice_get}
+use Rattle.std.specs.Prelude.{ℕ, List, Option, Some, None, if◌then◌else◌, max, min, nat_lt}
 use Rattle.std.specs.List.{filter_map}
-use Rattle.fish_lang.specs.Definition.{Definition}
 use Rattle.fish_plan.specs.Pieces.{piece_from, piece_to}
 use Rattle.fish_plan.specs.declared.pieces.Piece.{Piece}
 use Rattle.fish_plan.specs.declared.pieces.Piece.TheVariants.{Full, Index}
-use Rattle.fish_rule.specs.declared.view.Key.{Key}
-use Rattle.fish_rule.specs.declared.view.View.{View}
-use Rattle.fish_scan.specs.Indices.{IsIndex}
-use Rattle.fish_scan.specs.declared.reach.Reach.{Reach}
 
 -- the piece with other ends
 abbrev pub ended : Piece → ℕ → ℕ → Piece
@@ -30,17 +25,3 @@ pieces_above base pieces = filter_map (above_of base) pieces
 -- and what of them is below it
 abbrev pub pieces_below : ℕ → List Piece → List Piece
 pieces_below base pieces = filter_map (below_of base) pieces
-
--- where the part of the range ends that is below the table, which is at its beginning where no number of it is
-abbrev pub last_below : Key → Reach → ℕ
-last_below k reach = max reach.from (min reach.to k.number)
-
--- a piece below the table can be read: in the file each of its numbers is looked at, or an index holds them
-abbrev pub IsOlderReadable : View → Definition → ℕ → Piece → Type 0
-IsOlderReadable v def base (Index id from to) = (from ≤ to) × (to ≤ base) × IsIndex v def id from to
-IsOlderReadable v def base (Full from to) = (from ≤ to) × (to ≤ base)
-
--- so each of them can
-abbrev pub AreOlderReadable : View → Definition → ℕ → List Piece → Type 0
-AreOlderReadable v def base pieces = (position : ℕ) (piece : Piece) → slice_get pieces position ≡ Some piece
-    → IsOlderReadable v def base piece

@@ -8,12 +8,11 @@ pub mod Laws
 pub mod Matching
 pub mod Naming
 pub mod Older
-pub mod OlderReading
 pub mod OlderWork
 pub mod Parses
-pub mod Pieces
 pub mod Reach
 pub mod Reading
 pub mod Refusals
 pub mod Scans
 pub mod Work
+pub mod within

@@ -8,7 +8,7 @@ use Rattle.fish_layout.specs.declared.parts.BodyParts.{BodyParts}
 use Rattle.fish_layout.specs.declared.parts.KeyPart.{KeyPart}
 use Rattle.fish_rule.specs.Views.{Among}
 use Rattle.fish_rule.specs.declared.view.View.{View}
-use Rattle.fish_scan.specs.Work.{AreEntries, RisesBy}
+use Rattle.fish_scan.specs.Work.{AreEntries}
 use Rattle.fish_value.specs.declared.row.Row.{Row}
 
 -- the words of records
@@ -61,7 +61,3 @@ pub record IsWalkAllowed (v : View) (b loads : ℕ) : Type 0 where
   pub entries : List ℕ
   pub linked : AreEntries v b 0 0 top entries
   pub few : loads ≤ 2 * length entries + 2
-
--- by what such a walk is allowed
-abbrev pub IsWalkWork : View → View → ℕ → ℕ → ℕ → Type 0
-IsWalkWork v u b old new = (most : ℕ) × IsWalkAllowed u b most × RisesBy v u old new most

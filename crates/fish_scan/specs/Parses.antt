@@ -1,6 +1,5 @@
 -- Which records a scan parses: the stored ones of its plan's full pieces that aren't open, each once.
-use Rattle.std.specs.Prelude.{ℕ, ◌≡◌, ◌+◌, ◌<◌, ◌≤◌, List, [], ◌∷◌, length}
-use Rattle.fish_plan.specs.Pieces.{piece_from, piece_to}
+use Rattle.std.specs.Prelude.{ℕ, ◌≡◌, ◌+◌, ◌<◌, ◌≤◌, List, length}
 use Rattle.fish_plan.specs.declared.pieces.Piece.{Piece}
 use Rattle.fish_plan.specs.declared.pieces.Piece.TheVariants.{Full}
 use Rattle.fish_rule.specs.ChainFacts.{Always}
@@ -34,7 +33,3 @@ pub record HasParsed (v : View) (opens : List ℕ) (pieces : List Piece) (from t
   pub records : List Found
   pub are : AreParsed v opens pieces from to records
   pub counted : new ≡ old + length records
-
--- so it did for one piece
-abbrev pub HasParsedPiece : View → List ℕ → Piece → ℕ → ℕ → Type 0
-HasParsedPiece v opens piece old new = HasParsed v opens (piece ∷ []) (piece_from piece) (piece_to piece) old new

@@ -5,7 +5,7 @@ use Rattle.fish_catalog.specs.declared.interval.Interval.{Interval}
 use Rattle.fish_catalog.specs.declared.listed.Listed.{Listed}
 use Rattle.fish_epoch.specs.Definitions.{AreRead, rows_of, version_of}
 use Rattle.fish_epoch.specs.declared.definitions.Known.{Known}
-use Rattle.fish_lang.specs.Definition.{Definition, definition_of}
+use Rattle.fish_lang.specs.Definition.{Definition}
 use Rattle.fish_lang.specs.Language.{IsAccepted}
 use Rattle.fish_plan.specs.Cover.{IsCover}
 use Rattle.fish_plan.specs.Gaps.{HasGap, IsFirstGap}
@@ -20,16 +20,13 @@ use Rattle.fish_rule.specs.declared.view.View.{View}
 use Rattle.fish_scan.specs.Intervals.{AreIntervals}
 use Rattle.fish_scan.specs.Matching.{Finds}
 use Rattle.fish_scan.specs.Naming.{HasNone, IsNewest}
-use Rattle.fish_scan.specs.Reach.{IsExact, IsRange, IsReach}
+use Rattle.fish_scan.specs.Reach.{IsExact, IsRange}
 use Rattle.fish_scan.specs.declared.ask.Answer.{Answer}
 use Rattle.fish_scan.specs.declared.ask.Ask.{Ask}
 use Rattle.fish_scan.specs.declared.ask.How.{How}
 use Rattle.fish_scan.specs.declared.ask.How.TheVariants as how
-use Rattle.fish_scan.specs.declared.matching.Query.{Query}
-use Rattle.fish_scan.specs.declared.reach.Reach.{Reach}
 use Rattle.fish_scan.specs.declared.refusal.ScanRefusal.{ScanRefusal}
 use Rattle.fish_scan.specs.declared.refusal.ScanRefusal.TheVariants as refusal
-use Rattle.fish_scan.specs.declared.scanning.PlannedScan.{PlannedScan}
 use Rattle.fish_walk.specs.Settling.{IsEnd, StopsAt}
 
 -- the second view is the first but for what was learned since, and the tail and the epoch that were seen
@@ -89,34 +86,7 @@ IsPlan v u rows text how.Full from settled to plan = plan ≡ one_full from to
 IsPlan v u rows text how.Auto from settled to plan = IsCovered v u rows text from settled to plan
 IsPlan v u rows text how.Index from settled to plan = IsCovered v u rows text from settled to plan × ¬ HasGap plan settled
 
--- why there is none
-abbrev pub IsPlanRefused : View → View → List Listed → List ℕ → How → ℕ → ℕ → ℕ → ScanRefusal → Type 0
-IsPlanRefused v u rows text way from settled to (refusal.NotCovered first last) = (way ≡ how.Index)
-    × ((plan : List Piece) × IsCovered v u rows text from settled to plan × IsFirstGap plan settled first last)
-IsPlanRefused v u rows text way from settled to refusal.OutOfMemory = ⊤
-IsPlanRefused v u rows text way from settled to (refusal.UnknownName version) = ⊥
-IsPlanRefused v u rows text way from settled to (refusal.EmptyRange first last) = ⊥
-IsPlanRefused v u rows text way from settled to (refusal.ColdRange base) = ⊥
-IsPlanRefused v u rows text way from settled to refusal.DiskFault = ⊥
-IsPlanRefused v u rows text way from settled to (refusal.Damaged number) = ⊥
-
 -- ---- answers
-
--- the definition that a text is, the value that is asked for, and the range
-pub record IsQuery (text : List ℕ) (ask : Ask) (reach : Reach) (query : Query) : Type 0 where
-  pub means : IsAccepted text (definition_of query.def)
-  pub value : query.value ≡ ask.value
-  pub reach_is : query.reach ≡ reach
-
--- what the pass knows before it reads a record
-pub record IsPlannedScan (v u : View) (known : Known) (ask : Ask) (p : PlannedScan) : Type 0 where
-  pub position : ℕ
-  pub asked : IsAsked v u known ask position
-  pub means : IsAccepted asked.named.newest.listed.def (definition_of p.query.def)
-  pub value : p.query.value ≡ ask.value
-  pub reach : IsReach v u (first_asked ask) ask.to p.query.reach
-  pub plan : IsPlan v u (rows_of known) asked.named.newest.listed.def ask.how p.query.reach.from p.query.reach.settled
-      p.query.reach.to p.plan
 
 -- the range of what is asked for, and the plan by which it is to be read
 pub record IsPlanned (v u : View) (known : Known) (ask : Ask) (from to : ℕ) (opens : List ℕ) (plan : List Piece)
@@ -166,16 +136,6 @@ pub record IsUncovered (v u : View) (known : Known) (ask : Ask) (from to : ℕ) 
   pub plan : List Piece
   pub covered : IsCovered v u (rows_of known) asked.named.newest.listed.def first settled last plan
   pub gap : IsFirstGap plan settled from to
-
--- a range is refused where it begins below the log's first number
-abbrev pub IsCold : ℕ → ℕ → ScanRefusal → Type 0
-IsCold base from (refusal.ColdRange found) = (found ≡ base) × (from < base)
-IsCold base from refusal.OutOfMemory = ⊤
-IsCold base from (refusal.UnknownName version) = ⊥
-IsCold base from (refusal.EmptyRange first last) = ⊥
-IsCold base from (refusal.NotCovered first last) = ⊥
-IsCold base from refusal.DiskFault = ⊥
-IsCold base from (refusal.Damaged number) = ⊥
 
 -- why there is no plan
 abbrev pub IsUnplanned : View → View → Known → Ask → ScanRefusal → Type 0

@@ -1,7 +1,7 @@
 //! A scan whose range may begin below the table: what is older is read from the store's file.
 
 ghost use Rattle.std.specs.Prelude.{◌≤◌, ℕ, IfErr, IfOk, IfSome, OnOk};
-ghost use Rattle.fish_cold.specs.Caching.{IsUndamaged};
+ghost use Rattle.fish_cold.specs.within.Caching.{IsUndamaged};
 ghost use Rattle.fish_cold.specs.Carries.{CarriesTable};
 ghost use Rattle.fish_epoch.specs.Definitions.{IsDefsOf};
 ghost use Rattle.fish_lang.specs.Definition.{definition_of};
@@ -9,10 +9,12 @@ ghost use Rattle.fish_plan.specs.Pieces.{Fill};
 ghost use Rattle.fish_rule.specs.Logs.{Extends};
 ghost use Rattle.fish_rule.specs.Passes.{IsPassOf, view};
 ghost use Rattle.fish_rule.specs.Views.{Among};
-ghost use Rattle.fish_scan.specs.Across.{HasReadAcross, IsAnswerWith, IsRefusedWith, IsUndamagedScan};
-ghost use Rattle.fish_scan.specs.Colder.{IsBelow, IsDamageIn, IsFaultOf, IsScanFault, StaysCold};
-ghost use Rattle.fish_scan.specs.Pieces.{AreReadable};
-ghost use Rattle.fish_scan.specs.Reach.{IsReached};
+ghost use Rattle.fish_scan.specs.Across.{IsAnswerWith, IsRefusedWith, IsUndamagedScan};
+ghost use Rattle.fish_scan.specs.within.Across.{HasReadAcross};
+ghost use Rattle.fish_scan.specs.Colder.{IsBelow, IsScanFault, StaysCold};
+ghost use Rattle.fish_scan.specs.within.Colder.{IsDamageIn, IsFaultOf};
+ghost use Rattle.fish_scan.specs.within.Pieces.{AreReadable};
+ghost use Rattle.fish_scan.specs.within.Reach.{IsReached};
 ghost use Rattle.fish_scan.specs.Scans.{IsExplained, OnlyScans};
 
 use crate::ask::{Answer, Ask};

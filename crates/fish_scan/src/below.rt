@@ -1,15 +1,16 @@
 //! The part of a range below the base is read from the file piece by piece, newest first.
 
 ghost use Rattle.std.specs.Prelude.{◌≡◌, ◌+◌, ◌≤◌, IfErr, OnOk};
-ghost use Rattle.fish_cold.specs.Caching.{IsUndamaged};
+ghost use Rattle.fish_cold.specs.within.Caching.{IsUndamaged};
 ghost use Rattle.fish_cold.specs.Carries.{CarriesTable};
 ghost use Rattle.fish_lang.specs.Definition.{definition_of};
 ghost use Rattle.fish_plan.specs.Pieces.{Fill, piece_from};
 ghost use Rattle.fish_rule.specs.Logs.{Extends};
 ghost use Rattle.fish_rule.specs.Passes.{IsPassOf, view};
-ghost use Rattle.fish_scan.specs.Below.{HasReadBelow, HasReadPiece};
-ghost use Rattle.fish_scan.specs.Colder.{IsBelow, IsDamageIn, IsFaultOf, StaysCold};
-ghost use Rattle.fish_scan.specs.Cutting.{AreOlderReadable, IsOlderReadable, last_below};
+ghost use Rattle.fish_scan.specs.within.Below.{HasReadBelow, HasReadPiece};
+ghost use Rattle.fish_scan.specs.Colder.{IsBelow, StaysCold};
+ghost use Rattle.fish_scan.specs.within.Colder.{IsDamageIn, IsFaultOf};
+ghost use Rattle.fish_scan.specs.within.Cutting.{AreOlderReadable, IsOlderReadable, last_below};
 
 use crate::chained::read_chain;
 use crate::matching::Query;

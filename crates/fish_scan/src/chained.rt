@@ -3,7 +3,7 @@
 
 ghost use Rattle.std.specs.Prelude.{◌≡◌, ◌≢◌, ◌↔◌, ◌+◌, ◌*◌, ◌<◌, ◌≤◌, ℕ, List, IfErr, IfOk, IsTrue, OnOk};
 ghost use Rattle.fish_cold.specs.Answers.{IsDamageOf};
-ghost use Rattle.fish_cold.specs.Caching.{IsUndamaged};
+ghost use Rattle.fish_cold.specs.within.Caching.{IsUndamaged};
 ghost use Rattle.fish_cold.specs.Carries.{CarriesTable};
 ghost use Rattle.fish_cold.specs.Chains.{IsKeyAt};
 ghost use Rattle.fish_lang.specs.Definition.{definition_of};
@@ -15,10 +15,11 @@ ghost use Rattle.fish_rule.specs.Logs.{Extends};
 ghost use Rattle.fish_rule.specs.Parts.{IsOlder, first_head};
 ghost use Rattle.fish_rule.specs.Passes.{IsPassOf, view};
 ghost use Rattle.fish_rule.specs.declared.view.Key.{Key as TableKey};
-ghost use Rattle.fish_scan.specs.Colder.{IsBelow, IsDamageIn, IsFaultOf, StaysCold};
-ghost use Rattle.fish_scan.specs.Indices.{IsIndex};
-ghost use Rattle.fish_scan.specs.OlderReading.{HasDescended, HasWalkedOlder, IsCoveredBy, IsHeadOf, IsPayloadAt, IsVisit};
-ghost use Rattle.fish_scan.specs.OlderWork.{IsWalkWork};
+ghost use Rattle.fish_scan.specs.Colder.{IsBelow, StaysCold};
+ghost use Rattle.fish_scan.specs.within.Colder.{IsDamageIn, IsFaultOf};
+ghost use Rattle.fish_scan.specs.within.Indices.{IsIndex};
+ghost use Rattle.fish_scan.specs.within.OlderReading.{HasDescended, HasWalkedOlder, IsCoveredBy, IsHeadOf, IsPayloadAt, IsVisit};
+ghost use Rattle.fish_scan.specs.within.OlderWork.{IsWalkWork};
 
 use crate::matching::Query;
 use fish_catalog::Entry;

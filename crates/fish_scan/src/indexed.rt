@@ -5,10 +5,10 @@ ghost use Rattle.fish_lang.specs.Definition.{definition_of};
 ghost use Rattle.fish_rule.specs.Logs.{Extends};
 ghost use Rattle.fish_rule.specs.Passes.{IsPassOf, view, walk_of};
 ghost use Rattle.fish_chain.specs.Values.{IsGiven};
-ghost use Rattle.fish_scan.specs.Indices.{AddsNode, IsIndex, IsValued};
-ghost use Rattle.fish_scan.specs.Reach.{IsReached};
-ghost use Rattle.fish_scan.specs.Reading.{Adds};
-ghost use Rattle.fish_scan.specs.Work.{HasLoadedRows, IsComparison, IsIndexWork};
+ghost use Rattle.fish_scan.specs.within.Indices.{AddsNode, IsIndex, IsValued};
+ghost use Rattle.fish_scan.specs.within.Reach.{IsReached};
+ghost use Rattle.fish_scan.specs.within.Reading.{Adds};
+ghost use Rattle.fish_scan.specs.within.Work.{HasLoadedRows, IsComparison, IsIndexWork};
 
 use crate::matching::Query;
 use fish_catalog::Entry;

@@ -3,7 +3,8 @@
 ghost use Rattle.std.specs.Prelude.{◌≡◌, ◌<◌, IfOk, OnOk};
 ghost use Rattle.fish_catalog.specs.Listing.{IsListing};
 ghost use Rattle.fish_rule.specs.Passes.{IsPassOf, view};
-ghost use Rattle.fish_scan.specs.Intervals.{AddsInterval, AreIntervals, IsTaken, OnlyBoundaries};
+ghost use Rattle.fish_scan.specs.Intervals.{AreIntervals};
+ghost use Rattle.fish_scan.specs.within.Intervals.{AddsInterval, IsTaken, OnlyBoundaries};
 
 use fish_catalog::{Interval, Intervals, Listed};
 use fish_rule::{Log, Pass, load_boundary};

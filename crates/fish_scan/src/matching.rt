@@ -4,7 +4,8 @@ ghost use Rattle.std.specs.Prelude.{◌≡◌, ◌+◌, IfErr, IfOk, IsTrue, ◌
 ghost use Rattle.fish_lang.specs.Definition.{definition_of};
 ghost use Rattle.fish_psf.specs.Records.{Gives, is_record};
 ghost use Rattle.fish_psf.specs.declared.reading.PsfRefusal.TheVariants.{OutOfMemory};
-ghost use Rattle.fish_scan.specs.Reading.{IsMatching, IsParsable, parses_of};
+ghost use Rattle.fish_scan.specs.Reading.{parses_of};
+ghost use Rattle.fish_scan.specs.within.Reading.{IsMatching, IsParsable};
 
 use crate::reach::Reach;
 use fish_catalog::Entry;

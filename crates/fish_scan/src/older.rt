@@ -1,15 +1,17 @@
 //! Numbers below the base, one by one: each record is read from the file, and parsed once.
 
 ghost use Rattle.std.specs.Prelude.{◌≡◌, ◌↔◌, ◌+◌, ◌<◌, ◌≤◌, IfErr, IfOk, IsTrue, OnOk};
-ghost use Rattle.fish_cold.specs.Answers.{IsReadingOf};
-ghost use Rattle.fish_cold.specs.Caching.{IsUndamaged};
+ghost use Rattle.fish_cold.specs.within.Answers.{IsReadingOf};
+ghost use Rattle.fish_cold.specs.within.Caching.{IsUndamaged};
 ghost use Rattle.fish_cold.specs.Carries.{CarriesTable};
 ghost use Rattle.fish_lang.specs.Definition.{definition_of};
 ghost use Rattle.fish_psf.specs.Records.{Gives, is_record};
 ghost use Rattle.fish_rule.specs.declared.view.Key.{Key};
-ghost use Rattle.fish_scan.specs.Colder.{IsDamageIn, IsFaultOf, StaysCold};
-ghost use Rattle.fish_scan.specs.OlderReading.{HasReadOlder};
-ghost use Rattle.fish_scan.specs.Reading.{IsMatching, IsParsable, parses_of};
+ghost use Rattle.fish_scan.specs.Colder.{StaysCold};
+ghost use Rattle.fish_scan.specs.within.Colder.{IsDamageIn, IsFaultOf};
+ghost use Rattle.fish_scan.specs.within.OlderReading.{HasReadOlder};
+ghost use Rattle.fish_scan.specs.Reading.{parses_of};
+ghost use Rattle.fish_scan.specs.within.Reading.{IsMatching, IsParsable};
 
 use crate::matching::{Query, value_in};
 use fish_catalog::Entry;

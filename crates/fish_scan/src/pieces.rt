@@ -5,11 +5,12 @@ ghost use Rattle.fish_lang.specs.Definition.{definition_of};
 ghost use Rattle.fish_plan.specs.Pieces.{Fill, piece_from, piece_to};
 ghost use Rattle.fish_rule.specs.Logs.{Extends};
 ghost use Rattle.fish_rule.specs.Passes.{IsPassOf, view};
-ghost use Rattle.fish_scan.specs.Parses.{HasParsed, HasParsedPiece};
-ghost use Rattle.fish_scan.specs.Pieces.{AreReadable, IsReadable, full_numbers, full_of};
-ghost use Rattle.fish_scan.specs.Reach.{IsReached, first_in};
-ghost use Rattle.fish_scan.specs.Reading.{Adds};
-ghost use Rattle.fish_scan.specs.Work.{ArePiecesWork, IsPieceWork};
+ghost use Rattle.fish_scan.specs.Parses.{HasParsed};
+ghost use Rattle.fish_scan.specs.within.Parses.{HasParsedPiece};
+ghost use Rattle.fish_scan.specs.within.Pieces.{AreReadable, IsReadable, full_numbers, full_of};
+ghost use Rattle.fish_scan.specs.within.Reach.{IsReached, first_in};
+ghost use Rattle.fish_scan.specs.within.Reading.{Adds};
+ghost use Rattle.fish_scan.specs.within.Work.{ArePiecesWork, IsPieceWork};
 
 use crate::indexed::read_indexed;
 use crate::matching::Query;

@@ -3,8 +3,9 @@
 ghost use Rattle.std.specs.Prelude.{◌≤◌, IfErr, IfOk};
 ghost use Rattle.fish_catalog.specs.Listing.{IsListing};
 ghost use Rattle.fish_rule.specs.Passes.{IsPassOf, view};
-ghost use Rattle.fish_scan.specs.Intervals.{OnlyBoundaries};
-ghost use Rattle.fish_scan.specs.Scans.{IsCovered, IsPlan, IsPlanRefused};
+ghost use Rattle.fish_scan.specs.within.Intervals.{OnlyBoundaries};
+ghost use Rattle.fish_scan.specs.Scans.{IsCovered, IsPlan};
+ghost use Rattle.fish_scan.specs.within.Scans.{IsPlanRefused};
 
 use crate::ask::How;
 use crate::intervals::load_intervals;

@@ -5,9 +5,10 @@ ghost use Rattle.fish_rule.specs.Logs.{KnowsMark};
 ghost use Rattle.fish_rule.specs.Passes.{IsPassOf, view};
 ghost use Rattle.fish_rule.specs.LoadSteps.{IsAlone};
 ghost use Rattle.fish_rule.specs.Views.{Among};
-ghost use Rattle.fish_scan.specs.Reach.{AreLooks, IsCut, IsReach, IsReached};
+ghost use Rattle.fish_scan.specs.within.Reach.{AreLooks, IsCut, IsReach, IsReached};
 ghost use Rattle.fish_walk.specs.Looks.{HasOpens, IsLookAt, with_look};
-ghost use Rattle.fish_walk.specs.Settling.{OnlyLooks, OnlySettles};
+ghost use Rattle.fish_walk.specs.Settling.{OnlySettles};
+ghost use Rattle.fish_walk.specs.within.Settling.{OnlyLooks};
 ghost use Rattle.fish_walk.specs.declared.outcome.Look.TheVariants.{Overflow, Unfinished};
 
 use fish_rule::{Log, Pass, base};

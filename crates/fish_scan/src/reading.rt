@@ -7,11 +7,11 @@ ghost use Rattle.fish_rule.specs.Passes.{IsPassOf, view};
 ghost use Rattle.fish_rule.specs.LoadSteps.{CanLookAt};
 ghost use Rattle.fish_rule.specs.Views.{Among};
 ghost use Rattle.fish_rule.specs.declared.view.Kind.TheVariants.{Stored};
-ghost use Rattle.fish_scan.specs.Reach.{IsReached};
+ghost use Rattle.fish_scan.specs.within.Reach.{IsReached};
 ghost use Rattle.fish_plan.specs.declared.pieces.Piece.TheVariants.{Full};
-ghost use Rattle.fish_scan.specs.Parses.{HasParsedPiece};
-ghost use Rattle.fish_scan.specs.Reading.{Adds};
-ghost use Rattle.fish_scan.specs.Work.{IsFullWork};
+ghost use Rattle.fish_scan.specs.within.Parses.{HasParsedPiece};
+ghost use Rattle.fish_scan.specs.within.Reading.{Adds};
+ghost use Rattle.fish_scan.specs.within.Work.{IsFullWork};
 ghost use Rattle.fish_walk.specs.Looks.{HasFound};
 
 use crate::matching::{Query, matching};

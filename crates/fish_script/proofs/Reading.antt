@@ -4,7 +4,7 @@ use Rattle.std.proofs.Common.{length, append_assoc, length-append}
 use Rattle.std.specs.Prelude.{Result, Ok, Err, IfErr, OnOk}
 use Rattle.std.proofs.lemmas.List.{append-nil}
 use Rattle.fish_script.proofs.Parts.{lines_none}
-use Rattle.fish_script.specs.Building.{HasBuilt, IsInside, IsSoFar, IsWritten, TakesLine, UnlessMemory}
+use Rattle.fish_script.specs.within.Building.{HasBuilt, IsInside, IsSoFar, IsWritten, TakesLine, UnlessMemory}
 use Rattle.fish_script.specs.Limits.{longest_script}
 use Rattle.fish_script.specs.Lines.{lines}
 use Rattle.fish_script.specs.Positions.{position_of}

@@ -3,7 +3,7 @@ use Rattle.std.proofs.Common.{◌≡◌, ℕ, zero, suc, ◌+◌, ◌<◌, ◌�
 use Rattle.std.specs.Prelude.{true, false, if◌then◌else◌}
 use Rattle.fish_script.proofs.Appending.{place_push}
 use Rattle.fish_script.proofs.Appending.{stand_push}
-use Rattle.fish_script.specs.Building.{HasBuilt, IsInFront, IsWritten, Pushes}
+use Rattle.fish_script.specs.within.Building.{HasBuilt, IsInFront, IsWritten, Pushes}
 use Rattle.fish_script.specs.Limits.{most_lanes}
 use Rattle.fish_script.specs.Positions.{Fits, Stands, position_after}
 use Rattle.fish_script.specs.Script.{AreBlocks, Reads, is_feed}

@@ -5,7 +5,7 @@ use Rattle.std.specs.Prelude.{Bool, true, false, count_by, if◌then◌else◌}
 use Rattle.std.proofs.lemmas.List.Sums.{sum_by_push}
 use Rattle.fish_script.proofs.Appending.{blocks_push, feeds_push, lanes_push, others_begin, others_push}
 use Rattle.fish_script.proofs.Appending.{read_push}
-use Rattle.fish_script.specs.Building.{IsBegun, IsWritten}
+use Rattle.fish_script.specs.within.Building.{IsBegun, IsWritten}
 use Rattle.fish_script.specs.Limits.{most_feeds, most_lanes}
 use Rattle.fish_script.specs.Positions.{Fits, position_after, with_feed}
 use Rattle.fish_script.specs.Script.{AreBlocks, AreLanes, Reads, feeds_of, is_feed}

@@ -1,4 +1,3 @@
-pub mod Building
 pub mod Laws
 pub mod Limits
 pub mod Lines
@@ -9,3 +8,4 @@ pub mod Runnable
 pub mod Script
 pub mod ScriptLine
 pub mod Words
+pub mod within

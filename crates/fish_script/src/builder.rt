@@ -2,7 +2,7 @@
 //! for it.
 
 ghost use Rattle.std.specs.Prelude.{◌≡◌, ◌↔◌, ◌<◌, ◌++◌, ◌∷◌, [], IfErr, IfOk, IsTrue, MatchOption, OnOk, true, false};
-ghost use Rattle.fish_script.specs.Building.{IsInFront, IsInside, IsNoDefinition, IsPast, UnlessMemory};
+ghost use Rattle.fish_script.specs.within.Building.{IsInFront, IsInside, IsNoDefinition, IsPast, UnlessMemory};
 ghost use Rattle.fish_script.specs.Limits.{most_lanes};
 ghost use Rattle.fish_script.specs.Positions.{Fits};
 ghost use Rattle.fish_script.specs.Script.{Reads, is_control, is_feed};
@@ -44,7 +44,7 @@ pub struct ScriptBuilder {
 }
 
 impl ScriptBuilder {
-    ghost use Rattle.fish_script.specs.Building.{HasBuilt, Pushes, Takes, TakesLine};
+    ghost use Rattle.fish_script.specs.within.Building.{HasBuilt, Pushes, Takes, TakesLine};
     ghost use Rattle.fish_script.specs.Refusals.{IsFault, IsLineFault};
     ghost use Rattle.fish_script.specs.declared.builder.Position.TheVariants.{Inside, Outside};
     ghost use Rattle.fish_script.specs.declared.script_line.ScriptLine.TheVariants as said;

@@ -13,7 +13,7 @@ use Rattle.fish_rule.proofs.laws.NextLog.{may_follow}
 use Rattle.fish_rule.specs.Start.{IsShape}
 use Rattle.fish_rule.specs.declared.table.Shape.{Shape}
 use Rattle.fish_rule.specs.declared.view.View.{View}
-use Rattle.fish_store.specs.Rolling.{IsClosedWith}
+use Rattle.fish_store.specs.within.Rolling.{IsClosedWith}
 
 -- a row that is cut is the same definition
 listed_cut : (n : ℕ) (row : CatRow) → listed_of (clamped n row) ≡ listed_of row

@@ -31,7 +31,8 @@ use Rattle.fish_store.proofs.Opening.{begun_size, begun_sound}
 use Rattle.fish_store.proofs.Versions.{version_closed}
 use Rattle.fish_store.specs.Opened.{opened_point}
 use Rattle.fish_store.specs.Points.{point_at}
-use Rattle.fish_store.specs.Rolling.{HasRolled, IsClosedWith, MayRoll}
+use Rattle.fish_store.specs.Rolling.{HasRolled, MayRoll}
+use Rattle.fish_store.specs.within.Rolling.{IsClosedWith}
 use Rattle.fish_store.specs.Sound.{IsImageOf, MayGoOn, Point, Reaches, Runs, Sound}
 use Rattle.fish_store.specs.declared.store.Store.{Store}
 use Rattle.fish_whole.proofs.Parts.{told_front}

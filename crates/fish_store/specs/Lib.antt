@@ -4,3 +4,4 @@ pub mod Opened
 pub mod Points
 pub mod Rolling
 pub mod Sound
+pub mod within

@@ -3,24 +3,15 @@ use Rattle.std.specs.Prelude.{ℕ, ◌≡◌, ◌+◌, ◌^◌, List, Option, No
 use Rattle.fish_catalog.specs.Clamps.{clamped}
 use Rattle.fish_flush.specs.Rows.{HoldsRows}
 use Rattle.fish_registry.specs.Knowing.{KnowsFirst}
-use Rattle.fish_rule.specs.ClosedLog.{IsClosed}
 use Rattle.fish_rule.specs.LoadSteps.{IsAlone}
 use Rattle.fish_rule.specs.Passes.{IsPassOf, view}
 use Rattle.fish_rule.specs.Start.{table_lines}
 use Rattle.fish_rule.specs.Table.{first_view}
-use Rattle.fish_rule.specs.declared.close.Remains.{Remains}
-use Rattle.fish_rule.specs.declared.view.View.{View}
 use Rattle.fish_scan.specs.Colder.{IsBelow}
 use Rattle.fish_store.specs.Points.{point_at}
 use Rattle.fish_store.specs.Sound.{MayGoOn, Runs}
 use Rattle.fish_store.specs.declared.store.Store.{Store}
 use Rattle.fish_walk.specs.Settling.{EndsAt, HasTail}
-
--- the log was closed, at this version
-pub record IsClosedWith (v : View) (version : ℕ) : Type 0 where
-  pub remains : Remains
-  pub closed : IsClosed v remains
-  pub is : remains.version ≡ version
 
 -- another table may take this one's place: the control pass has all lanes and nothing in flight, it knows the
 -- registrar's rows, a checkpoint may follow, and the log ends at the last commit's count, so that all of it is committed

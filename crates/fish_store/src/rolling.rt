@@ -3,7 +3,8 @@
 ghost use Rattle.std.specs.Prelude.{◌≡◌, IfOk};
 ghost use Rattle.fish_rule.specs.LoadSteps.{IsAlone};
 ghost use Rattle.fish_rule.specs.Passes.{IsPassOf, view};
-ghost use Rattle.fish_store.specs.Rolling.{HasRolled, IsClosedWith, MayRoll};
+ghost use Rattle.fish_store.specs.Rolling.{HasRolled, MayRoll};
+ghost use Rattle.fish_store.specs.within.Rolling.{IsClosedWith};
 
 use crate::file::StoreFile;
 use crate::store::Store;

@@ -20,7 +20,8 @@ use Rattle.fish_rule.specs.declared.view.Noted.TheVariants.{Directory}
 use Rattle.fish_rule.specs.declared.view.Opens.{Opens}
 use Rattle.fish_rule.specs.declared.view.View.{View}
 use Rattle.fish_walk.specs.Looks.{HasFound, HasOpens, IsLookAt, KeepsOpens, KnowsEntry, look_of, look_of_kind, with_look}
-use Rattle.fish_walk.specs.Settling.{AreSettled, EndsAt, IsEnd, IsMark, OnlyLooks, StopsAt}
+use Rattle.fish_walk.specs.Settling.{EndsAt, IsEnd, IsMark, StopsAt}
+use Rattle.fish_walk.specs.within.Settling.{AreSettled, OnlyLooks}
 use Rattle.fish_walk.specs.declared.outcome.Look.{Look}
 use Rattle.fish_walk.specs.declared.outcome.Look.TheVariants as look
 

@@ -15,7 +15,8 @@ use Rattle.fish_rule.specs.declared.view.Kind.TheVariants.{Mark}
 use Rattle.fish_rule.specs.declared.view.Noted.TheVariants.{Tail}
 use Rattle.fish_rule.specs.declared.view.View.{View}
 use Rattle.fish_walk.proofs.Looking.{stops_within}
-use Rattle.fish_walk.specs.Settling.{AreSettled, HasLoadedCount, OnlyLooks, OnlyRaises, OnlySettles, StopsAt}
+use Rattle.fish_walk.specs.Settling.{HasLoadedCount, OnlySettles, StopsAt}
+use Rattle.fish_walk.specs.within.Settling.{AreSettled, OnlyLooks, OnlyRaises}
 
 -- the views of a call: as it began, and after each of its parts
 module _ (a b c d e : View) (known x settled : ℕ) (to_b : b ≡ after_load_settled a known) (to_c : c ≡ after_load_tail b x)

@@ -4,7 +4,8 @@ ghost use Rattle.std.specs.Prelude.{◌≡◌, ◌≤◌, [], min};
 ghost use Rattle.fish_rule.specs.Passes.{IsPassOf, view};
 ghost use Rattle.fish_rule.specs.LoadSteps.{CanRaiseSettled, IsAlone};
 ghost use Rattle.fish_walk.specs.Looks.{HasOpens, IsTailCount};
-ghost use Rattle.fish_walk.specs.Settling.{AreSettled, CanSettle, EndsAt, HasLoadedCount, HasTail, IsEnd, IsMark, OnlyLooks, OnlyRaises};
+ghost use Rattle.fish_walk.specs.Settling.{EndsAt, HasLoadedCount, HasTail, IsEnd, IsMark};
+ghost use Rattle.fish_walk.specs.within.Settling.{AreSettled, CanSettle, OnlyLooks, OnlyRaises};
 ghost use Rattle.fish_walk.specs.Settling.{OnlySettles, StopsAt};
 
 use crate::found::{count_now, look};

@@ -9,7 +9,8 @@ use Rattle.fish_rule.specs.Parts.{IsEntryWord}
 use Rattle.fish_rule.specs.declared.view.View.{View}
 use Rattle.fish_whole.proofs.Prefixes.{back_get, behind_get, front_get, prefix_there}
 use Rattle.fish_whole.proofs.Wholes.{may_hold}
-use Rattle.fish_whole.specs.Whole.{WholeFact, MayHold, MustHold, MustHoldUpTo, Whole, WillHold}
+use Rattle.fish_whole.specs.Whole.{WholeFact, MayHold, MustHold, Whole, WillHold}
+use Rattle.fish_whole.specs.within.Whole.{MustHoldUpTo}
 
 module _ (past : Whole) (v : View) (w : Whole) (m : MayHold past v w) where
   -- the whole is no shorter

@@ -9,7 +9,8 @@ use Rattle.fish_rule.specs.Views.{Among}
 use Rattle.fish_rule.specs.declared.view.Key.{Key}
 use Rattle.fish_rule.specs.declared.view.RegistryWord.{RegistryWord}
 use Rattle.fish_rule.specs.declared.view.View.{View}
-use Rattle.fish_whole.specs.Whole.{WholeFact, Later, MayEnd, MayHold, Narrows, MustHold, MustHoldUpTo, Whole, WillHold}
+use Rattle.fish_whole.specs.Whole.{WholeFact, Later, MayEnd, MayHold, Narrows, MustHold, Whole, WillHold}
+use Rattle.fish_whole.specs.within.Whole.{MustHoldUpTo}
 
 -- ---- later states
 

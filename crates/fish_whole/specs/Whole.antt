@@ -28,10 +28,6 @@ WholeFact = Whole → Type 0
 abbrev pub IsPrefix : {A : Type 0} → List A → List A → Type 0
 IsPrefix {A} xs ys = (rest : List A) × (ys ≡ xs ++ rest)
 
--- before the first table of a store nothing stands, and there is no definition
-abbrev pub nothing_before : Whole
-nothing_before = record { log = []; rows = λ n. [] }
-
 -- ---- the end
 
 -- the whole begins with what stood before a table and what is left of the table; its definitions are those from before, up to the
@@ -80,10 +76,6 @@ pub record MayEnd (past : Whole) (v : View) (w : Whole) : Type 0 where
 -- the claim holds of each whole that begins with what a pass may leave that knows as much
 abbrev pub MustHold : Whole → View → WholeFact → Type 0
 MustHold past v Q = (w : Whole) → MayHold past v w → Q w
-
--- it holds of each whose table leaves all numbers below an end
-abbrev pub MustHoldUpTo : Whole → View → ℕ → WholeFact → Type 0
-MustHoldUpTo past v end Q = (w : Whole) → (m : MayHold past v w) → end ≤ length past.log + length m.remains.log → Q w
 
 -- it holds of each that begins with what the control pass may leave in a later state
 abbrev pub WillHold : Whole → View → WholeFact → Type 0

@@ -1,1 +1,1 @@
-pub mod Args
+pub mod within

@@ -3,7 +3,7 @@
 ghost use Rattle.std.specs.IoError.{error_kind};
 ghost use Rattle.std.specs.Prelude.{◌≡◌, IfErr, IfOk, MatchResult, drop, map, string_bytes};
 ghost use Rattle.std.specs.Vec.Iter.{into_iter_items};
-ghost use Rattle.fishstore.specs.Args.{IsArgsFault, store_name};
+ghost use Rattle.fishstore.specs.within.Args.{IsArgsFault, store_name};
 
 use fish_command::UsageCause;
 use fish_program::Fault;

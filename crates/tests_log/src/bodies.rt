@@ -1,7 +1,7 @@
 //! Records without keys, of a claim of so many lines each.
 
 ghost use Rattle.std.specs.Prelude.{◌≡◌, ◌<◌, ◌≤◌, ◌^◌, [], IfOk, IfSome, IsTrue};
-ghost use Rattle.fish_claim.specs.Fills.{IsStorable};
+ghost use Rattle.fish_claim.specs.within.Fills.{IsStorable};
 ghost use Rattle.fish_layout.specs.Body.{IsBody};
 ghost use Rattle.fish_layout.specs.declared.parts.BodyParts.{BodyParts};
 ghost use Rattle.fish_psf.specs.Records.{is_record};

@@ -8,7 +8,7 @@
 ghost use Rattle.std.specs.Prelude.{◌≡◌, IfOk};
 ghost use Rattle.fish_ingest.specs.Preparation.{AreDefs};
 ghost use Rattle.fish_ingest.specs.Ingestion.{CanStart};
-ghost use Rattle.fish_rule.specs.Keys.{AreActive};
+ghost use Rattle.fish_rule.specs.within.Keys.{AreActive};
 ghost use Rattle.fish_rule.specs.Passes.{IsPassOf, view};
 ghost use Rattle.fish_rule.specs.SeatSteps.{CanSplitPass};
 ghost use Rattle.fish_rule.specs.Start.{CanOpen};

@@ -8,7 +8,7 @@ ghost use Rattle.fish_ingest.specs.Preparation.{IsOrigin, IsPreparedFor};
 ghost use Rattle.fish_ingest.specs.Ingestion.{CanStart};
 ghost use Rattle.fish_ingest.specs.Placement.{CanWrite};
 ghost use Rattle.fish_psf.specs.Blanks.{IsBlankOf};
-ghost use Rattle.fish_rule.specs.Keys.{AreActive};
+ghost use Rattle.fish_rule.specs.within.Keys.{AreActive};
 ghost use Rattle.fish_rule.specs.Passes.{IsPassOf, view};
 ghost use Rattle.fish_rule.specs.declared.view.Flight.{Flight};
 

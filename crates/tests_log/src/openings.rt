@@ -3,7 +3,8 @@
 ghost use Rattle.std.specs.Prelude.{◌≡◌, All, IfOk, OnOk};
 ghost use Rattle.fish_catalog.specs.Canonical.{IsCanonical};
 ghost use Rattle.fish_ingest.specs.Preparation.{AreDefs};
-ghost use Rattle.fish_rule.specs.Keys.{AreActive, IsWritten};
+ghost use Rattle.fish_rule.specs.Keys.{IsWritten};
+ghost use Rattle.fish_rule.specs.within.Keys.{AreActive};
 ghost use Rattle.fish_rule.specs.Passes.{IsPassOf, view};
 ghost use Rattle.fish_rule.specs.Start.{CanOpen, IsShape};
 ghost use Rattle.fish_rule.specs.Table.{first_view};

@@ -30,7 +30,8 @@ use Rattle.fish_rule.specs.Views.{AllOf, Among}
 use Rattle.fish_rule.specs.declared.table.Log.{Log}
 use Rattle.fish_rule.specs.declared.view.Key.{Key}
 use Rattle.fish_rule.specs.declared.view.View.{View}
-use Rattle.fish_whole.specs.Whole.{MustHoldUpTo, Whole}
+use Rattle.fish_whole.specs.Whole.{Whole}
+use Rattle.fish_whole.specs.within.Whole.{MustHoldUpTo}
 
 -- all that items show
 abbrev pub shown_in : List Item → List Shown

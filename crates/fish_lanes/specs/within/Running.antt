@@ -23,7 +23,8 @@ use Rattle.fish_rule.specs.Views.{AllOf}
 use Rattle.fish_rule.specs.declared.table.Log.{Log}
 use Rattle.fish_rule.specs.declared.table.Pass.{Pass}
 use Rattle.fish_rule.specs.declared.view.View.{View}
-use Rattle.fish_whole.specs.Whole.{MustHoldUpTo, Whole}
+use Rattle.fish_whole.specs.Whole.{Whole}
+use Rattle.fish_whole.specs.within.Whole.{MustHoldUpTo}
 use Rattle.fish_lanes.specs.Running.{IsEnded, IsShared}
 
 -- an item that was refused since the log is full names the claim that shut the pass

@@ -11,7 +11,8 @@ use Rattle.fish_catalog.specs.declared.row.CatRow.{CatRow}
 use Rattle.fish_rule.proofs.basics.Worlds.{area-in}
 use Rattle.fish_rule.specs.Registry.{epoch_at, op_at, row_at}
 use Rattle.fish_rule.specs.Parts.{first_head}
-use Rattle.fish_rule.specs.Start.{IsEmpty, IsOpening}
+use Rattle.fish_rule.specs.Start.{IsOpening}
+use Rattle.fish_rule.specs.within.Start.{IsEmpty}
 use Rattle.fish_rule.specs.World.{area, dir_at, heads_at, registry_size, total}
 use Rattle.fish_rule.specs.declared.view.Key.{Key}
 

@@ -14,7 +14,8 @@ use Rattle.fish_rule.specs.ChainSteps.{HasNode}
 use Rattle.fish_rule.specs.Logs.{Learns}
 use Rattle.fish_rule.specs.Regions.{code, kind_of}
 use Rattle.fish_rule.proofs.basics.Context.{Among, Key, Rule, View, World}
-use Rattle.fish_rule.specs.ChainFacts.{Always, IsClear, IsEntryIn, IsNodeIn, IsNowhere}
+use Rattle.fish_rule.specs.ChainFacts.{Always, IsClear, IsEntryIn, IsNodeIn}
+use Rattle.fish_rule.specs.within.ChainFacts.{IsNowhere}
 use Rattle.fish_rule.specs.Gaps.{IsEntryOf, IsGap, IsLabel}
 use Rattle.fish_rule.specs.World.{body, low}
 use Rattle.fish_rule.specs.declared.view.Gap.{Gap}

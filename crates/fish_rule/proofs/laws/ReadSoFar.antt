@@ -8,7 +8,8 @@ use Rattle.std.proofs.Math.Nat.{div-mul-le_self}
 use Rattle.fish_catalog.specs.declared.page_start.PageStart.{PageStart}
 use Rattle.fish_rule.proofs.basics.Regions.{starts_rise}
 use Rattle.fish_rule.proofs.basics.Lists.{all_among, all_append, among_either, among_left, among_right}
-use Rattle.fish_rule.specs.ClosedLog.{HasLine, HasMarkAt, HasStart, IsCovered, IsRead, IsReadUpTo, PagesRise}
+use Rattle.fish_rule.specs.ClosedLog.{PagesRise}
+use Rattle.fish_rule.specs.within.ClosedLog.{HasLine, HasMarkAt, HasStart, IsCovered, IsRead, IsReadUpTo}
 use Rattle.fish_layout.specs.Pages.{page_of}
 use Rattle.fish_rule.specs.Facts.{IsFound}
 use Rattle.fish_rule.specs.Logs.{Learns}

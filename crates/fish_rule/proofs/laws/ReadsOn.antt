@@ -5,7 +5,8 @@ use Rattle.fish_rule.proofs.basics.Context.{Among, Key, View, get_elem?, some}
 use Rattle.fish_rule.proofs.laws.Clocks.{later_ticked}
 use Rattle.fish_rule.proofs.laws.Alone.{each_more}
 use Rattle.fish_rule.proofs.laws.Learning.{learns_both, learns_self, learns_end}
-use Rattle.fish_rule.specs.ClosedLog.{AreHeads, HasHead, IsAdded, IsReadUpTo, ReadsOn, StaysOpen}
+use Rattle.fish_rule.specs.ClosedLog.{ReadsOn, StaysOpen}
+use Rattle.fish_rule.specs.within.ClosedLog.{AreHeads, HasHead, IsAdded, IsReadUpTo}
 use Rattle.fish_rule.specs.RegistrySteps.{after_load_version}
 use Rattle.fish_rule.specs.Epochs.{confirmed}
 use Rattle.fish_rule.specs.ChainSteps.{after_load_head}

@@ -11,7 +11,8 @@ use Rattle.fish_rule.proofs.laws.Learning.{learns_self}
 use Rattle.fish_rule.proofs.laws.LogWords.{entries_length, entries_log}
 use Rattle.fish_rule.proofs.basics.Places.{IsFlier, RecordAt, lies_inside, record_at}
 use Rattle.fish_rule.specs.Chains.{Linked}
-use Rattle.fish_rule.specs.ClosedLog.{HasHead, HasLine, HasMarkAt, IsClosed, IsRead, IsReadUpTo, IsWhole}
+use Rattle.fish_rule.specs.ClosedLog.{IsClosed}
+use Rattle.fish_rule.specs.within.ClosedLog.{HasHead, HasLine, HasMarkAt, IsRead, IsReadUpTo, IsWhole}
 use Rattle.fish_rule.specs.Facts.{IsFound}
 use Rattle.fish_rule.specs.Logs.{IsLog}
 use Rattle.fish_rule.specs.LogWords.{entries_in}

@@ -15,7 +15,8 @@ use Rattle.fish_rule.specs.Chains.{Chained, IsLinking, IsStoredAt, Linked, Links
 use Rattle.fish_rule.specs.declared.view.Kind.TheVariants.{Stored}
 use Rattle.fish_rule.specs.Parts.{Fits, Flies, Limit, Regions, Rests, Space, first_head, quotas}
 use Rattle.fish_rule.specs.Facts.{AreOpens, Facts, Owns, ShutOk}
-use Rattle.fish_rule.specs.Start.{IsEmpty, IsOpening, empty_world}
+use Rattle.fish_rule.specs.Start.{IsOpening, empty_world}
+use Rattle.fish_rule.specs.within.Start.{IsEmpty}
 use Rattle.fish_rule.specs.Table.{Ruled, Stands, first_view}
 use Rattle.fish_rule.specs.Views.{AllOf, Each}
 use Rattle.fish_rule.specs.World.{area, dir_at, heads_at, high, log_at, log_size, low, registry_size, slots}

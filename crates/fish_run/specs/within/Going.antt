@@ -15,8 +15,8 @@ use Rattle.fish_run.specs.Blocks.{Round, with_cut}
 use Rattle.fish_run.specs.Reports.{end_of, first_number}
 use Rattle.fish_run.specs.Joins.{block_said, goes_on, lanes_after, said_after}
 use Rattle.fish_run.specs.Rounds.{AreAll, FollowOn, GoesOnWith, IsCutFile, IsRest, given_in}
-use Rattle.fish_run.specs.Runs.{CanGoOn}
-use Rattle.fish_run.specs.Steps.{HasRounds, StopsRounds}
+use Rattle.fish_run.specs.within.Runs.{CanGoOn}
+use Rattle.fish_run.specs.within.Steps.{HasRounds, StopsRounds}
 use Rattle.fish_run.specs.Tables.{AreRenewed}
 use Rattle.fish_run.specs.Works.{AreNumbered, to_do}
 use Rattle.fish_run.specs.declared.fault.RunFault.TheVariants as fault

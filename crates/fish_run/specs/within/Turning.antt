@@ -10,8 +10,8 @@ use Rattle.fish_report.specs.declared.item.Item.TheVariants as item
 use Rattle.fish_rule.specs.Passes.{view}
 use Rattle.fish_rule.specs.declared.view.Shut.{Shut}
 use Rattle.fish_rule.specs.declared.view.View.{View}
-use Rattle.fish_run.specs.Rolls.{RollsOn}
-use Rattle.fish_run.specs.Runs.{CanGoOn}
+use Rattle.fish_run.specs.within.Rolls.{RollsOn}
+use Rattle.fish_run.specs.within.Runs.{CanGoOn}
 use Rattle.fish_run.specs.declared.lasting.Stopped.{Stopped}
 use Rattle.fish_run.specs.declared.rounds.RoundStart.{RoundStart}
 use Rattle.fish_run.specs.declared.rounds.Turned.{Turned}

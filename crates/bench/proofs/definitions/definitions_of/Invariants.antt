@@ -1,6 +1,7 @@
 -- The definitions so far are those of the catalogue's active rows, and each is what its text is read as.
 use Rattle.std.proofs.Common.{All}
-use Rattle.fish_rule.specs.Keys.{AreActive, IsWritten}
+use Rattle.fish_rule.specs.Keys.{IsWritten}
+use Rattle.fish_rule.specs.within.Keys.{AreActive}
 use Rattle.bench.proofs.definitions.definitions_of.Given as goal
 
 abbrev pub invariant-loop-name : goal.invariant-loop-name

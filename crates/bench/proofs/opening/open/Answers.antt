@@ -4,7 +4,7 @@ use Rattle.bench.proofs.Splitting.{first_controls}
 use Rattle.fish_catalog.specs.Rows.{IsCatalog}
 use Rattle.fish_catalog.specs.declared.row.CatRow.{CatRow}
 use Rattle.fish_ingest.proofs.PreparationDefs.{active_clamped, active_defs}
-use Rattle.fish_rule.specs.Keys.{AreActive}
+use Rattle.fish_rule.specs.within.Keys.{AreActive}
 use Rattle.fish_rule.specs.Passes.{view}
 use Rattle.bench.proofs.opening.open.Goals as goal
 

@@ -1,6 +1,6 @@
 -- No active row so far has the name of an active one before it.
 use Rattle.std.proofs.Common.{◌≡◌, ℕ, ◌<◌, Some, slice_get, take}
-use Rattle.fish_catalog.specs.Restoring.{IsAlone}
+use Rattle.fish_catalog.specs.within.Restoring.{IsAlone}
 use Rattle.fish_catalog.specs.Rows.{IsActive}
 use Rattle.fish_catalog.specs.declared.row.CatRow.{CatRow}
 use Rattle.fish_catalog.proofs.restore.are_apart.Given as goal

@@ -2,7 +2,8 @@
 use Rattle.std.proofs.Common.{◌∙◌, arith, Some, None}
 use Rattle.fish_chain.proofs.Changes.{for_each}
 use Rattle.fish_chain.proofs.Climbing.{below_tried, below_under, line_low, link_next, place_kept}
-use Rattle.fish_chain.specs.Links.{IsLinked, Tried, with_linked}
+use Rattle.fish_chain.specs.Links.{IsLinked, with_linked}
+use Rattle.fish_chain.specs.within.Links.{Tried}
 use Rattle.fish_rule.specs.Passes.{view}
 use Rattle.fish_rule.specs.declared.view.Flight.{Flight}
 use Rattle.fish_chain.proofs.chain.link.Goals as goal

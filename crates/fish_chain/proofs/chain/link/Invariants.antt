@@ -1,6 +1,6 @@
 -- A linked entry of the bucket is above the own one, lower with each turn.
 use Rattle.std.proofs.Common.{◌≡◌, Some}
-use Rattle.fish_chain.specs.Links.{IsBelow}
+use Rattle.fish_chain.specs.within.Links.{IsBelow}
 use Rattle.fish_rule.specs.Passes.{IsPassOf, view}
 use Rattle.fish_rule.specs.declared.view.Flight.{Flight}
 use Rattle.fish_chain.proofs.chain.link.Given as goal

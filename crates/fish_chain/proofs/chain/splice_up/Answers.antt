@@ -3,7 +3,7 @@ use Rattle.std.proofs.Common.{◌≡◌, ℕ, ◌<◌, ap, subst, Some, None, Op
 use Rattle.fish_chain.proofs.Changes.{for_each}
 use Rattle.fish_chain.proofs.Splicing.{IsSplicing, aimed_node, splice_aim, splice_begins, splice_can, splice_falls}
 use Rattle.fish_chain.proofs.Splicing.{splice_hit, splice_miss, splice_over, splicing}
-use Rattle.fish_chain.specs.Links.{CanLinkBelow, Tried}
+use Rattle.fish_chain.specs.within.Links.{CanLinkBelow, Tried}
 use Rattle.fish_rule.proofs.laws.Links.{one_bucket}
 use Rattle.fish_rule.specs.ChainSteps.{aimed_at}
 use Rattle.fish_rule.specs.Passes.{view}

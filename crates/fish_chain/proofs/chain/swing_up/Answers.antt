@@ -3,7 +3,8 @@ use Rattle.std.proofs.Common.{ℕ, ap, Some}
 use Rattle.fish_chain.proofs.Changes.{for_each}
 use Rattle.fish_chain.proofs.Swinging.{swing_aim, swing_begins, swing_can, swing_falls, swing_hit, swing_miss}
 use Rattle.fish_chain.proofs.Swinging.{swing_over, swinging}
-use Rattle.fish_chain.specs.Links.{IsLinked, Tried}
+use Rattle.fish_chain.specs.Links.{IsLinked}
+use Rattle.fish_chain.specs.within.Links.{Tried}
 use Rattle.fish_rule.specs.ChainSteps.{aimed_at}
 use Rattle.fish_rule.specs.Passes.{view}
 use Rattle.fish_rule.specs.declared.view.Flight.{Flight}

@@ -4,7 +4,7 @@ use Rattle.fish_chain.proofs.Comparing.{read_within}
 use Rattle.fish_chain.proofs.Values.{bytes_more, bytes_none}
 use Rattle.fish_rule.proofs.laws.Learning.{extends_both}
 use Rattle.fish_rule.proofs.laws.ChainFacts.{always_later}
-use Rattle.fish_chain.specs.Values.{AreBytesIn}
+use Rattle.fish_chain.specs.within.Values.{AreBytesIn}
 use Rattle.fish_rule.specs.Passes.{view}
 use Rattle.fish_rule.specs.ChainFacts.{Always}
 use Rattle.fish_chain.proofs.value.are_bytes.Goals as goal

@@ -1,6 +1,6 @@
 -- The bytes so far are those of the record. A word has up to eight of them, and only the first and the last fewer.
 use Rattle.std.proofs.Common.{◌≡◌, ◌+◌, ◌-◌, ◌*◌, ◌%◌, ◌<◌, ◌≤◌, ◌⊎◌, length}
-use Rattle.fish_chain.specs.Values.{AreBytesIn}
+use Rattle.fish_chain.specs.within.Values.{AreBytesIn}
 use Rattle.fish_rule.specs.Logs.{Extends}
 use Rattle.fish_rule.specs.Passes.{IsPassOf, view}
 use Rattle.fish_rule.specs.ChainFacts.{Always}

@@ -2,7 +2,7 @@
 use Rattle.std.proofs.Common.{◌≡◌, ℕ, ◌+◌, ◌*◌, inl, inr, sym, ◌∙◌, subst, arith, length}
 use Rattle.fish_chain.proofs.Comparing.{given_found, given_look, headed_on, looked, read_header, says_none, says_other}
 use Rattle.fish_chain.proofs.Comparing.{says_same, third_may, value_few, value_may}
-use Rattle.fish_chain.specs.Values.{AreBytesIn, HasBytes, IsWordIn}
+use Rattle.fish_chain.specs.within.Values.{AreBytesIn, HasBytes, IsWordIn}
 use Rattle.fish_rule.proofs.laws.Learning.{extends_both, learns_self}
 use Rattle.fish_rule.proofs.laws.ChainFacts.{always_later}
 use Rattle.fish_rule.specs.Passes.{view}

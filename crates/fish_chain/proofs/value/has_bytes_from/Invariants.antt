@@ -1,5 +1,5 @@
 -- The bytes so far are those of the word.
-use Rattle.fish_chain.specs.Values.{AreBytesOf}
+use Rattle.fish_chain.specs.within.Values.{AreBytesOf}
 use Rattle.fish_chain.proofs.value.has_bytes_from.Given as goal
 
 abbrev pub invariant-loop-place : goal.invariant-loop-place

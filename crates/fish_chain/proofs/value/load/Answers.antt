@@ -1,7 +1,7 @@
 -- What is read of a record's region stands there in every later moment.
 use Rattle.std.proofs.Common.{◌≡◌, ℕ, ◌+◌, ◌*◌, sym, subst}
 use Rattle.fish_chain.proofs.Values.{word_read}
-use Rattle.fish_chain.specs.Values.{IsWordIn}
+use Rattle.fish_chain.specs.within.Values.{IsWordIn}
 use Rattle.fish_rule.proofs.laws.Learning.{extends_to_read, read_here}
 use Rattle.fish_rule.specs.Passes.{view}
 use Rattle.fish_rule.specs.ChainFacts.{Always}

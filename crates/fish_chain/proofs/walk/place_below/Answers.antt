@@ -1,7 +1,7 @@
 -- The walk goes on below, or nothing is left.
 use Rattle.std.proofs.Common.{sym, ap, subst, arith}
 use Rattle.fish_chain.proofs.Descents.{first_known, goes_down, stops_below}
-use Rattle.fish_chain.specs.Walks.{LeadsTo}
+use Rattle.fish_chain.specs.within.Walks.{LeadsTo}
 use Rattle.fish_rule.proofs.laws.Descents.{extends_previous}
 use Rattle.fish_rule.specs.Logs.{Extends}
 use Rattle.fish_rule.specs.Passes.{view}

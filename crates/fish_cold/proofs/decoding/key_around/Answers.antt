@@ -1,6 +1,6 @@
 -- The record's words are whole, and are before its key entry.
 use Rattle.std.proofs.Common.{sym, subst}
-use Rattle.fish_cold.specs.Regions.{IsWhole}
+use Rattle.fish_cold.specs.within.Regions.{IsWhole}
 use Rattle.fish_cold.proofs.RegionHeads.{node_room}
 use Rattle.fish_cold.proofs.decoding.key_around.Goals as goal
 

@@ -1,7 +1,7 @@
 -- No mark stands before the first.
 use Rattle.std.proofs.Common.{arith, length, ◌≤◌}
 use Rattle.std.proofs.lemmas.List.{take_all}
-use Rattle.fish_csv.specs.Turns.{is_mark}
+use Rattle.fish_csv.specs.within.Turns.{is_mark}
 use Rattle.fish_csv.proofs.Found.{none-before, none-in}
 use Rattle.fish_csv.proofs.file.plain_len.Goals as goal
 

@@ -1,7 +1,7 @@
 -- A run joins the field; after it the text ends, or one byte leads on or ends the row.
 use Rattle.std.proofs.Common.{◌∙◌, [], length, refl, ap, length-drop, arith}
 use Rattle.csv.specs.Records.{fields_of}
-use Rattle.fish_csv.specs.Machine.{row_from}
+use Rattle.fish_csv.specs.within.Machine.{row_from}
 use Rattle.csv.specs.declared.parser.State.TheVariants as st
 use Rattle.fish_csv.proofs.Records.{rows-more, rows-none, turn-end, turn-run}
 use Rattle.fish_csv.proofs.machine.read_row.Goals as goal

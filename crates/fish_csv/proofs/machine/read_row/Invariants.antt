@@ -1,7 +1,7 @@
 -- The first row of the text is the one that goes on from here.
 use Rattle.std.proofs.Common.{◌≡◌, ◌≤◌, [], length}
 use Rattle.csv.specs.Records.{fields_of, partial_of}
-use Rattle.fish_csv.specs.Machine.{row_from}
+use Rattle.fish_csv.specs.within.Machine.{row_from}
 use Rattle.fish_csv.specs.declared.machine.Position.TheVariants as position
 use Rattle.fish_csv.proofs.machine.read_row.Given as goal
 

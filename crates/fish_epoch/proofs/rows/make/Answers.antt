@@ -9,7 +9,8 @@ use Rattle.fish_rule.specs.declared.view.Key.{Key}
 use Rattle.fish_rule.specs.declared.view.View.{View}
 use Rattle.fish_epoch.proofs.Reading.{known_listing, made_registered, operation_read, reads_both, reads_word}
 use Rattle.fish_epoch.proofs.Reading.{registered_known}
-use Rattle.fish_epoch.specs.Rows.{HasRow, OnlyReads}
+use Rattle.fish_epoch.specs.Rows.{OnlyReads}
+use Rattle.fish_epoch.specs.within.Rows.{HasRow}
 use Rattle.fish_epoch.proofs.rows.make.Goals as goal
 
 -- the operation that was read, by the version that it made

@@ -3,7 +3,7 @@ use Rattle.std.proofs.Common.{◌≡◌, ◌∙◌, ℕ, ◌+◌, suc, subst, ar
 use Rattle.std.specs.Prelude.{slice_index, slice_set}
 use Rattle.fish_rule.specs.Passes.{view}
 use Rattle.fish_epoch.proofs.Reading.{reads_both, reads_word, row_later, words_more}
-use Rattle.fish_epoch.specs.Rows.{HasRowWords}
+use Rattle.fish_epoch.specs.within.Rows.{HasRowWords}
 use Rattle.fish_epoch.proofs.rows.read_words.Goals as goal
 
 -- the row stays known

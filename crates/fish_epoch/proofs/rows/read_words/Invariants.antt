@@ -2,7 +2,8 @@
 use Rattle.std.proofs.Common.{◌≡◌, ◌≤◌, length}
 use Rattle.std.specs.Prelude.{slice_index}
 use Rattle.fish_rule.specs.Passes.{IsPassOf, view}
-use Rattle.fish_epoch.specs.Rows.{HasRowWords, OnlyReads}
+use Rattle.fish_epoch.specs.Rows.{OnlyReads}
+use Rattle.fish_epoch.specs.within.Rows.{HasRowWords}
 use Rattle.fish_epoch.proofs.rows.read_words.Given as goal
 
 abbrev pub invariant-loop-position : goal.invariant-loop-position

@@ -1,6 +1,6 @@
 -- The bytes that came are kept after those of before, in a file that is else the same.
 use Rattle.std.proofs.Common.{◌≡◌, ◌≤◌, ◌-◌, false, length, vec_len}
-use Rattle.fish_feed.specs.OpenFiles.{HasRead}
+use Rattle.fish_feed.specs.within.OpenFiles.{HasRead}
 use Rattle.fish_feed.proofs.part.read_ahead.Given as goal
 
 abbrev pub invariant-loop-file : goal.invariant-loop-file

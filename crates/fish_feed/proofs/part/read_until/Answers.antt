@@ -3,7 +3,7 @@ use Rattle.std.proofs.Common.{rules, ◌≡◌, ◌<◌, ◌≤◌, Option, ap, 
 use Rattle.fish_feed.specs.Parts.{longest_read}
 use Rattle.std.specs.Prelude.{IfSome}
 use Rattle.fish_feed.proofs.Reading.{can_cut, can_none, cut_short, part_of, rest_at_end}
-use Rattle.fish_feed.specs.OpenFiles.{IsCutOff}
+use Rattle.fish_feed.specs.within.OpenFiles.{IsCutOff}
 use Rattle.fish_feed.specs.Works.{bytes_in}
 use Rattle.fish_lanes.specs.declared.work.Work.{Work}
 use Rattle.fish_feed.proofs.part.read_until.Goals as goal

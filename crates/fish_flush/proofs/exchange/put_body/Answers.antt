@@ -5,7 +5,7 @@ use Rattle.fish_disk.specs.Crash.{TornFrom}
 use Rattle.fish_disk.proofs.Moments.{leaves_more, leaves_then}
 use Rattle.fish_slots.specs.Offsets.{body_at, body_bytes}
 use Rattle.fish_slots.proofs.Commits.{rests_commit}
-use Rattle.fish_flush.specs.Writing.{EitherCommit}
+use Rattle.fish_flush.specs.within.Writing.{EitherCommit}
 use Rattle.fish_flush.proofs.Images.{now_sealed, rests_body, resting_gates}
 use Rattle.fish_flush.proofs.exchange.put_body.Goals as goal
 

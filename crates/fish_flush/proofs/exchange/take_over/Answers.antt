@@ -6,7 +6,7 @@ use Rattle.fish_disk.proofs.Moments.{leaves_more, leaves_then}
 use Rattle.fish_slots.specs.Offsets.{gate_at}
 use Rattle.fish_slots.specs.Slots.{line_count, lines_of}
 use Rattle.fish_slots.proofs.Keeping.{one_gates, other_gate}
-use Rattle.fish_flush.specs.Writing.{EitherCommit, IsSealed}
+use Rattle.fish_flush.specs.within.Writing.{EitherCommit, IsSealed}
 use Rattle.fish_flush.proofs.Images.{closed_new, closing_gates, closing_new, sealed_either, sealed_gate, sealed_gates}
 use Rattle.fish_flush.proofs.exchange.take_over.Goals as goal
 

@@ -5,7 +5,7 @@ use Rattle.std.proofs.lemmas.List.{length-take-le}
 use Rattle.std.proofs.Math.Seq.{take-append_seam}
 use Rattle.fish_flush.proofs.RegionSteps.{entries_room}
 use Rattle.fish_flush.proofs.TableRegions.{ends_inside}
-use Rattle.fish_flush.specs.Linking.{AreSpelled}
+use Rattle.fish_flush.specs.within.Linking.{AreSpelled}
 use Rattle.fish_rule.proofs.laws.Learning.{extends_both}
 use Rattle.fish_rule.specs.Passes.{view}
 use Rattle.fish_flush.proofs.region.copy_region.Goals as goal

@@ -1,6 +1,6 @@
 -- What was written is kept.
 use Rattle.std.proofs.Common.{sym, subst}
-use Rattle.fish_flush.specs.Carrying.{IsSaved}
+use Rattle.fish_flush.specs.within.Carrying.{IsSaved}
 use Rattle.fish_flush.specs.declared.flusher.Flusher.{Flusher}
 use Rattle.fish_rule.specs.Passes.{view}
 use Rattle.fish_flush.proofs.saving.save.Goals as goal

@@ -6,7 +6,8 @@ use Rattle.fish_flush.proofs.Resting.{torn_gates, torn_leaves}
 use Rattle.fish_flush.proofs.Drafted.{drafted_ready}
 use Rattle.fish_flush.proofs.PageWrites.{told_in}
 use Rattle.fish_flush.proofs.Saved.{saved_carries, saved_grows, saved_leaves}
-use Rattle.fish_flush.specs.Writing.{EitherCommit, GrowsBy, pages_between}
+use Rattle.fish_flush.specs.Writing.{pages_between}
+use Rattle.fish_flush.specs.within.Writing.{EitherCommit, GrowsBy}
 use Rattle.fish_image.proofs.Spelling.{told_length}
 use Rattle.fish_rule.specs.Passes.{view}
 use Rattle.fish_rule.specs.declared.view.Key.{Key}

@@ -6,7 +6,8 @@ use Rattle.fish_catalog.specs.declared.commit.Commit.{Commit}
 use Rattle.fish_image.specs.Log.{Agrees, FollowsAt, region, region_lines}
 use Rattle.fish_image.specs.Progress.{IsAt}
 use Rattle.fish_image.specs.Reached.{Reached}
-use Rattle.fish_image.specs.Steps.{HasCome, Stepped}
+use Rattle.fish_image.specs.Steps.{HasCome}
+use Rattle.fish_image.specs.within.Steps.{Stepped}
 use Rattle.fish_image.specs.declared.step.Step.TheVariants.{Damaged, Took, Waits}
 use Rattle.fish_image.specs.declared.progress.Progress.{Progress}
 use Rattle.fish_image.proofs.Agreement.{agrees_within, goes}

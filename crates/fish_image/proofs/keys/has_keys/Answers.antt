@@ -2,7 +2,7 @@
 use Rattle.std.proofs.Common.{ℕ, arith, refl}
 use Rattle.std.proofs.lemmas.Option.{slice_get_read, slice_get_within}
 use Rattle.fish_image.specs.Log.{values_under}
-use Rattle.fish_image.specs.Terms.{HasIndexValues}
+use Rattle.fish_image.specs.within.Terms.{HasIndexValues}
 use Rattle.fish_image.specs.declared.terms.IndexRow.{IndexRow}
 use Rattle.fish_image.proofs.RowValues.{one_more}
 use Rattle.fish_image.proofs.keys.has_keys.Goals as goal

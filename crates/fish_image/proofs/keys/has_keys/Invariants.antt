@@ -1,7 +1,7 @@
 -- Each definition so far has the values that it asks.
 use Rattle.std.proofs.Common.{◌≡◌, ℕ, ◌<◌, Some, slice_get}
 use Rattle.fish_image.specs.Log.{values_under}
-use Rattle.fish_image.specs.Terms.{HasIndexValues}
+use Rattle.fish_image.specs.within.Terms.{HasIndexValues}
 use Rattle.fish_image.specs.declared.terms.IndexRow.{IndexRow}
 use Rattle.fish_image.proofs.keys.has_keys.Given as goal
 

@@ -2,7 +2,7 @@
 use Rattle.std.proofs.Common.{◌≡◌, ◌++◌, ◌∷◌, [], Some, arith, sym, subst, ◌∙◌}
 use Rattle.std.proofs.lemmas.List.{take_all}
 use Rattle.fish_catalog.specs.declared.row.CatRow.{CatRow}
-use Rattle.fish_image.specs.Reading.{IsRowOf}
+use Rattle.fish_image.specs.within.Reading.{IsRowOf}
 use Rattle.fish_image.proofs.Spelling.{next_row}
 use Rattle.fish_image.proofs.read.read_rows.Goals as goal
 

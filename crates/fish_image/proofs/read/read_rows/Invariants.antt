@@ -2,7 +2,7 @@
 use Rattle.std.proofs.Common.{◌≡◌, ℕ, ◌*◌, ◌-◌, ◌≤◌, List, ◌++◌, drop, length, take}
 use Rattle.std.specs.List.{flat_map}
 use Rattle.fish_catalog.specs.declared.row.CatRow.{CatRow}
-use Rattle.fish_image.specs.Reading.{AreRowsOf}
+use Rattle.fish_image.specs.within.Reading.{AreRowsOf}
 use Rattle.fish_image.specs.Slot.{row_bytes}
 use Rattle.fish_image.proofs.read.read_rows.Given as goal
 

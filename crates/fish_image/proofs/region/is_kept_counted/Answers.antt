@@ -5,7 +5,7 @@ use Rattle.fish_layout.specs.declared.parts.KeyPart.{KeyPart}
 use Rattle.fish_psf.specs.Eval.{Fields}
 use Rattle.fish_psf.specs.Records.{fields_of_payload, is_record}
 use Rattle.fish_read.specs.Rows.{fields_in_row}
-use Rattle.fish_image.specs.Terms.{HasKeysFor}
+use Rattle.fish_image.specs.within.Terms.{HasKeysFor}
 use Rattle.fish_image.proofs.region.is_kept_counted.Goals as goal
 
 pub returns-in-Ok : goal.returns-in-Ok

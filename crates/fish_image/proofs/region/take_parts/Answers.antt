@@ -7,7 +7,7 @@ use Rattle.fish_image.specs.Log.{behind_record}
 use Rattle.fish_image.specs.Progress.{AreHeads}
 use Rattle.fish_image.specs.Reached.{AreLinked, with_keys}
 use Rattle.fish_layout.specs.Pages.{page_of}
-use Rattle.fish_image.specs.Regions.{HasKeysIn}
+use Rattle.fish_image.specs.within.Regions.{HasKeysIn}
 use Rattle.fish_image.specs.declared.terms.IndexRow.{IndexRow}
 use Rattle.fish_image.proofs.RowKeys.{keys_in, keys_out}
 use Rattle.fish_image.proofs.region.take_parts.Goals as goal

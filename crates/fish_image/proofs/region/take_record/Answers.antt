@@ -6,7 +6,7 @@ use Rattle.fish_layout.proofs.Once.{body_once}
 use Rattle.fish_layout.specs.Body.{IsBody}
 use Rattle.fish_layout.specs.declared.parts.BodyParts.{BodyParts}
 use Rattle.fish_image.specs.Log.{IsKeptAt, IsRecordAt, behind_record}
-use Rattle.fish_image.specs.Progress.{Took}
+use Rattle.fish_image.specs.within.Progress.{Took}
 use Rattle.fish_image.specs.Reached.{Reached}
 use Rattle.fish_image.specs.declared.progress.Progress.{Progress}
 use Rattle.fish_image.proofs.region.take_record.Goals as goal

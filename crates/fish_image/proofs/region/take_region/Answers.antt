@@ -5,7 +5,7 @@ use Rattle.fish_catalog.specs.declared.commit.Commit.{Commit}
 use Rattle.fish_catalog.specs.declared.entry.Entry.TheVariants.{Void}
 use Rattle.fish_layout.specs.declared.parts.BodyParts.{BodyParts}
 use Rattle.fish_image.specs.Log.{FollowsIn, IsRecordAt, IsVoidAt, behind_record, void_words}
-use Rattle.fish_image.specs.Progress.{Took}
+use Rattle.fish_image.specs.within.Progress.{Took}
 use Rattle.fish_image.specs.Reached.{Reached, behind}
 use Rattle.fish_layout.specs.Pages.{page_of}
 use Rattle.fish_image.specs.declared.progress.Progress.{Progress}

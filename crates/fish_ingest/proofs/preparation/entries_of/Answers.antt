@@ -3,7 +3,7 @@ use Rattle.std.proofs.Common.{All, List, subst, sym}
 use Rattle.fish_lang.specs.Definition.{definition_of}
 use Rattle.fish_value.specs.declared.value.Value.{Value}
 use Rattle.fish_ingest.proofs.PreparationKeys.{entries_more, values_short}
-use Rattle.fish_ingest.specs.Preparation.{AreMore, IsShort}
+use Rattle.fish_ingest.specs.within.Preparation.{AreMore, IsShort}
 use Rattle.fish_ingest.proofs.preparation.entries_of.Goals as goal
 
 pub push_given-requires : goal.push_given-requires

@@ -1,6 +1,6 @@
 -- The entries so far are those of the definitions so far.
 use Rattle.std.proofs.Common.{take}
-use Rattle.fish_ingest.specs.Preparation.{AreEntriesFor}
+use Rattle.fish_ingest.specs.within.Preparation.{AreEntriesFor}
 use Rattle.fish_ingest.proofs.preparation.entries_of.Given as goal
 
 abbrev pub invariant-loop-active : goal.invariant-loop-active

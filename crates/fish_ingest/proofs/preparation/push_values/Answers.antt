@@ -4,7 +4,7 @@ use Rattle.std.proofs.lemmas.List.Elements.{All-head, All-tail}
 use Rattle.std.specs.Vec.Iter.{into_iter_items}
 use Rattle.fish_value.specs.declared.value.Value.{Value}
 use Rattle.fish_ingest.proofs.PreparationKeys.{more_more, none_more}
-use Rattle.fish_ingest.specs.Preparation.{AreMore, IsShort}
+use Rattle.fish_ingest.specs.within.Preparation.{AreMore, IsShort}
 use Rattle.fish_ingest.proofs.preparation.push_values.Goals as goal
 
 nothing_left : {X : Type 0} (l : List X) → length l ≡ 0 → l ≡ []

@@ -1,7 +1,7 @@
 -- The entries of the values so far come after the others, and the values that are left are short.
 use Rattle.std.proofs.Common.{◌≡◌, ◌++◌, All, length}
 use Rattle.std.specs.Vec.Iter.{into_iter_items, into_iter_len}
-use Rattle.fish_ingest.specs.Preparation.{AreMore, IsShort}
+use Rattle.fish_ingest.specs.within.Preparation.{AreMore, IsShort}
 use Rattle.fish_ingest.proofs.preparation.push_values.Given as goal
 
 abbrev pub invariant-loop-value : goal.invariant-loop-value

@@ -1,7 +1,7 @@
 -- What is open after all nodes is what is open after those that are left, from here.
 use Rattle.std.proofs.Common.{◌≡◌, map, drop}
 use Rattle.json.specs.Tape.{node_token}
-use Rattle.fish_json.specs.Tape.{open_after}
+use Rattle.fish_json.specs.within.Tape.{open_after}
 use Rattle.fish_json.proofs.nodes.fits.Given as goal
 
 abbrev pub invariant-loop-node : goal.invariant-loop-node

@@ -1,6 +1,6 @@
 -- The three cases: no document, one that does not fit, and one that fits.
 use Rattle.std.proofs.Common.{◌≡◌, Err, true, false, is_some, sym, ap, ◌∙◌}
-use Rattle.fish_json.specs.Tape.{open_after}
+use Rattle.fish_json.specs.within.Tape.{open_after}
 use Rattle.fish_json.proofs.Readings.{read-no_document, read-no_fit, read-fits}
 use Rattle.fish_json.proofs.reader.tape_of.Goals as goal
 

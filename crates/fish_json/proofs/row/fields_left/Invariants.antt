@@ -3,7 +3,7 @@ use Rattle.std.proofs.Common.{◌≡◌, ◌++◌, length, map}
 use Rattle.serde_json.specs.Data.{Items}
 use Rattle.fish_value.specs.Seen.{field_seen}
 use Rattle.fish_json.specs.Reading.{item_fields}
-use Rattle.fish_json.specs.Tape.{StandItems}
+use Rattle.fish_json.specs.within.Tape.{StandItems}
 use Rattle.fish_json.proofs.row.fields_left.Given as goal
 
 abbrev pub invariant-loop-value : goal.invariant-loop-value

@@ -1,7 +1,7 @@
 -- One name more: it leads on, or it ends the path.
 use Rattle.std.proofs.Common.{sym, subst, arith}
 use Rattle.fish_json.specs.Reading.{at_path}
-use Rattle.fish_json.specs.Tape.{FindsData}
+use Rattle.fish_json.specs.within.Tape.{FindsData}
 use Rattle.fish_json.proofs.Found.{walk_none, walk_some, walk_over}
 use Rattle.fish_json.proofs.row.walk.Goals as goal
 

@@ -2,7 +2,7 @@
 use Rattle.std.proofs.Common.{◌≡◌, drop}
 use Rattle.serde_json.specs.Data.{Data}
 use Rattle.fish_json.specs.Reading.{at_path}
-use Rattle.fish_json.specs.Tape.{Stands}
+use Rattle.fish_json.specs.within.Tape.{Stands}
 use Rattle.fish_json.proofs.row.walk.Given as goal
 
 abbrev pub invariant-loop-name : goal.invariant-loop-name

@@ -1,6 +1,6 @@
 -- It is what the tokens lead to.
 use Rattle.std.proofs.Common.{sym, ◌∙◌}
-use Rattle.fish_lang.specs.Outcome.{outcome}
+use Rattle.fish_lang.specs.within.Outcome.{outcome}
 use Rattle.fish_lang.proofs.Outcomes.{outcome-is, outcome-only}
 use Rattle.fish_lang.proofs.law.has_one_outcome.Goals as goal
 

@@ -1,9 +1,9 @@
 -- The tokens to come lead from the state to what all lead to from the start.
 use Rattle.std.proofs.Common.{◌≡◌}
 use Rattle.std.specs.Vec.Iter.{into_iter_items}
-use Rattle.fish_lang.specs.Machine.{start}
-use Rattle.fish_lang.specs.Outcome.{run}
-use Rattle.fish_lang.specs.Views.{state_view}
+use Rattle.fish_lang.specs.within.Machine.{start}
+use Rattle.fish_lang.specs.within.Outcome.{run}
+use Rattle.fish_lang.specs.within.Views.{state_view}
 use Rattle.fish_lang.proofs.parse.definition.Given as goal
 
 abbrev pub invariant-loop-placed : goal.invariant-loop-placed

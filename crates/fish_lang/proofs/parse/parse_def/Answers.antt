@@ -2,7 +2,8 @@
 use Rattle.std.proofs.Common.{subst}
 use Rattle.std.specs.Prelude.{Result}
 use Rattle.fish_lang.specs.Definition.{Definition, definition_of}
-use Rattle.fish_lang.specs.Outcome.{Gives, outcome}
+use Rattle.fish_lang.specs.Outcome.{Gives}
+use Rattle.fish_lang.specs.within.Outcome.{outcome}
 use Rattle.fish_lang.specs.declared.parse.LangRefusal.{LangRefusal}
 use Rattle.fish_lang.proofs.Outcomes.{Gives-due, outcome-is, outcome-only}
 use Rattle.fish_lang.proofs.parse.parse_def.Goals as goal

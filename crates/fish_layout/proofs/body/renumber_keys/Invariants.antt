@@ -1,7 +1,7 @@
 -- The entries so far have the other number, and all other words stay.
 use Rattle.std.proofs.Common.{◌≡◌, ℕ, length, get_or}
-use Rattle.fish_layout.specs.Cleared.{IsNumberWord}
-use Rattle.fish_layout.specs.Entry.{renumbered}
+use Rattle.fish_layout.specs.within.Cleared.{IsNumberWord}
+use Rattle.fish_layout.specs.within.Entry.{renumbered}
 use Rattle.fish_layout.proofs.body.renumber_keys.Given as goal
 
 abbrev pub invariant-loop-position : goal.invariant-loop-position

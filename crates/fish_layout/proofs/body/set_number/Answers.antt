@@ -2,8 +2,8 @@
 use Rattle.std.proofs.Common.{◌≡◌, ◌<◌, ℕ, List, length, get_or, sym, ap, ◌∙◌, subst, arith}
 use Rattle.std.proofs.lemmas.List.{get_or_read}
 use Rattle.fish_layout.specs.Body.{IsBody}
-use Rattle.fish_layout.specs.Cleared.{IsNumberWord}
-use Rattle.fish_layout.specs.Entry.{renumbered}
+use Rattle.fish_layout.specs.within.Cleared.{IsNumberWord}
+use Rattle.fish_layout.specs.within.Entry.{renumbered}
 use Rattle.fish_layout.specs.Header.{keys_of}
 use Rattle.fish_layout.specs.declared.parts.BodyParts.{BodyParts}
 use Rattle.fish_layout.proofs.Numbers.{body_numbered}

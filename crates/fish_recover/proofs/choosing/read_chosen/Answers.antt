@@ -2,7 +2,7 @@
 use Rattle.std.specs.Prelude.{◌↔◌, IsTrue}
 use Rattle.fish_disk.proofs.Regions.{still_holds}
 use Rattle.fish_recover.proofs.Slots.{body_cause, chosen}
-use Rattle.fish_recover.specs.Choosing.{IsNewer}
+use Rattle.fish_recover.specs.within.Choosing.{IsNewer}
 use Rattle.fish_slots.specs.Slots.{IsOpen}
 use Rattle.fish_recover.proofs.choosing.read_chosen.Goals as goal
 

@@ -1,7 +1,7 @@
 -- The shape is held first, and then the lines.
 use Rattle.fish_disk.proofs.Regions.{still_holds}
 use Rattle.fish_recover.proofs.Holding.{held, held_not, held_other}
-use Rattle.fish_recover.specs.Choosing.{IsChosen}
+use Rattle.fish_recover.specs.within.Choosing.{IsChosen}
 use Rattle.fish_recover.proofs.finding.hold.Goals as goal
 
 pub returns-then-differs-clause-refused : goal.returns-then-differs-clause-refused

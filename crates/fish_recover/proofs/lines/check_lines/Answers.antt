@@ -6,7 +6,7 @@ use Rattle.fish_disk.proofs.Regions.{still_holds}
 use Rattle.fish_image.specs.Checking.{HasChecked, HasSeen}
 use Rattle.fish_recover.proofs.Feeding.{all_cause, any_holds, both_hold, lines_read, read_none}
 use Rattle.fish_recover.proofs.Slots.{still_same, still_then}
-use Rattle.fish_recover.specs.Opening.{IsPieceCause, first_words}
+use Rattle.fish_recover.specs.within.Opening.{IsPieceCause, first_words}
 use Rattle.fish_recover.proofs.lines.check_lines.Goals as goal
 
 pub loop-line-preserved : goal.loop-line-preserved

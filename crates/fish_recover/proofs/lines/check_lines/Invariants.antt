@@ -4,7 +4,8 @@ use Rattle.std.specs.Prelude.{IfSome}
 use Rattle.fish_disk.specs.Content.{StillReads}
 use Rattle.fish_disk.specs.Crash.{LeavesOnly}
 use Rattle.fish_image.specs.Checking.{HasSeen, IsChecker}
-use Rattle.fish_recover.specs.Opening.{HasRead, first_words, pages_of}
+use Rattle.fish_recover.specs.Opening.{pages_of}
+use Rattle.fish_recover.specs.within.Opening.{HasRead, first_words}
 use Rattle.fish_recover.proofs.lines.check_lines.Given as goal
 
 -- the lines up to some line were given to the checker, and the disk was only read

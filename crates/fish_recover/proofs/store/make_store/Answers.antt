@@ -6,7 +6,7 @@ use Rattle.fish_flush.specs.Kept.{first_commit}
 use Rattle.fish_recover.proofs.Beginnings.{begun_open, committed_kept}
 use Rattle.fish_recover.proofs.Refusals.{err_is, err_ok, flush_cause, flushed_outside, memory_cause, ok_cause}
 use Rattle.fish_recover.specs.Beginning.{BeginsAt}
-use Rattle.fish_recover.specs.Opening.{IsOutside}
+use Rattle.fish_recover.specs.within.Opening.{IsOutside}
 use Rattle.fish_recover.specs.Stores.{IsOpened}
 use Rattle.fish_recover.specs.declared.refusal.OpenRefusal.TheVariants.{OutOfMemory}
 use Rattle.fish_rule.specs.Start.{IsShape}

@@ -12,7 +12,8 @@ use Rattle.fish_recover.proofs.Openings.{earlier_opened, empty_told, made_opened
 use Rattle.fish_recover.proofs.Refusals.{err_both, err_is, err_ok, err_then, later_cause, ok_both, ok_then, outside_not, outside_store}
 use Rattle.fish_recover.proofs.Refusals.{store_cause}
 use Rattle.fish_recover.proofs.Slots.{still_then}
-use Rattle.fish_recover.specs.Opening.{IsOfStore, IsOpenCause, IsOutside}
+use Rattle.fish_recover.specs.Opening.{IsOfStore, IsOpenCause}
+use Rattle.fish_recover.specs.within.Opening.{IsOutside}
 use Rattle.fish_recover.specs.Stores.{HasOpened, IsOpened, IsStoreCause, asked_shape}
 use Rattle.fish_recover.specs.declared.refusal.OpenRefusal.TheVariants.{DiskFault}
 use Rattle.fish_recover.proofs.store.open_synced.Goals as goal

@@ -1,6 +1,7 @@
 -- The lanes below this one were looked at, and are clear.
 use Rattle.fish_registry.specs.Knowing.{IsAwaited}
-use Rattle.fish_registry.specs.Looking.{Looks, at_lane}
+use Rattle.fish_registry.specs.Looking.{at_lane}
+use Rattle.fish_registry.specs.within.Looking.{Looks}
 use Rattle.fish_rule.specs.Passes.{IsPassOf, view}
 use Rattle.fish_registry.proofs.looking.first_older.Given as goal
 

@@ -1,7 +1,7 @@
 -- Each word is the next one of the row.
 use Rattle.std.proofs.Common.{ℕ, ◌+◌, ◌<◌, slice_index, sym, refl, subst}
 use Rattle.fish_registry.proofs.Drafts.{can_draft, drafted_next, drafted_none}
-use Rattle.fish_registry.specs.Rows.{HasDrafted}
+use Rattle.fish_registry.specs.within.Rows.{HasDrafted}
 use Rattle.fish_rule.specs.Registry.{row_at}
 use Rattle.fish_rule.specs.RegistrySteps.{CanDefineWord, after_define_word}
 use Rattle.fish_rule.specs.Passes.{view}

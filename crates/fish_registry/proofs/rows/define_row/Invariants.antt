@@ -1,5 +1,5 @@
 -- The words up to the position are stored.
-use Rattle.fish_registry.specs.Rows.{HasDrafted}
+use Rattle.fish_registry.specs.within.Rows.{HasDrafted}
 use Rattle.fish_rule.specs.Passes.{IsPassOf, view}
 use Rattle.fish_registry.proofs.rows.define_row.Given as goal
 

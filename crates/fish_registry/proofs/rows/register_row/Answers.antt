@@ -1,7 +1,7 @@
 -- The row's words and its operation are stored, so the version may be raised.
 use Rattle.std.proofs.Common.{◌∙◌, ap, sym, subst}
 use Rattle.fish_registry.proofs.Registrations.{IsDrafted, can_raise, can_store, registered}
-use Rattle.fish_registry.specs.Rows.{HasRegistered}
+use Rattle.fish_registry.specs.within.Rows.{HasRegistered}
 use Rattle.fish_rule.specs.RegistrySteps.{CanDefineWord, CanRaiseVersion, after_define_word, after_raise_version}
 use Rattle.fish_rule.specs.Passes.{view}
 use Rattle.fish_rule.specs.declared.view.View.{View}

@@ -4,7 +4,7 @@ use Rattle.fish_rule.proofs.basics.Context.{Key, View, get_elem?, some, view}
 use Rattle.fish_rule.proofs.laws.Descents.{extends_head}
 use Rattle.fish_rule.proofs.laws.ReadsOn.{head_new, heads_more}
 use Rattle.fish_rule.proofs.laws.Learning.{extends_both}
-use Rattle.fish_rule.specs.ClosedLog.{HasHead}
+use Rattle.fish_rule.specs.within.ClosedLog.{HasHead}
 use Rattle.fish_rule.specs.Logs.{Extends}
 use Rattle.fish_rule.specs.Parts.{first_head}
 use Rattle.fish_rule.proofs.close.all_heads.Goals as goal

@@ -1,7 +1,7 @@
 -- The heads so far are those of as many buckets, and nothing was settled meanwhile.
 use Rattle.std.proofs.Common.{◌≡◌, ℕ, length}
 use Rattle.fish_rule.proofs.basics.Context.{get_elem?, some, view}
-use Rattle.fish_rule.specs.ClosedLog.{HasHead}
+use Rattle.fish_rule.specs.within.ClosedLog.{HasHead}
 use Rattle.fish_rule.specs.Logs.{Extends}
 use Rattle.fish_rule.specs.Passes.{IsPassOf}
 use Rattle.fish_rule.proofs.close.all_heads.Given as goal

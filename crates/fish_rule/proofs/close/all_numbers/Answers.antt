@@ -3,7 +3,7 @@ use Rattle.std.proofs.Common.{◌≡◌, ◌∙◌, ◌+◌, suc, subst, ℕ, ar
 use Rattle.fish_rule.proofs.laws.Alone.{alone_later}
 use Rattle.fish_rule.proofs.laws.ReadsOn.{goes_on}
 use Rattle.fish_rule.proofs.laws.Learning.{extends_both}
-use Rattle.fish_rule.specs.ClosedLog.{IsReadUpTo}
+use Rattle.fish_rule.specs.within.ClosedLog.{IsReadUpTo}
 use Rattle.fish_rule.specs.Passes.{view}
 use Rattle.fish_rule.proofs.close.all_numbers.Goals as goal
 

@@ -1,6 +1,6 @@
 -- The entries below the number were read; the pass is alone.
 use Rattle.std.proofs.Common.{◌≡◌, ◌≤◌}
-use Rattle.fish_rule.specs.ClosedLog.{IsReadUpTo}
+use Rattle.fish_rule.specs.within.ClosedLog.{IsReadUpTo}
 use Rattle.fish_rule.specs.Logs.{Extends}
 use Rattle.fish_rule.specs.Passes.{IsPassOf, view}
 use Rattle.fish_rule.specs.LoadSteps.{IsAlone}

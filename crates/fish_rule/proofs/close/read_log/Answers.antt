@@ -2,7 +2,8 @@
 use Rattle.std.proofs.Common.{◌≡◌, ◌∙◌, ◌≤◌, ℕ, arith, ap, sym, subst, Some}
 use Rattle.fish_rule.proofs.laws.ReadsOn.{heads_later, reads_version, stays_open, to_version}
 use Rattle.fish_rule.proofs.laws.ReadSoFar.{read_later}
-use Rattle.fish_rule.specs.ClosedLog.{AreHeads, StaysOpen}
+use Rattle.fish_rule.specs.ClosedLog.{StaysOpen}
+use Rattle.fish_rule.specs.within.ClosedLog.{AreHeads}
 use Rattle.fish_rule.specs.LoadSteps.{after_load_tail}
 use Rattle.fish_rule.specs.Logs.{Extends}
 use Rattle.fish_rule.specs.Parts.{Rests}

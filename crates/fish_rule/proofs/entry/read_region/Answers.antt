@@ -9,7 +9,7 @@ use Rattle.fish_rule.proofs.laws.Learning.{extends_both, extends_to_read, read_h
 use Rattle.fish_rule.proofs.laws.Steps.{found_law, header_law}
 use Rattle.fish_rule.proofs.basics.RegionWords.{ArePut, put_head, put_known, put_more, put_rest, put_size}
 use Rattle.fish_rule.proofs.basics.Context.{Among, View, view}
-use Rattle.fish_rule.specs.Logs.{IsWordKnown}
+use Rattle.fish_rule.specs.within.Logs.{IsWordKnown}
 use Rattle.fish_rule.proofs.entry.read_region.Goals as goal
 
 -- a word that was told is known, unless it is the first of a key entry

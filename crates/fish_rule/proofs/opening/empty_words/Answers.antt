@@ -5,7 +5,7 @@ use Rattle.fish_catalog.specs.Clamps.{IsClamped}
 use Rattle.std.proofs.lemmas.Grind.{common_steps}
 use Rattle.fish_catalog.specs.declared.row.CatRow.{CatRow}
 use Rattle.fish_rule.proofs.basics.EmptyWords.{opens, start_words, tail_at}
-use Rattle.fish_rule.specs.Start.{IsEmpty}
+use Rattle.fish_rule.specs.within.Start.{IsEmpty}
 use Rattle.fish_rule.specs.World.{total}
 use Rattle.fish_rule.proofs.opening.empty_words.Goals as goal
 

@@ -1,7 +1,7 @@
 -- The words are those of an empty log, of which the rule holds, and the first pass has the view of its start.
 use Rattle.std.proofs.Common.{length, sym, ap, ◌∙◌, subst, ℕ, ◌≤◌, arith}
 use Rattle.fish_rule.proofs.steps.OpenLog.{begins, first_stands}
-use Rattle.fish_rule.specs.Start.{IsEmpty}
+use Rattle.fish_rule.specs.within.Start.{IsEmpty}
 use Rattle.fish_rule.specs.Table.{Sat, Stands}
 use Rattle.fish_rule.specs.declared.view.View.{View}
 use Rattle.fish_rule.proofs.seats.open_log.Goals as goal

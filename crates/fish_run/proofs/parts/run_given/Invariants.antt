@@ -7,7 +7,7 @@ use Rattle.fish_lanes.specs.declared.work.Work.{Work}
 use Rattle.fish_outside.specs.Content.{SameFiles}
 use Rattle.fish_run.specs.within.Going.{GoesIn}
 use Rattle.fish_run.specs.within.Parts.{AreUngiven}
-use Rattle.fish_run.specs.Runs.{CanGoOn}
+use Rattle.fish_run.specs.within.Runs.{CanGoOn}
 use Rattle.fish_script.specs.declared.script.Statement.{Statement}
 use Rattle.fish_feed.specs.Queues.{left_of_all}
 use Rattle.fish_run.proofs.parts.run_given.Given as goal

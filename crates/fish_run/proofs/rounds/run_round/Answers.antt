@@ -4,7 +4,7 @@ use Rattle.fish_lanes.specs.declared.lane.Lane.{Lane}
 use Rattle.fish_rule.specs.Passes.{view}
 use Rattle.fish_run.proofs.Blocks.{leaves_of}
 use Rattle.fish_run.proofs.Going.{first_there, go_whole, table_same}
-use Rattle.fish_run.specs.Runs.{Behind}
+use Rattle.fish_run.specs.within.Runs.{Behind}
 use Rattle.fish_whole.specs.Whole.{Whole}
 use Rattle.fish_run.proofs.rounds.run_round.Goals as goal
 

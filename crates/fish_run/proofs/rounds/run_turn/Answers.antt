@@ -12,9 +12,9 @@ use Rattle.fish_run.proofs.Rounding.{and_false, ends_rounds, goes_more, renewed_
 use Rattle.fish_run.proofs.Stepping.{above_base, asked_for, fewer_tables, idle_next, kept_pairs, lanes_next}
 use Rattle.fish_run.specs.within.Going.{HasStepped}
 use Rattle.fish_run.specs.within.Turning.{StopsTurn}
-use Rattle.fish_run.specs.Runs.{Behind, CanGoOn}
+use Rattle.fish_run.specs.within.Runs.{Behind, CanGoOn}
 use Rattle.fish_run.specs.Tables.{IsNearLimits}
-use Rattle.fish_run.specs.Steps.{AreWhole}
+use Rattle.fish_run.specs.within.Steps.{AreWhole}
 use Rattle.fish_run.specs.declared.fault.RunFault.TheVariants as fault
 use Rattle.fish_run.specs.declared.lasting.Stopped.{Stopped}
 use Rattle.fish_whole.specs.Whole.{Whole}

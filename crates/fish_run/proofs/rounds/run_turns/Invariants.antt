@@ -4,7 +4,7 @@ use Rattle.fish_lanes.specs.Blocks.{AreLanes}
 use Rattle.fish_lanes.specs.declared.work.Work.{Work}
 use Rattle.fish_run.specs.within.Going.{IsReady}
 use Rattle.fish_run.specs.within.Turning.{tables_left}
-use Rattle.fish_run.specs.Runs.{CanGoOn}
+use Rattle.fish_run.specs.within.Runs.{CanGoOn}
 use Rattle.fish_store.specs.declared.store.Store.{Store}
 use Rattle.fish_run.proofs.rounds.run_turns.Given as goal
 

@@ -14,9 +14,9 @@ use Rattle.fish_run.proofs.Works.{still_both, still_self}
 use Rattle.fish_run.specs.Blocks.{Round, first_registry}
 use Rattle.fish_run.specs.Faults.{IsUndamaged, write_fault}
 use Rattle.fish_run.specs.Reports.{first_item}
-use Rattle.fish_run.specs.Running.{StopsRun, counts_of}
-use Rattle.fish_run.specs.Runs.{CanGoOn}
-use Rattle.fish_run.specs.Steps.{WritesBlocks}
+use Rattle.fish_run.specs.within.Running.{StopsRun, counts_of}
+use Rattle.fish_run.specs.within.Runs.{CanGoOn}
+use Rattle.fish_run.specs.within.Steps.{WritesBlocks}
 use Rattle.fish_run.specs.within.Counting.{Counts, IsCausedBy}
 use Rattle.fish_run.specs.declared.fault.RunFault.{RunFault}
 use Rattle.fish_run.specs.declared.lasting.Stopped.{Stopped}

@@ -13,7 +13,7 @@ use Rattle.fish_run.specs.Blocks.{with_cut}
 use Rattle.fish_run.specs.Faults.{IsUndamaged, write_fault}
 use Rattle.fish_run.specs.Reports.{said_items, said_refused}
 use Rattle.fish_run.specs.Rounds.{AreRounds}
-use Rattle.fish_run.specs.Running.{StopsOne, counts_of}
+use Rattle.fish_run.specs.within.Running.{StopsOne, counts_of}
 use Rattle.fish_run.specs.within.Counting.{Counts, IsCausedBy}
 use Rattle.fish_run.specs.declared.fault.RunFault.{RunFault}
 use Rattle.fish_run.specs.declared.lasting.Stopped.{Stopped}

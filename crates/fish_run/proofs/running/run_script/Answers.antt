@@ -8,8 +8,8 @@ use Rattle.fish_run.proofs.Closing.{ends_late, ends_stopped, ends_whole, lost_al
 use Rattle.fish_run.proofs.Going.{new_store, point_opened}
 use Rattle.fish_run.proofs.Shown.{shown_is, shown_some, well_closed, well_ended}
 use Rattle.fish_run.specs.Ran.{IsLost, IsStopped, IsWhole}
-use Rattle.fish_run.specs.Runs.{IsNewStore}
-use Rattle.fish_run.specs.Steps.{Finishes}
+use Rattle.fish_run.specs.within.Runs.{IsNewStore}
+use Rattle.fish_run.specs.within.Steps.{Finishes}
 use Rattle.fish_run.specs.declared.fault.RunFault.TheVariants as fault
 use Rattle.fish_store.specs.Points.{point_at}
 use Rattle.fish_run.proofs.running.run_script.Goals as goal

@@ -7,7 +7,7 @@ use Rattle.fish_run.proofs.Faults.{commit_no_output, commit_other, commit_well}
 use Rattle.fish_run.proofs.One.{runs_on, stops_with}
 use Rattle.fish_run.specs.Blocks.{first_registry, rounds_of}
 use Rattle.fish_run.specs.Reports.{first_item}
-use Rattle.fish_run.specs.Running.{counts_of}
+use Rattle.fish_run.specs.within.Running.{counts_of}
 use Rattle.fish_run.specs.within.Counting.{Counts}
 use Rattle.fish_run.specs.declared.lasting.Stopped.{Stopped}
 use Rattle.fish_store.specs.Points.{point_at}

@@ -11,12 +11,13 @@ use Rattle.fish_scan.proofs.CutReadable.{readable_above, readable_below}
 use Rattle.fish_scan.proofs.Filling.{all_readable_later}
 use Rattle.fish_scan.proofs.OlderReads.{oks}
 use Rattle.fish_scan.proofs.Telling.{adds_later}
-use Rattle.fish_scan.specs.Below.{HasReadBelow}
-use Rattle.fish_scan.specs.Cutting.{AreOlderReadable, last_below, pieces_above, pieces_below}
+use Rattle.fish_scan.specs.within.Below.{HasReadBelow}
+use Rattle.fish_scan.specs.Cutting.{pieces_above, pieces_below}
+use Rattle.fish_scan.specs.within.Cutting.{AreOlderReadable, last_below}
 use Rattle.fish_scan.specs.Parses.{HasParsed}
-use Rattle.fish_scan.specs.Pieces.{AreReadable}
-use Rattle.fish_scan.specs.Reach.{first_in}
-use Rattle.fish_scan.specs.Work.{ArePiecesWork}
+use Rattle.fish_scan.specs.within.Pieces.{AreReadable}
+use Rattle.fish_scan.specs.within.Reach.{first_in}
+use Rattle.fish_scan.specs.within.Work.{ArePiecesWork}
 use Rattle.fish_scan.proofs.across.read_across.Goals as goal
 
 -- the pieces that were cut are these

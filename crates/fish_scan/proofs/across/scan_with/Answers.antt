@@ -13,8 +13,9 @@ use Rattle.fish_scan.proofs.Answering.{planned_readable, scans_both, scans_exten
 use Rattle.fish_scan.proofs.Carrying.{carried_last, stays_none}
 use Rattle.fish_scan.proofs.OlderReads.{err_as, err_same}
 use Rattle.fish_scan.proofs.PlannedScans.{explained_later, planned_fills}
-use Rattle.fish_scan.specs.Across.{HasReadAcross, IsAnswerWith, IsRefusedWith, IsUndamagedScan}
-use Rattle.fish_scan.specs.Pieces.{AreReadable}
+use Rattle.fish_scan.specs.Across.{IsAnswerWith, IsRefusedWith, IsUndamagedScan}
+use Rattle.fish_scan.specs.within.Across.{HasReadAcross}
+use Rattle.fish_scan.specs.within.Pieces.{AreReadable}
 use Rattle.fish_scan.specs.Scans.{IsExplained}
 use Rattle.fish_scan.specs.declared.ask.Answer.{Answer}
 use Rattle.fish_scan.specs.declared.refusal.ScanRefusal.{ScanRefusal}

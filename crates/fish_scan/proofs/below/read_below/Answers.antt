@@ -1,7 +1,7 @@
 -- One piece more is read at each turn.
 use Rattle.std.proofs.Common.{◌≡◌, ℕ, ◌+◌, suc, subst, arith}
 use Rattle.std.proofs.lemmas.Option.{slice_get-get_or}
-use Rattle.fish_cold.specs.Caching.{IsUndamaged}
+use Rattle.fish_cold.specs.within.Caching.{IsUndamaged}
 use Rattle.fish_cold.specs.declared.refusal.ColdRefusal.TheVariants.{DiskFault}
 use Rattle.fish_lang.specs.Definition.{definition_of}
 use Rattle.fish_plan.proofs.Inside.{piece_within}
@@ -11,8 +11,8 @@ use Rattle.fish_rule.specs.Passes.{view}
 use Rattle.fish_scan.proofs.BelowReads.{ReadsBelow, below_all, below_more, below_none, older_readable_later}
 use Rattle.fish_scan.proofs.Carrying.{ahead, back, below_on, stays_both, stays_none}
 use Rattle.fish_scan.proofs.OlderReads.{damage_wider, err_as, err_same}
-use Rattle.fish_scan.specs.Colder.{IsDamageIn}
-use Rattle.fish_scan.specs.Cutting.{last_below}
+use Rattle.fish_scan.specs.within.Colder.{IsDamageIn}
+use Rattle.fish_scan.specs.within.Cutting.{last_below}
 use Rattle.fish_scan.proofs.below.read_below.Goals as goal
 
 pub loop-piece-init : goal.loop-piece-init

@@ -5,7 +5,7 @@ use Rattle.fish_rule.specs.Logs.{Extends}
 use Rattle.fish_rule.specs.Passes.{IsPassOf, view}
 use Rattle.fish_scan.proofs.BelowReads.{ReadsBelow}
 use Rattle.fish_scan.specs.Colder.{StaysCold}
-use Rattle.fish_scan.specs.Cutting.{last_below}
+use Rattle.fish_scan.specs.within.Cutting.{last_below}
 use Rattle.fish_scan.proofs.below.read_below.Given as goal
 
 abbrev pub invariant-loop-piece : goal.invariant-loop-piece

@@ -6,7 +6,7 @@ use Rattle.fish_rule.specs.Logs.{Extends}
 use Rattle.fish_rule.specs.Passes.{view, walk_of}
 use Rattle.fish_rule.specs.declared.table.Pass.{Pass}
 use Rattle.fish_scan.proofs.Descending.{entries_above, entries_passed}
-use Rattle.fish_scan.specs.OlderWork.{IsWalkWork}
+use Rattle.fish_scan.specs.within.OlderWork.{IsWalkWork}
 use Rattle.fish_scan.proofs.chained.rest_of.Goals as goal
 
 pub returns-clause-extends : goal.returns-clause-extends

@@ -1,5 +1,5 @@
 -- What isn't damaged where the record was read isn't.
-use Rattle.fish_cold.specs.Caching.{IsUndamaged}
+use Rattle.fish_cold.specs.within.Caching.{IsUndamaged}
 use Rattle.fish_scan.proofs.OlderReads.{err_as}
 use Rattle.fish_scan.proofs.chained.visit.Goals as goal
 

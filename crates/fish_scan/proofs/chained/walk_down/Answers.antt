@@ -3,7 +3,7 @@ use Rattle.std.proofs.Common.{◌≡◌, ◌≢◌, ℕ, Option, Some, None, Ok,
 use Rattle.std.proofs.Math.Decide.{ℕ_discrete}
 use Rattle.std.specs.Prelude.{IfSome, Result}
 use Rattle.fish_cold.specs.Answers.{IsLinkable, Walks}
-use Rattle.fish_cold.specs.Caching.{IsUndamaged}
+use Rattle.fish_cold.specs.within.Caching.{IsUndamaged}
 use Rattle.fish_cold.specs.declared.node.ColdNode.{ColdNode}
 use Rattle.fish_cold.specs.declared.refusal.ColdRefusal.{ColdRefusal}
 use Rattle.fish_cold.specs.Chains.{IsKeyAt}

@@ -5,7 +5,7 @@ use Rattle.fish_lang.specs.Definition.{definition_of}
 use Rattle.fish_rule.specs.declared.view.Key.{Key}
 use Rattle.fish_scan.proofs.OlderDown.{IsDown}
 use Rattle.fish_scan.specs.Colder.{StaysCold}
-use Rattle.fish_scan.specs.OlderReading.{IsHeadOf}
+use Rattle.fish_scan.specs.within.OlderReading.{IsHeadOf}
 use Rattle.fish_scan.proofs.chained.walk_down.Given as goal
 
 abbrev pub invariant-down : goal.invariant-down

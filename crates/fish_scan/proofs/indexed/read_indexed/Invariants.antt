@@ -5,7 +5,8 @@ use Rattle.fish_lang.specs.Definition.{definition_of}
 use Rattle.fish_rule.specs.Logs.{Extends}
 use Rattle.fish_rule.specs.Passes.{IsPassOf, view, walk_of}
 use Rattle.fish_scan.proofs.Descending.{IsDescent}
-use Rattle.fish_scan.specs.Indices.{Gathers, bucket_of_value}
+use Rattle.fish_scan.specs.Indices.{bucket_of_value}
+use Rattle.fish_scan.specs.within.Indices.{Gathers}
 use Rattle.fish_value.specs.declared.row.Row.{Row}
 use Rattle.fish_scan.proofs.indexed.read_indexed.Given as goal
 

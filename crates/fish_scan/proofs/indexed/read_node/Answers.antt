@@ -3,8 +3,8 @@ use Rattle.std.proofs.Common.{ℕ, List, Option, refl, sym, subst, inl, inr, ari
 use Rattle.fish_rule.specs.Passes.{view}
 use Rattle.fish_rule.specs.declared.view.View.{View}
 use Rattle.fish_scan.proofs.Loading.{loaded_none, loaded_one, rises_none, rises_within}
-use Rattle.fish_scan.specs.Indices.{IsValued}
-use Rattle.fish_scan.specs.Work.{IsComparison}
+use Rattle.fish_scan.specs.within.Indices.{IsValued}
+use Rattle.fish_scan.specs.within.Work.{IsComparison}
 use Rattle.fish_scan.proofs.indexed.read_node.Goals as goal
 
 pub returns-in_err-payload-clause-pass : goal.returns-in_err-payload-clause-pass

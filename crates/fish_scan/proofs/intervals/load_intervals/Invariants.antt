@@ -1,7 +1,7 @@
 -- The intervals of the rows so far.
 use Rattle.fish_rule.specs.Passes.{IsPassOf, view}
 use Rattle.fish_scan.proofs.Beginnings.{AreSoFar}
-use Rattle.fish_scan.specs.Intervals.{OnlyBoundaries}
+use Rattle.fish_scan.specs.within.Intervals.{OnlyBoundaries}
 use Rattle.fish_scan.proofs.intervals.load_intervals.Given as goal
 
 abbrev pub invariant-loop-row : goal.invariant-loop-row

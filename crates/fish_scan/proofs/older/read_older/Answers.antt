@@ -1,13 +1,13 @@
 -- One number more is read at each turn.
 use Rattle.std.proofs.Common.{◌≡◌, ℕ, ◌+◌, ◌-◌, ap, subst, arith}
-use Rattle.fish_cold.specs.Caching.{IsUndamaged}
+use Rattle.fish_cold.specs.within.Caching.{IsUndamaged}
 use Rattle.fish_cold.specs.declared.refusal.ColdRefusal.TheVariants.{DiskFault}
 use Rattle.fish_lang.specs.Definition.{definition_of}
 use Rattle.fish_rule.specs.declared.table.Base.{Base}
 use Rattle.fish_scan.proofs.Carrying.{ahead, back, stays_both, stays_none}
 use Rattle.fish_scan.proofs.OlderReads.{damage_wider, err_as, err_same, read_older_more, read_older_none}
-use Rattle.fish_scan.specs.Colder.{IsDamageIn}
-use Rattle.fish_scan.specs.OlderReading.{HasReadOlder}
+use Rattle.fish_scan.specs.within.Colder.{IsDamageIn}
+use Rattle.fish_scan.specs.within.OlderReading.{HasReadOlder}
 use Rattle.fish_scan.proofs.older.read_older.Goals as goal
 
 pub loop-number-init : goal.loop-number-init

@@ -4,7 +4,7 @@ use Rattle.fish_cold.specs.Carries.{CarriesTable}
 use Rattle.fish_lang.specs.Definition.{definition_of}
 use Rattle.fish_rule.specs.declared.view.Key.{Key}
 use Rattle.fish_scan.specs.Colder.{StaysCold}
-use Rattle.fish_scan.specs.OlderReading.{HasReadOlder}
+use Rattle.fish_scan.specs.within.OlderReading.{HasReadOlder}
 use Rattle.fish_scan.proofs.older.read_older.Given as goal
 
 abbrev pub invariant-loop-number : goal.invariant-loop-number

@@ -1,10 +1,10 @@
 -- The entry there matches, or doesn't.
 use Rattle.std.proofs.Common.{ℕ, List, Option, subst, arith}
-use Rattle.fish_cold.specs.Caching.{IsUndamaged}
+use Rattle.fish_cold.specs.within.Caching.{IsUndamaged}
 use Rattle.fish_lang.specs.Definition.{definition_of}
 use Rattle.fish_scan.proofs.OlderReads.{answer_undamaged, err_as, one_read, read_parsable}
 use Rattle.fish_scan.proofs.OlderRows.{older_found, older_unfound}
-use Rattle.fish_scan.specs.Reading.{IsMatching}
+use Rattle.fish_scan.specs.within.Reading.{IsMatching}
 use Rattle.fish_scan.proofs.older.read_older_at.Goals as goal
 
 pub returns-in_err-entry-clause-whole : goal.returns-in_err-entry-clause-whole

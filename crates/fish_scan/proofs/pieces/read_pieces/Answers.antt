@@ -12,9 +12,9 @@ use Rattle.fish_scan.proofs.Filling.{HasRead, full_at, parsed_all, read_all, rea
 use Rattle.fish_scan.proofs.Reaching.{reached_still}
 use Rattle.fish_scan.proofs.Loading.{rises_none}
 use Rattle.fish_scan.proofs.Working.{pieces_more, take_all}
-use Rattle.fish_scan.specs.Pieces.{full_numbers}
-use Rattle.fish_scan.specs.Reach.{first_in}
-use Rattle.fish_scan.specs.Work.{ArePiecesWork}
+use Rattle.fish_scan.specs.within.Pieces.{full_numbers}
+use Rattle.fish_scan.specs.within.Reach.{first_in}
+use Rattle.fish_scan.specs.within.Work.{ArePiecesWork}
 use Rattle.fish_scan.proofs.pieces.read_pieces.Goals as goal
 
 pub loop-piece-init : goal.loop-piece-init

@@ -4,9 +4,9 @@ use Rattle.fish_lang.specs.Definition.{definition_of}
 use Rattle.fish_rule.specs.Logs.{Extends}
 use Rattle.fish_rule.specs.Passes.{IsPassOf, view}
 use Rattle.fish_scan.proofs.Filling.{HasRead}
-use Rattle.fish_scan.specs.Pieces.{full_numbers}
-use Rattle.fish_scan.specs.Reach.{first_in}
-use Rattle.fish_scan.specs.Work.{ArePiecesWork}
+use Rattle.fish_scan.specs.within.Pieces.{full_numbers}
+use Rattle.fish_scan.specs.within.Reach.{first_in}
+use Rattle.fish_scan.specs.within.Work.{ArePiecesWork}
 use Rattle.fish_scan.proofs.pieces.read_pieces.Given as goal
 
 abbrev pub invariant-loop-piece : goal.invariant-loop-piece

@@ -3,7 +3,8 @@ use Rattle.std.proofs.Common.{◌≡◌, ℕ, ◌+◌, length, refl, sym, ap, �
 use Rattle.fish_rule.specs.Passes.{view}
 use Rattle.fish_scan.proofs.Ends.{exact_found}
 use Rattle.fish_scan.proofs.Looking.{reach_found, settles_looks}
-use Rattle.fish_scan.specs.Reach.{IsCut, end_of}
+use Rattle.fish_scan.specs.Reach.{end_of}
+use Rattle.fish_scan.specs.within.Reach.{IsCut}
 use Rattle.fish_walk.proofs.Looking.{looked_both}
 use Rattle.fish_rule.specs.declared.view.Key.{Key}
 use Rattle.fish_scan.proofs.reach.find_reach.Goals as goal

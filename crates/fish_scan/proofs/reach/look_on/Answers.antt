@@ -5,7 +5,7 @@ use Rattle.fish_rule.specs.Passes.{view}
 use Rattle.fish_scan.proofs.Ends.{none_open}
 use Rattle.fish_scan.proofs.Lists.{length_more}
 use Rattle.fish_scan.proofs.Looking.{looks_more, looks_none, looks_stop, open_looked, unmarked}
-use Rattle.fish_scan.specs.Reach.{AreLooks}
+use Rattle.fish_scan.specs.within.Reach.{AreLooks}
 use Rattle.fish_walk.proofs.Looking.{look_looks, looked_both, looked_self}
 use Rattle.fish_scan.proofs.reach.look_on.Goals as goal
 

@@ -2,8 +2,8 @@
 use Rattle.std.proofs.Common.{◌≡◌, ◌+◌, [], length}
 use Rattle.fish_rule.specs.Passes.{IsPassOf, view}
 use Rattle.fish_rule.specs.LoadSteps.{IsAlone}
-use Rattle.fish_scan.specs.Reach.{AreLooks}
-use Rattle.fish_walk.specs.Settling.{OnlyLooks}
+use Rattle.fish_scan.specs.within.Reach.{AreLooks}
+use Rattle.fish_walk.specs.within.Settling.{OnlyLooks}
 use Rattle.fish_scan.proofs.reach.look_on.Given as goal
 
 abbrev pub invariant-loop-number : goal.invariant-loop-number

@@ -5,7 +5,7 @@ use Rattle.fish_rule.specs.Passes.{view}
 use Rattle.fish_scan.proofs.Working.{full_read}
 use Rattle.fish_scan.proofs.Parsing.{parsed_read}
 use Rattle.fish_scan.proofs.Telling.{told_found, told_parsable, told_unfound}
-use Rattle.fish_scan.specs.Reading.{IsMatching}
+use Rattle.fish_scan.specs.within.Reading.{IsMatching}
 use Rattle.fish_scan.proofs.reading.read_number.Goals as goal
 
 pub matching-requires : goal.matching-requires

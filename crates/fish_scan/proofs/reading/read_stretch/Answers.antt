@@ -9,9 +9,9 @@ use Rattle.fish_scan.proofs.Telling.{adds_both, adds_later, adds_none}
 use Rattle.fish_scan.proofs.Working.{full_both, full_none}
 use Rattle.fish_plan.specs.declared.pieces.Piece.TheVariants.{Full}
 use Rattle.fish_scan.proofs.Parsing.{parsed_down, parsed_empty}
-use Rattle.fish_scan.specs.Parses.{HasParsedPiece}
-use Rattle.fish_scan.specs.Reading.{Adds}
-use Rattle.fish_scan.specs.Work.{IsFullWork}
+use Rattle.fish_scan.specs.within.Parses.{HasParsedPiece}
+use Rattle.fish_scan.specs.within.Reading.{Adds}
+use Rattle.fish_scan.specs.within.Work.{IsFullWork}
 use Rattle.fish_scan.proofs.reading.read_stretch.Goals as goal
 
 pub loop-number-init : goal.loop-number-init

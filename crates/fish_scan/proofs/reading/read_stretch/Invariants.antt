@@ -4,9 +4,9 @@ use Rattle.fish_lang.specs.Definition.{definition_of}
 use Rattle.fish_rule.specs.Logs.{Extends}
 use Rattle.fish_rule.specs.Passes.{IsPassOf, view}
 use Rattle.fish_plan.specs.declared.pieces.Piece.TheVariants.{Full}
-use Rattle.fish_scan.specs.Parses.{HasParsedPiece}
-use Rattle.fish_scan.specs.Reading.{Adds}
-use Rattle.fish_scan.specs.Work.{IsFullWork}
+use Rattle.fish_scan.specs.within.Parses.{HasParsedPiece}
+use Rattle.fish_scan.specs.within.Reading.{Adds}
+use Rattle.fish_scan.specs.within.Work.{IsFullWork}
 use Rattle.fish_scan.proofs.reading.read_stretch.Given as goal
 
 abbrev pub invariant-loop-number : goal.invariant-loop-number

@@ -12,7 +12,8 @@ use Rattle.fish_scan.proofs.Answering.{asked_later, err_gives, memory_refused, p
 use Rattle.fish_scan.proofs.Answering.{plans_extends, plans_settles, planned_scan_all, planned_scan_at, reach_within, read_later}
 use Rattle.fish_scan.proofs.Answering.{row_found, scans_both, scans_extends, scans_settles}
 use Rattle.fish_scan.proofs.Lists.{all_at}
-use Rattle.fish_scan.specs.Scans.{IsPlanRefused, IsQuery, IsUnplanned}
+use Rattle.fish_scan.specs.Scans.{IsUnplanned}
+use Rattle.fish_scan.specs.within.Scans.{IsPlanRefused, IsQuery}
 use Rattle.fish_scan.specs.declared.refusal.ScanRefusal.TheVariants as refusal
 use Rattle.fish_scan.proofs.scanning.plan_scan.Goals as goal
 

@@ -5,7 +5,8 @@ use Rattle.fish_rule.specs.Passes.{view}
 use Rattle.fish_rule.specs.declared.view.Key.{Key}
 use Rattle.fish_scan.proofs.Answering.{err_gives}
 use Rattle.fish_scan.proofs.PlannedScans.{cold_refused, unplanned_refused}
-use Rattle.fish_scan.specs.Scans.{IsCold, IsPlannedScan, IsRefused}
+use Rattle.fish_scan.specs.Scans.{IsRefused}
+use Rattle.fish_scan.specs.within.Scans.{IsCold, IsPlannedScan}
 use Rattle.fish_scan.specs.declared.refusal.ScanRefusal.{ScanRefusal}
 use Rattle.fish_scan.specs.declared.scanning.PlannedScan.{PlannedScan}
 use Rattle.fish_scan.proofs.scanning.plan_scan_in_table.Goals as goal

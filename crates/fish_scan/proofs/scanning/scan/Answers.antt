@@ -10,8 +10,8 @@ use Rattle.fish_plan.specs.Pieces.{Fill}
 use Rattle.fish_plan.specs.declared.pieces.Piece.{Piece}
 use Rattle.fish_rule.specs.declared.view.Key.{Key}
 use Rattle.fish_scan.specs.Parses.{HasParsed}
-use Rattle.fish_scan.specs.Pieces.{AreReadable}
-use Rattle.fish_scan.specs.Reading.{Adds}
+use Rattle.fish_scan.specs.within.Pieces.{AreReadable}
+use Rattle.fish_scan.specs.within.Reading.{Adds}
 use Rattle.fish_scan.specs.Scans.{IsAnswer}
 use Rattle.fish_scan.specs.Work.{IsWork}
 use Rattle.fish_scan.specs.declared.ask.Answer.{Answer}

@@ -1,6 +1,6 @@
 -- The lines so far were read, and the text that is left gets shorter.
 use Rattle.std.proofs.Common.{◌+◌, ◌≤◌, length}
-use Rattle.fish_script.specs.Building.{IsSoFar}
+use Rattle.fish_script.specs.within.Building.{IsSoFar}
 use Rattle.fish_script.proofs.parse.read_lines.Given as goal
 
 abbrev pub invariant-loop-rest : goal.invariant-loop-rest

@@ -4,7 +4,8 @@ use Rattle.fish_rule.specs.Passes.{view}
 use Rattle.fish_rule.specs.declared.view.Key.{Key}
 use Rattle.fish_rule.specs.declared.view.View.{View}
 use Rattle.fish_walk.specs.Looks.{IsTailCount}
-use Rattle.fish_walk.specs.Settling.{AreSettled, IsEnd, IsMark}
+use Rattle.fish_walk.specs.Settling.{IsEnd, IsMark}
+use Rattle.fish_walk.specs.within.Settling.{AreSettled}
 use Rattle.fish_walk.proofs.Looking.{ends_later, stops_below}
 use Rattle.fish_walk.proofs.Settling.{alone_still, can_raise, counted_here, settles_all, stops_here}
 use Rattle.fish_walk.proofs.prefix.settle.Goals as goal

@@ -2,7 +2,7 @@
 use Rattle.std.proofs.Common.{◌≡◌, ℕ, ◌≤◌, List, [], length, refl, sym, ap, subst, arith, rules}
 use Rattle.fish_layout.proofs.Outlines.{body_length}
 use Rattle.fish_claim.proofs.Known.{knows_none}
-use Rattle.fish_claim.specs.Fills.{IsStorable}
+use Rattle.fish_claim.specs.within.Fills.{IsStorable}
 use Rattle.fish_layout.specs.Body.{IsBody}
 use Rattle.fish_rule.proofs.laws.Keys.{no_keys}
 use Rattle.fish_rule.specs.declared.view.Epoch.TheVariants.{Confirmed}

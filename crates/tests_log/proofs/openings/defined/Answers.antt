@@ -3,7 +3,7 @@ use Rattle.std.proofs.Common.{◌∙◌, List, subst, sym}
 use Rattle.fish_catalog.specs.Rows.{IsCatalog}
 use Rattle.fish_catalog.specs.declared.row.CatRow.{CatRow}
 use Rattle.fish_ingest.proofs.PreparationDefs.{active_clamped, active_defs}
-use Rattle.fish_rule.specs.Keys.{AreActive}
+use Rattle.fish_rule.specs.within.Keys.{AreActive}
 use Rattle.tests_log.proofs.openings.defined.Goals as goal
 
 -- they are the ids of the definitions

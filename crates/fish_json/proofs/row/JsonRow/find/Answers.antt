@@ -2,7 +2,7 @@
 use Rattle.std.proofs.Common.{sym, subst}
 use Rattle.fish_json.specs.Reading.{at_path}
 use Rattle.fish_json.specs.Row.{row_contents}
-use Rattle.fish_json.specs.Tape.{FindsData}
+use Rattle.fish_json.specs.within.Tape.{FindsData}
 use Rattle.fish_json.proofs.Found.{path_none, path_on}
 use Rattle.fish_json.proofs.Readings.{root-stands}
 use Rattle.fish_json.proofs.row.JsonRow.find.Goals as goal

@@ -1,6 +1,6 @@
 -- What is kept of the longer line comes from what was kept of the shorter.
 use Rattle.std.proofs.Common.{◌∙◌, ap, sym, ◌++◌, take}
-use Rattle.fish_lines.specs.Open.{cr_if}
+use Rattle.fish_lines.specs.within.Open.{cr_if}
 use Rattle.fish_lines.specs.Open.{longest_kept}
 use Rattle.fish_lines.proofs.KeptLemmas.{IsOpen-grow, IsOpen-within}
 use Rattle.fish_lines.proofs.open_line.OpenLine.grow.Goals as goal

@@ -1,0 +1,5 @@
+pub mod Answers
+pub mod Cached
+pub mod Caching
+pub mod Regions
+pub mod Shown

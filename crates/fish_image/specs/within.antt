@@ -1,0 +1,5 @@
+pub mod Progress
+pub mod Reading
+pub mod Regions
+pub mod Steps
+pub mod Terms

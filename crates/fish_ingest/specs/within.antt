@@ -1,0 +1,4 @@
+pub mod Ingestion
+pub mod Placement
+pub mod Preparation
+pub mod Refusal

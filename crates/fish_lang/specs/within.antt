@@ -1,0 +1,4 @@
+pub mod Machine
+pub mod Moves
+pub mod Outcome
+pub mod Views

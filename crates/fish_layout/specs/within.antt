@@ -1,0 +1,4 @@
+pub mod Cleared
+pub mod Entry
+pub mod Header
+pub mod Outline

@@ -1,0 +1,4 @@
+pub mod Choosing
+pub mod Opening
+pub mod Resting
+pub mod Stores

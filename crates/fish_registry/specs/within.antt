@@ -1,0 +1,4 @@
+pub mod Knowing
+pub mod Looking
+pub mod Refusing
+pub mod Rows

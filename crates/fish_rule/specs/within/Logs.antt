@@ -1,0 +1,28 @@
+-- The log that the words spell, and what a pass knows of it. What private clauses need of it.
+use Rattle.std.specs.Prelude.{ℕ, ◌≡◌, ◌+◌, ◌*◌, suc, Option, Some, None}
+use Rattle.fish_catalog.specs.declared.entry.Entry.{Entry}
+use Rattle.fish_layout.specs.Cleared.{IsKeyWord}
+use Rattle.fish_rule.specs.Logs.{Extends, KnowsAs, KnowsMark}
+use Rattle.fish_rule.specs.Views.{Among}
+use Rattle.fish_rule.specs.declared.view.View.{View}
+
+-- ---- what a view tells of the log
+
+-- word i of the region at a line, which has n key entries, became known by one load, or it is the
+-- first of a key entry and nothing was loaded
+abbrev pub IsWordKnown : View → View → ℕ → ℕ → ℕ → Option ℕ → Type 0
+IsWordKnown v u n line i None = IsKeyWord n i × (u.clock.loads ≡ v.clock.loads)
+IsWordKnown v u n line i (Some x) = Among (record { place = line * 4 + i; value = x }) u.learned.known
+    × (u.clock.loads ≡ suc v.clock.loads)
+
+-- this became of a word that was asked for, and else the view is as it was
+pub record IsWordRead (v u : View) (keys line offset : ℕ) (word : Option ℕ) : Type 0 where
+  pub extends : Extends v u
+  pub told : IsWordKnown v u keys line offset word
+
+-- ---- one log
+
+-- what a number was found to be: an entry, or a mark
+abbrev pub KnowsNext : View → ℕ → Option Entry → Type 0
+KnowsNext v n None = KnowsMark v n
+KnowsNext v n (Some e) = KnowsAs v n e

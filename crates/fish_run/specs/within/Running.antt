@@ -1,0 +1,92 @@
+-- What the blocks of a run leave, from its first moment on. Private clauses speak of it.
+use Rattle.std.specs.Prelude.{ℕ, ◌≡◌, ◌≢◌, ◌||◌, List, [], ◌⊎◌, Bool, false, true, Option, None}
+use Rattle.fish_lanes.specs.Ending.{HasEnd}
+use Rattle.fish_lanes.specs.Registering.{registry_of}
+use Rattle.fish_outside.specs.Content.{Files, Gained, GainedPart}
+use Rattle.fish_report.specs.ReportText.{report_text}
+use Rattle.fish_report.specs.declared.item.Item.{Item}
+use Rattle.fish_rule.specs.Passes.{view}
+use Rattle.fish_run.specs.Blocks.{Block, Round, first_registry, with_cut}
+use Rattle.fish_run.specs.Ran.{IsBlockOf}
+use Rattle.fish_run.specs.Reports.{block_items, said_refused}
+use Rattle.fish_run.specs.Joins.{block_said}
+use Rattle.fish_run.specs.Rounds.{AreRounds}
+use Rattle.fish_run.specs.within.Runs.{CanClose, CanGoOn}
+use Rattle.fish_run.specs.within.Steps.{HasRounds, RunsAll, RunsSome, StopsRounds}
+use Rattle.fish_run.specs.within.Counting.{Counts}
+use Rattle.fish_run.specs.Tables.{AreRenewed}
+use Rattle.fish_run.specs.declared.fault.RunFault.TheVariants as fault
+use Rattle.fish_run.specs.declared.lasting.Stopped.{Stopped}
+use Rattle.fish_run.specs.declared.running.Lasts.{Lasts}
+use Rattle.fish_script.specs.declared.script.Block as script
+use Rattle.fish_store.specs.Points.{point_at}
+use Rattle.fish_store.specs.declared.store.Store.{Store}
+
+-- the counts of faults of a host, an output and a disk
+abbrev pub counts_of : {H W D : Type 0} → (H → ℕ) → (W → ℕ) → (D → ℕ) → H → W → D → Counts
+counts_of host out disk h w d = record { host = host h; out = out w; disk = disk d }
+
+-- ---- one block
+
+-- a block ran, and was written
+pub record EndsOne
+    {D : Type 0}
+    (content : D → Option (List ℕ))
+    (images : D → List ℕ → Type 0)
+    (since : D → ℕ → List ℕ → Type 0)
+    (moment : D → ℕ)
+    (disk disk' : D) (a : Lasts) (told : Option Files) (text : script.Block) (old new : Option (List ℕ)) (before now : Bool) (b : Lasts)
+    : Type 0 where
+  pub go : CanGoOn images disk' b.store b.count
+  pub block : Block
+  pub is : IsBlockOf told text block
+  pub ran : HasRounds content images since moment (point_at disk a.store) (point_at disk' b.store) a.count
+      (registry_of (view a.store.pass) a.store.registrar) block.rounds false b.count (registry_of (view b.store.pass) b.store.registrar)
+  pub renewed : AreRenewed block.rounds false
+  pub written : Gained old new (report_text (block_items block))
+  pub refused : now ≡ before || said_refused (block_said block.rounds)
+
+-- rounds and one that was cut are the first ones of the block, of which nothing was written; or all of it ran, and a first part was written
+abbrev pub HowStopped : Option Files → script.Block → Option (List ℕ) → Option (List ℕ) → List Round → Option Round → Stopped → Type 0
+HowStopped told text old new rounds cut s =
+    (AreRounds told text.lanes (with_cut rounds cut) × Gained old new [] × (s.why ≡ fault.Input → cut ≡ None))
+    ⊎ ((b : Block) × IsBlockOf told text b × (b.rounds ≡ rounds) × (cut ≡ None) × GainedPart old new (report_text (block_items b))
+    × (s.why ≢ fault.Input))
+
+-- a fault came before it ran, in it, or as it was written
+pub record StopsOne
+    {D : Type 0}
+    (content : D → Option (List ℕ))
+    (images : D → List ℕ → Type 0)
+    (since : D → ℕ → List ℕ → Type 0)
+    (moment : D → ℕ)
+    (disk disk' : D) (a : Lasts) (told : Option Files) (text : script.Block) (old new : Option (List ℕ)) (s : Stopped) : Type 0 where
+  pub rounds : List Round
+  pub cut : Option Round
+  pub stops : StopsRounds content images since moment (point_at disk a.store) disk' a.count
+      (registry_of (view a.store.pass) a.store.registrar) rounds cut s
+  pub renewed : AreRenewed (with_cut rounds cut) true
+  pub how : HowStopped told text old new rounds cut s
+
+-- ---- a run
+
+-- all blocks ran and were written; and where it is so, all of the log is committed
+pub record EndsRun
+    {D : Type 0}
+    (content : D → Option (List ℕ))
+    (images : D → List ℕ → Type 0)
+    (since : D → ℕ → List ℕ → Type 0)
+    (moment : D → ℕ)
+    (disk disk' : D) (s : Store) (first : ℕ) (begin : Item) (told : Option Files) (text : List script.Block) (old new : Option (List ℕ))
+    (refused lasts : Bool) (b : Lasts) : Type 0 where
+  pub close : CanClose b.store
+  pub go : (lasts ≡ true → ⊥) → CanGoOn images disk' b.store b.count
+  pub runs : RunsAll content images since moment (point_at disk s) (point_at disk' b.store) first (first_registry s.registrar.catalog)
+      begin told text old new refused b.count
+  pub committed : lasts ≡ true → HasEnd (view b.store.pass) b.store.file.flusher.count
+
+-- a fault stopped it
+abbrev pub StopsRun : {D : Type 0} → (D → Option (List ℕ)) → (D → List ℕ → Type 0) → (D → ℕ → List ℕ → Type 0) → (D → ℕ)
+    → D → D → Store → ℕ → Item → Option Files → List script.Block → Option (List ℕ) → Option (List ℕ) → Stopped → Type 0
+StopsRun content images since moment disk disk' s first begin told text old new e =
+    RunsSome content images since moment (point_at disk s) disk' first (first_registry s.registrar.catalog) begin told text old new e

@@ -1,0 +1,15 @@
+pub mod Across
+pub mod Below
+pub mod Colder
+pub mod Cutting
+pub mod Indices
+pub mod Intervals
+pub mod Older
+pub mod OlderReading
+pub mod OlderWork
+pub mod Parses
+pub mod Pieces
+pub mod Reach
+pub mod Reading
+pub mod Scans
+pub mod Work
