@@ -30,7 +30,8 @@ use Rattle.fish_cold.specs.Pages.{log_words, page_words}
 use Rattle.fish_cold.specs.Regions.{Leads}
 use Rattle.fish_cold.specs.Starts.{IsStartOf}
 use Rattle.fish_cold.specs.declared.cold.Cold.{Cold}
-use Rattle.fish_cold.proofs.LogWords.{ArePages, are_pages, length-words_of, words_of-take}
+use Rattle.fish_cold.proofs.LogWords.{ArePages, are_pages}
+use Rattle.fish_image.proofs.Words.{length-words_of, words_of-take}
 use Rattle.fish_cold.proofs.Priors.{all_started, carried_entry, entry_at, entry_in, line_grows, region_on}
 
 -- the words of lines are those of the file

@@ -1,59 +1,13 @@
 -- The words of the log in a file, and those of its pages.
-use Rattle.std.proofs.Common.{◌≡◌, ℕ, zero, suc, ◌+◌, ◌-◌, ◌*◌, ◌/◌, ◌<◌, ◌≤◌, List, ◌∷◌, length, take, drop, get_or}
-use Rattle.std.proofs.Common.{refl, sym, ap, ◌∙◌, arith, drop-drop, get_or-take}
-use Rattle.std.proofs.lemmas.List.{drop-take, ext_get_or, length-take-le}
-use Rattle.byteorder.specs.Endian.{IsRead, little_number}
+use Rattle.std.proofs.Common.{◌≡◌, ℕ, zero, suc, ◌+◌, ◌-◌, ◌*◌, ◌/◌, ◌≤◌, List, ◌∷◌, length, take, drop}
+use Rattle.std.proofs.Common.{refl, sym, ap, ◌∙◌, arith, drop-drop}
+use Rattle.std.proofs.lemmas.List.{length-take-le}
 use Rattle.std.specs.Prelude.{min}
+use Rattle.fish_image.proofs.Words.{length-words_of, words_of-take}
 use Rattle.fish_image.specs.Slot.{number}
 use Rattle.fish_image.specs.Stands.{words_of}
 use Rattle.fish_slots.specs.Offsets.{lines_at}
 use Rattle.fish_cold.specs.Pages.{lines_below, log_words, page_size, page_words}
-
--- so many words
-pub length-words_of : (n : ℕ) (b : List ℕ) → length (words_of n b) ≡ n
-length-words_of zero b = refl
-length-words_of (suc n) b = ap suc (length-words_of n (drop 8 b))
-
--- the first word is made of the first eight bytes
-pub number-take : (m : ℕ) (b : List ℕ) → 8 ≤ m → number (take m b) ≡ number b
-unfolding number
-number-take m b h =
-    omega (
-      arith,
-      get_or-take m b 0 0 (omega arith),
-      get_or-take m b 1 0 (omega arith),
-      get_or-take m b 2 0 (omega arith),
-      get_or-take m b 3 0 (omega arith),
-      get_or-take m b 4 0 (omega arith),
-      get_or-take m b 5 0 (omega arith),
-      get_or-take m b 6 0 (omega arith),
-      get_or-take m b 7 0 (omega arith),
-    )
-
--- each of them
-pub index-words_of : (n : ℕ) (b : List ℕ) (k : ℕ) → k < n → get_or (words_of n b) k 0 ≡ number (drop (8 * k) b)
-index-words_of zero b k h = absurd (omega arith)
-index-words_of (suc n) b zero h = refl
-index-words_of (suc n) b (suc k) h =
-    let further : 8 + 8 * k ≡ 8 * suc k = omega arith in
-    index-words_of n (drop 8 b) k (omega arith) ∙ ap number (drop-drop (8 * k) 8 b ∙ ap (λ j. drop j b) further)
-
--- words that were read are these
-pub read_words : (n : ℕ) (b ws : List ℕ) → length ws ≡ n → IsRead little_number 8 b ws → ws ≡ words_of n b
-unfolding number
-read_words n b ws size read =
-    ext_get_or 0 ws (words_of n b) (size ∙ sym (length-words_of n b))
-    (λ k within. read k within ∙ sym (index-words_of n b k (omega arith)))
-
--- what is after the bytes of words is none of them
-pub words_of-take : (n m : ℕ) (b : List ℕ) → 8 * n ≤ m → words_of n (take m b) ≡ words_of n b
-words_of-take zero m b h = refl
-words_of-take (suc n) m b h =
-    let long : 8 + (m - 8) ≡ m = omega arith in
-    let behind : drop 8 (take m b) ≡ take (m - 8) (drop 8 b) = ap (λ k. drop 8 (take k b)) (sym long) ∙ drop-take 8 (m - 8) b in
-    ap (λ x. x ∷ words_of n (drop 8 (take m b))) (number-take m b (omega arith))
-    ∙ ap (λ l. number b ∷ words_of n l) behind
-    ∙ ap (λ l. number b ∷ l) (words_of-take n (m - 8) (drop 8 b) (omega arith))
 
 -- words after others
 pub drop-words_of : (i n : ℕ) (b : List ℕ) → i ≤ n → drop i (words_of n b) ≡ words_of (n - i) (drop (8 * i) b)

@@ -7,3 +7,4 @@ pub mod Regions
 pub mod RowKeys
 pub mod RowValues
 pub mod Spelling
+pub mod Words

@@ -6,3 +6,4 @@ mod Items
 mod Elements
 pub mod Records
 pub mod Short
+mod LineParts

@@ -4,6 +4,7 @@
 //! definitions on bytes, in `specs/`. The calls here read one line's bytes.
 #![tactic(auto)]
 
+mod line;
 mod nodes;
 mod number;
 mod reader;
@@ -11,6 +12,7 @@ mod record;
 mod row;
 
 pub use fish_value::MAX_PAYLOAD;
+pub use line::{cut_line, without_carriage_return};
 pub use reader::JsonReader;
 pub use record::{JsonRecord, RecordRefusal};
 pub use row::JsonRow;

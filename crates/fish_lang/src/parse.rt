@@ -101,7 +101,7 @@ pub fn parse_def(alloc: Global, b: &[u8]) -> Result<Def, LangRefusal>
 }
 
 /// The same by the machine of the parser.
-#[tactic(auto, unfolding(crate::specs::Outcome::outcome))]
+#[tactic(auto, unfolding(crate::specs::within::Outcome::outcome))]
 fn answer(alloc: Global, b: &[u8]) -> Result<Def, LangRefusal>
     ensures { Gives definition_of result (outcome b.now) }
 {

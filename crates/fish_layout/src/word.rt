@@ -50,7 +50,7 @@ pub(crate) fn lane_in(word: u64) -> u8
 }
 
 /// The version, by a header.
-#[tactic(auto, unfolding(crate::specs::Header::version_of, crate::specs::Header::field))]
+#[tactic(auto, unfolding(crate::specs::within::Header::version_of, crate::specs::Header::field))]
 pub(crate) fn version_in(word: u64) -> u16
     ensures value { result ≡ version_of word }
     ensures fits { result < 2 ^ 10 }

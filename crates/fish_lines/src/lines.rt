@@ -5,7 +5,8 @@ ghost use Rattle.std.specs.List.{slice_split};
 ghost use Rattle.fish_json.specs.Lines.{is_line_end, lines_of};
 ghost use Rattle.fish_lines.specs.within.Lines.{with_line};
 
-use crate::line::{cut, is_blank, without_carriage_return, without_mark};
+use crate::line::{is_blank, without_mark};
+use fish_json::{cut_line, without_carriage_return};
 
 /// Goes over a file's lines. It copies none.
 #[derive(Drop)]
@@ -66,7 +67,7 @@ fn first_line(b: &[u8]) -> (&[u8], &[u8])
         ≡ with_line result.0.now (lines_of (slice_split is_line_end result.1.now)) }
     ensures shorter { length result.1.now < length b.now }
 {
-    match cut(b) {
+    match cut_line(b) {
         Some((part, behind)) => (without_carriage_return(part), behind),
         None => (without_carriage_return(b), b.split_at(b.len()).1),
     }

@@ -10,9 +10,9 @@ ghost use Rattle.fish_lines.specs.Lines.{given_of};
 ghost use Rattle.fish_lines.specs.Open.{IsOpen, ends_in_cr, line_in, longest_kept};
 ghost use Rattle.fish_lines.specs.within.Open.{cr_if};
 
-use crate::line::{is_blank, without_carriage_return};
+use crate::line::is_blank;
 use crate::splitter::Line;
-use fish_json::MAX_PAYLOAD;
+use fish_json::{MAX_PAYLOAD, without_carriage_return};
 use fish_value::Bytes;
 use std::alloc::{AllocError, Global};
 

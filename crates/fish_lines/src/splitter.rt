@@ -7,8 +7,9 @@ ghost use Rattle.fish_lines.specs.Lines.{ended, given_of, last_part, lines};
 ghost use Rattle.fish_lines.specs.Open.{IsOpen, line_in};
 ghost use Rattle.fish_lines.specs.Split.{HasTaken, is_undecided};
 
-use crate::line::{cut, without_mark};
+use crate::line::without_mark;
 use crate::open_line::OpenLine;
+use fish_json::cut_line;
 use fish_value::{Bytes, Sequence};
 use std::alloc::{AllocError, Global};
 use std::collections::VecDeque;
@@ -170,7 +171,7 @@ fn take_piece(
     ensures same_last { OnErr result (last.new ≡ last.old) }
     ensures same_lines { OnErr result (ready.new.items ≡ ready.old.items) }
 {
-    let Some((front, behind)) = cut(piece) else {
+    let Some((front, behind)) = cut_line(piece) else {
         return last.grow(alloc, piece);
     };
     let mut more = VecDeque::new(alloc);
@@ -194,7 +195,7 @@ fn push_parts<'b>(
     ensures no_end { IfOk result (λ rest. slice_split is_line_end rest.now ≡ rest.now ∷ []) }
 {
     let mut rest = b;
-    while let Some((part, behind)) = cut(rest) {
+    while let Some((part, behind)) = cut_line(rest) {
         push_line(lines, OpenLine::of_part(alloc, part)?)?;
         rest = behind;
     }

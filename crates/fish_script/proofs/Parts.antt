@@ -1,37 +1,11 @@
--- A text is cut at its first LF.
-use Rattle.std.proofs.Common.{◌≡◌, ℕ, ◌+◌, ◌<◌, zero, suc, List, [], ◌∷◌, Bool, true, false, cond, length, take, drop}
+-- The lines of a text that is cut at its first LF.
+use Rattle.std.proofs.Common.{◌≡◌, ℕ, ◌<◌, List, [], ◌∷◌, Bool, true, false, cond, length}
 use Rattle.std.proofs.Common.{refl, ap, ◌∙◌, arith}
 use Rattle.std.specs.Prelude.{if◌then◌else◌}
 use Rattle.std.specs.List.{slice_split, onto_first}
 use Rattle.std.specs.Str.Lines.{strip_carriage_return}
-use Rattle.memchr.specs.Find.{Passes, is_byte}
 use Rattle.fish_json.specs.Lines.{is_line_end}
 use Rattle.fish_script.specs.Lines.{lines, lines_of}
-
--- a test that isn't true is false
-failed : (b : Bool) → ¬ (b ≡ true) → b ≡ false
-failed true h = absurd (h refl)
-failed false h = refl
-
--- with no LF, the whole is the one part
-pub split_nowhere : (b : List ℕ) → ((k : ℕ) → k < length b → ¬ Passes (is_byte 10) b k)
-    → slice_split is_line_end b ≡ b ∷ []
-split_nowhere [] h = refl
-split_nowhere (x ∷ xs) h =
-    let here : is_line_end x ≡ false = failed (is_line_end x) (h 0 (omega arith)) in
-    rw here (ap (onto_first x) (split_nowhere xs (λ k within. h (suc k) (omega arith))))
-
--- the first part ends at the first LF, and the others are those of what follows it
-pub split_first_end : (b : List ℕ) (k : ℕ) → k < length b → ((j : ℕ) → j < k → ¬ Passes (is_byte 10) b j)
-    → Passes (is_byte 10) b k
-    → slice_split is_line_end b ≡ take k b ∷ slice_split is_line_end (drop (k + 1) b)
-split_first_end [] k within before ends = absurd (omega arith)
-split_first_end (x ∷ xs) zero within before ends = (let here : is_line_end x ≡ true = ends in rw here)
-split_first_end (x ∷ xs) (suc k) within before ends =
-    let here : is_line_end x ≡ false = failed (is_line_end x) (before 0 (omega arith)) in
-    let next : suc k + 1 ≡ suc (k + 1) = omega arith in
-    rw (here, next) (ap (onto_first x)
-    (split_first_end xs k (omega arith) (λ j less. before (suc j) (omega arith)) ends))
 
 -- parts with at least one among them
 record Some_parts (parts : List (List ℕ)) : Type 0 where

@@ -3,7 +3,8 @@ use Rattle.std.proofs.Common.{◌≡◌, ℕ, ◌+◌, ◌*◌, ◌/◌, ◌<◌
 use Rattle.std.proofs.Common.{refl, sym, ap, subst, ◌∙◌, arith, length-drop}
 use Rattle.std.proofs.lemmas.Bool.{cases_lt}
 use Rattle.std.proofs.lemmas.List.{length-take, take-append-le, take-take, take_all}
-use Rattle.fish_cold.proofs.LogWords.{are_pages, length-words_of, words_of-take}
+use Rattle.fish_cold.proofs.LogWords.{are_pages}
+use Rattle.fish_image.proofs.Words.{length-words_of, words_of-take}
 use Rattle.fish_cold.specs.Pages.{lines_below, log_words, page_size, page_words}
 use Rattle.fish_image.specs.Stands.{words_in, words_of}
 use Rattle.fish_slots.specs.Offsets.{lines_at}

@@ -1,7 +1,7 @@
 -- The search found the first LF, or that there is none.
-use Rattle.fish_lines.proofs.LineLemmas.{slice_split_nowhere, slice_split_first_end, slice_split_front}
+use Rattle.fish_json.proofs.LineParts.{slice_split_nowhere, slice_split_first_end, slice_split_front}
 use Rattle.std.proofs.Common.{arith}
-use Rattle.fish_lines.proofs.line.cut.Goals as goal
+use Rattle.fish_json.proofs.line.cut_line.Goals as goal
 
 pub returns-in_err-end-clause-parts : goal.returns-in_err-end-clause-parts
 returns-in_err-end-clause-parts c =
