@@ -108,7 +108,7 @@ fn fault_of(refusal: ScanRefusal) -> Option<LaneFault>
     }
 }
 
-/// KnowsAs how the records would be found.
+/// Says how the records would be found.
 pub(crate) fn explain_range(
     alloc: Global,
     log: &Log,
