@@ -3,15 +3,11 @@
 ghost use Rattle.std.specs.Prelude.{◌≡◌, ◌+◌, ◌*◌, ◌/◌, ◌%◌, ◌^◌, ◌<◌, map, slice_index};
 ghost use Rattle.std.specs.List.{range_with_len};
 ghost use Rattle.fish_layout.specs.Bucket.{bucket_of, byte_behind};
-ghost use Rattle.fish_layout.specs.Hash.{fnv1a_behind, fnv_step};
+ghost use Rattle.fish_layout.specs.Hash.{fnv1a_behind};
 
-use fish_layout::{bucket_of as bucket_in, entry_at, id_in, keys_in, offset_in, size_in};
-
-/// Where FNV-1a of 64 bits begins.
-const START: u64 = 0xcbf2_9ce4_8422_2325;
-
-/// What each step of it multiplies by.
-const PRIME: u64 = 0x100_0000_01b3;
+use fish_layout::{
+    bucket_of as bucket_in, entry_at, hash_of_id, hash_step, id_in, keys_in, offset_in, size_in,
+};
 
 /// The bucket of key entry c among so many. Nothing is taken from memory.
 pub(crate) fn entry_bucket(words: &[u64], c: u64, buckets: u64) -> u64
@@ -23,7 +19,7 @@ pub(crate) fn entry_bucket(words: &[u64], c: u64, buckets: u64) -> u64
     let behind = entry_at(u64::from(keys_in(word(words, 0))));
     let third = word(words, entry_at(c) + 2);
     let id = id_in(word(words, entry_at(c) + 1));
-    let hash = mix(START, &id.to_le_bytes());
+    let hash = hash_of_id(id);
     let from = offset_in(third) as u64;
     let size = size_in(third) as u64;
     let mixed = mix_value(words, behind, from, size, hash);
@@ -39,23 +35,9 @@ fn mix_value(words: &[u64], behind: u64, from: u64, size: u64, hash: u64) -> u64
 {
     let mut mixed = hash;
     for j in 0..size {
-        mixed = step(mixed, byte(words, behind, from + j));
+        mixed = hash_step(mixed, byte(words, behind, from + j));
     }
     mixed
-}
-
-/// The hash of the bytes so far with these after them.
-fn mix(hash: u64, bytes: &[u8]) -> u64
-    ensures { result ≡ fnv1a_behind hash bytes.now }
-{
-    bytes.iter().fold(hash, |hash, byte| step(hash, *byte))
-}
-
-/// The hash of the bytes so far with one more after them.
-fn step(hash: u64, byte: u8) -> u64
-    ensures { result ≡ fnv_step hash byte }
-{
-    (hash ^ u64::from(byte)).wrapping_mul(PRIME)
 }
 
 /// Byte o of the words from one on, low byte first.

@@ -20,7 +20,7 @@ const SIGN: u64 = 0x3030_5453_4853_4946;
 pub(crate) const DIGIT: u64 = 0x100_0000_0000_0000;
 
 /// The bytes of a slot's body.
-pub(crate) const SLOT_BYTES: usize = 86_016;
+pub(crate) const SLOT_BYTES: usize = fish_slots::SLOT_BYTES as usize;
 
 /// The bytes of a row.
 pub(crate) const ROW_BYTES: usize = 320;

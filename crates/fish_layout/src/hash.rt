@@ -3,7 +3,9 @@
 //! Definitions and values of one bucket share a chain, so a bucket says nothing of equality.
 
 ghost use Rattle.std.specs.Prelude.{◌≡◌, ◌<◌};
-ghost use Rattle.fish_layout.specs.Hash.{bucket_in, fnv1a_behind, fnv_step, key_hash_of};
+ghost use Rattle.std.specs.Int.{to_le_bytes};
+ghost use Rattle.std.specs.Int.Width.{w16};
+ghost use Rattle.fish_layout.specs.Hash.{bucket_in, fnv1a, fnv1a_behind, fnv_step, key_hash_of};
 ghost use Rattle.fish_layout.specs.Values.{value_bytes};
 
 use fish_value::Value;
@@ -19,7 +21,14 @@ const PRIME: u64 = 0x100_0000_01b3;
 pub fn key_hash(id: u16, value: &Value) -> u64
     ensures { result ≡ key_hash_of id value.now }
 {
-    mix_value(mix(START, &id.to_le_bytes()), value)
+    mix_value(hash_of_id(id), value)
+}
+
+/// The hash of a definition's id, with which that of a key begins.
+pub fn hash_of_id(id: u16) -> u64
+    ensures { result ≡ fnv1a (to_le_bytes w16 id) }
+{
+    mix(START, &id.to_le_bytes())
 }
 
 /// The bucket of a hash, of so many: its low bits, where the number of buckets is a power of 2.
@@ -51,11 +60,11 @@ fn mix_value(hash: u64, value: &Value) -> u64
 fn mix(hash: u64, bytes: &[u8]) -> u64
     ensures { result ≡ fnv1a_behind hash bytes.now }
 {
-    bytes.iter().fold(hash, |hash, byte| step(hash, *byte))
+    bytes.iter().fold(hash, |hash, byte| hash_step(hash, *byte))
 }
 
-/// The hash with one more byte after.
-fn step(hash: u64, byte: u8) -> u64
+/// The hash with one more byte after those that it has seen.
+pub fn hash_step(hash: u64, byte: u8) -> u64
     ensures { result ≡ fnv_step hash byte }
 {
     (hash ^ u64::from(byte)).wrapping_mul(PRIME)

@@ -20,7 +20,7 @@ mod write;
 
 pub use body::{Body, set_number};
 pub use fish_value::{MAX_LANE, MAX_PAYLOAD};
-pub use hash::{bucket_of, key_hash};
+pub use hash::{bucket_of, hash_of_id, hash_step, key_hash};
 pub use header::{Header, header_of, void_header};
 pub use keys::find_key;
 pub use operation::{end_word, ended_id, register_word, registers};

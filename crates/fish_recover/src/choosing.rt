@@ -16,11 +16,8 @@ use fish_catalog::Commit;
 use fish_disk::Disk;
 use fish_image::read_slot;
 use fish_outside::Failed;
-use fish_slots::{Gates, SLOT_BYTES, best};
+use fish_slots::{BODIES_AT, Gates, SLOT_BYTES, best};
 use std::alloc::Global;
-
-/// Where the first body begins.
-const BODIES: u64 = 8_192;
 
 /// The slot of a store that counts.
 #[derive(Drop)]
@@ -116,7 +113,7 @@ fn turn_at<D: Disk>(disk: &mut D, slot: u8) -> Result<u64, Failed>
     ensures cause { HasCause (D.faults disk.old) (D.faults disk.new) result }
 {
     let mut word = [0u8; 8];
-    let count = disk.read(BODIES + SLOT_BYTES * slot as u64 + 8, &mut word)?;
+    let count = disk.read(BODIES_AT + SLOT_BYTES * slot as u64 + 8, &mut word)?;
     Ok(number_in(&word[..count]))
 }
 
@@ -165,7 +162,7 @@ fn read_commit<D: Disk>(alloc: Global, disk: &mut D, slot: u8) -> Result<Commit,
     ensures cause { HasOpenCause (D.faults disk.old) (D.faults disk.new) result }
 {
     let mut body = zeros(alloc, SLOT_BYTES as usize)?;
-    let count = disk.read(BODIES + SLOT_BYTES * slot as u64, &mut body)?;
+    let count = disk.read(BODIES_AT + SLOT_BYTES * slot as u64, &mut body)?;
     match read_slot(alloc, &body[..count])? {
         Some(commit) => Ok(commit),
         None => Err(OpenRefusal::Damaged { number: 0 }),

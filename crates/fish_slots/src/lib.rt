@@ -8,5 +8,5 @@
 mod offsets;
 mod slot;
 
-pub use offsets::SLOT_BYTES;
+pub use offsets::{BODIES_AT, SLOT_BYTES};
 pub use slot::{Gates, begin, best, close_old, open_gate, seal, switch};

@@ -10,7 +10,7 @@ pub const SLOT_BYTES: u64 = 86_016;
 const GATE_STEP: u64 = 4_096;
 
 /// Where the first body begins.
-const BODIES: u64 = 8_192;
+pub const BODIES_AT: u64 = 8_192;
 
 /// Where the gate of a slot is.
 pub(crate) fn gate_offset(slot: u8) -> u64
@@ -23,5 +23,5 @@ pub(crate) fn gate_offset(slot: u8) -> u64
 pub(crate) fn body_offset(slot: u8) -> u64
     ensures { result ≡ body_at slot }
 {
-    BODIES + SLOT_BYTES * slot as u64
+    BODIES_AT + SLOT_BYTES * slot as u64
 }

@@ -29,12 +29,11 @@ returns-clause-bucket c =
     c.offset_in-from.ensures.value ∙ ap value_offset third in
     let size : c.size_in-size.result ≡ value_size (e (entry_at at + 2)) =
     c.size_in-size.ensures.value ∙ ap value_size third in
-    let bytes : c.to_le_bytes.result ≡ to_le_bytes w16 c.id_in-id.result = c.to_le_bytes.ensures in
     let mixed : c.mix_value-mixed.result ≡ fnv1a (to_le_bytes w16 c.id_in-id.result
     ++ vals c.entry_at-behind.result c.offset_in-from.result c.size_in-size.result) =
     c.mix_value-mixed.ensures
     ∙ ap (λ h. fold fnv_step h (vals c.entry_at-behind.result c.offset_in-from.result c.size_in-size.result))
-    (c.mix-hash.ensures ∙ ap (fold fnv_step start) bytes)
+    c.hash_of_id-hash.ensures
     ∙ sym (fold-append fnv_step start (to_le_bytes w16 c.id_in-id.result)
     (vals c.entry_at-behind.result c.offset_in-from.result c.size_in-size.result)) in
     c.bucket_of.ensures.value ∙ ap (λ h. bucket_in h buckets) mixed

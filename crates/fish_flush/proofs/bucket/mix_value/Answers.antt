@@ -13,6 +13,6 @@ loop-j-preserved c =
     let f : ℕ → ℕ = λ j. byte_behind (slice_index c.args.words.now) c.args.behind (c.args.from + j) in
     let j : ℕ = c.loop-j.j in
     let all : map f (range_with_len 0 (j + 1)) ≡ map f (range_with_len 0 j) ++ f j ∷ [] = map-range_with_len_more f 0 j j (omega arith) in
-    c.step-mixed.ensures
+    c.hash_step-mixed.ensures
     ∙ (λ i. fnv_step (c.loop-j.invariant i) (c.byte.ensures i))
     ∙ sym (ap (fold fnv_step c.args.hash) all ∙ fold-append fnv_step c.args.hash (map f (range_with_len 0 j)) (f j ∷ []))
