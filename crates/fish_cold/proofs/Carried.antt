@@ -2,15 +2,14 @@
 use Rattle.std.proofs.Common.{◌≡◌, ℕ, ◌+◌, ◌-◌, ◌*◌, ◌/◌, ◌%◌, ◌<◌, ◌≤◌, List, length, drop, inl, inr, refl, sym, ap}
 use Rattle.std.proofs.Common.{◌∙◌, subst, arith, length-drop}
 use Rattle.std.specs.Prelude.{Option, Some, Result, Ok, Err, IfSome, slice_get}
-use Rattle.std.proofs.lemmas.List.{length-take}
 use Rattle.fish_image.specs.Log.{Agrees, Follows, behind_record, region, region_lines}
 use Rattle.fish_image.specs.Reached.{Reached}
 use Rattle.fish_layout.specs.Pages.{page_of}
-use Rattle.fish_image.specs.Stands.{words_in, words_of}
+use Rattle.fish_image.specs.Stands.{words_in}
 use Rattle.fish_image.proofs.Agreement.{agrees_first, agrees_number, agrees_within, front_whole, goes}
 use Rattle.fish_rule.specs.declared.view.Key.{Key}
 use Rattle.fish_slots.specs.Offsets.{lines_at}
-use Rattle.fish_slots.specs.Slots.{line_count, lines_of}
+use Rattle.fish_slots.specs.Slots.{line_count}
 use Rattle.fish_cold.specs.Carries.{CarriesTable, IsCarried, IsEntryAnswer, IsEntryOf, IsEntryRead, IsPriorRecord}
 use Rattle.fish_catalog.specs.declared.entry.Entry.{Entry}
 use Rattle.fish_catalog.specs.declared.entry.Entry.TheVariants.{Stored}
@@ -30,27 +29,8 @@ use Rattle.fish_cold.specs.Pages.{log_words, page_words}
 use Rattle.fish_cold.specs.Regions.{Leads}
 use Rattle.fish_cold.specs.Starts.{IsStartOf}
 use Rattle.fish_cold.specs.declared.cold.Cold.{Cold}
-use Rattle.fish_cold.proofs.LogWords.{ArePages, are_pages}
-use Rattle.fish_image.proofs.Words.{length-words_of, words_of-take}
+use Rattle.fish_cold.proofs.LogWords.{ArePages, are_pages, lines_room, lines_words}
 use Rattle.fish_cold.proofs.Priors.{all_started, carried_entry, entry_at, entry_in, line_grows, region_on}
-
--- the words of lines are those of the file
-lines_words : (image : List ℕ) (m : ℕ) → words_in (lines_of m image) ≡ log_words image 0 (length (words_in (lines_of m image)))
-lines_words image m =
-    let bytes = lines_of m image in
-    let size = length-words_of (length bytes / 8) bytes in
-    let cut = length-take (32 * m) (drop lines_at image) in
-    words_of-take (length bytes / 8) (32 * m) (drop lines_at image) (omega arith)
-    ∙ ap (λ n. words_of n (drop lines_at image)) (sym size)
-
-lines_room : (image : List ℕ) (m : ℕ) → 0 < length (words_in (lines_of m image))
-    → lines_at + 8 * length (words_in (lines_of m image)) ≤ length image
-lines_room image m some =
-    let bytes = lines_of m image in
-    let size = length-words_of (length bytes / 8) bytes in
-    let cut = length-take (32 * m) (drop lines_at image) in
-    let behind = length-drop lines_at image in
-    omega arith
 
 -- a region below the base lies before it, in words that are those of the file's pages
 record IsLaid {content : Option (List ℕ)} {k : Key} {cold : Cold} (h : CarriesTable content k cold) (t u : Reached) : Type 0 where

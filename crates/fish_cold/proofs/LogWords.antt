@@ -1,12 +1,13 @@
 -- The words of the log in a file, and those of its pages.
-use Rattle.std.proofs.Common.{◌≡◌, ℕ, zero, suc, ◌+◌, ◌-◌, ◌*◌, ◌/◌, ◌≤◌, List, ◌∷◌, length, take, drop}
-use Rattle.std.proofs.Common.{refl, sym, ap, ◌∙◌, arith, drop-drop}
-use Rattle.std.proofs.lemmas.List.{length-take-le}
+use Rattle.std.proofs.Common.{◌≡◌, ℕ, zero, suc, ◌+◌, ◌-◌, ◌*◌, ◌/◌, ◌<◌, ◌≤◌, List, ◌∷◌, length, take, drop}
+use Rattle.std.proofs.Common.{refl, sym, ap, ◌∙◌, arith, drop-drop, length-drop}
+use Rattle.std.proofs.lemmas.List.{length-take, length-take-le}
 use Rattle.std.specs.Prelude.{min}
 use Rattle.fish_image.proofs.Words.{length-words_of, words_of-take}
 use Rattle.fish_image.specs.Slot.{number}
-use Rattle.fish_image.specs.Stands.{words_of}
+use Rattle.fish_image.specs.Stands.{words_in, words_of}
 use Rattle.fish_slots.specs.Offsets.{lines_at}
+use Rattle.fish_slots.specs.Slots.{lines_of}
 use Rattle.fish_cold.specs.Pages.{lines_below, log_words, page_size, page_words}
 
 -- words after others
@@ -36,6 +37,25 @@ part_of_log content from n i m within =
     ap (take m) (drop-words_of i n (drop (lines_at + 8 * from) content) (omega arith))
     ∙ take-words_of m (n - i) (drop (8 * i) (drop (lines_at + 8 * from) content)) (omega arith)
     ∙ ap (words_of m) (drop-drop (8 * i) (lines_at + 8 * from) content ∙ ap (λ k. drop k content) place)
+
+-- the words of lines are those of the file
+pub lines_words : (image : List ℕ) (m : ℕ) → words_in (lines_of m image) ≡ log_words image 0 (length (words_in (lines_of m image)))
+lines_words image m =
+    let bytes = lines_of m image in
+    let size = length-words_of (length bytes / 8) bytes in
+    let cut = length-take (32 * m) (drop lines_at image) in
+    words_of-take (length bytes / 8) (32 * m) (drop lines_at image) (omega arith)
+    ∙ ap (λ n. words_of n (drop lines_at image)) (sym size)
+
+-- and the file has all of them
+pub lines_room : (image : List ℕ) (m : ℕ) → 0 < length (words_in (lines_of m image))
+    → lines_at + 8 * length (words_in (lines_of m image)) ≤ length image
+lines_room image m some =
+    let bytes = lines_of m image in
+    let size = length-words_of (length bytes / 8) bytes in
+    let cut = length-take (32 * m) (drop lines_at image) in
+    let behind = length-drop lines_at image in
+    omega arith
 
 -- the pages below a line, of words that are all in the file
 pub record ArePages (w : List ℕ) (end : ℕ) (words : ℕ → List ℕ) : Type 0 where

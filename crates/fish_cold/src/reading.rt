@@ -5,7 +5,6 @@ ghost use Rattle.fish_catalog.specs.declared.page_start.PageStart.{PageStart as 
 ghost use Rattle.fish_disk.specs.Content.{StillReads};
 ghost use Rattle.fish_disk.specs.Crash.{LeavesOnly};
 ghost use Rattle.fish_layout.specs.Pages.{page_of};
-ghost use Rattle.fish_image.specs.Stands.{words_of as first_words};
 ghost use Rattle.fish_cold.specs.Caching.{HasDiskCause, IsPageIn};
 ghost use Rattle.fish_cold.specs.within.Caching.{IsUndamaged};
 ghost use Rattle.fish_cold.specs.Pages.{page_words};
@@ -13,9 +12,9 @@ ghost use Rattle.fish_cold.specs.Pages.{page_words};
 use crate::page::{Page, regions_of};
 use crate::refusal::ColdRefusal;
 use crate::starts::start_in;
-use byteorder::{ByteOrder, LittleEndian};
 use fish_catalog::PageStart;
 use fish_disk::Disk;
+use fish_image::words_in;
 use fish_layout::{LINE_BYTES, LINES_AT, PAGE_BYTES, PAGE_LINES};
 use std::alloc::{AllocError, Global};
 
@@ -79,23 +78,6 @@ fn read_words<D: Disk>(
 /// So many zero bytes.
 fn zeros(alloc: Global, count: usize) -> Result<Vec<u8>, AllocError>
     ensures { IfOk result (λ bytes. length bytes.items ≡ count) }
-{
-    vec![in alloc; 0; count]
-}
-
-/// All whole words of bytes.
-fn words_in(alloc: Global, bytes: &[u8]) -> Result<Vec<u64>, AllocError>
-    ensures { IfOk result (λ words. words.items ≡ first_words (length bytes.now / 8) bytes.now) }
-{
-    let count = bytes.len() / 8;
-    let mut words = no_words(alloc, count)?;
-    LittleEndian::read_u64_into(&bytes[..8 * count], &mut words);
-    Ok(words)
-}
-
-/// So many words.
-fn no_words(alloc: Global, count: usize) -> Result<Vec<u64>, AllocError>
-    ensures { IfOk result (λ words. length words.items ≡ count) }
 {
     vec![in alloc; 0; count]
 }

@@ -18,6 +18,7 @@ mod resumption;
 mod slot;
 mod step;
 mod terms;
+mod words;
 
 pub use checker::Checker;
 pub use image::check_image;
@@ -28,3 +29,4 @@ pub use law::{
 pub use read::read_slot;
 pub use refusal::ImageRefusal;
 pub use slot::{has_format, is_within, slot_body};
+pub use words::words_in;

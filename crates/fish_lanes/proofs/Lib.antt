@@ -1,6 +1,7 @@
 pub mod Across
 pub mod Advancing
 pub mod Answered
+pub mod Beginning
 pub mod Behind
 pub mod Claims
 pub mod Committing

@@ -13,11 +13,11 @@ ghost use Rattle.fish_recover.specs.Opening.{AreRead};
 ghost use Rattle.fish_recover.specs.within.Opening.{HasRead, IsLinesCause, IsOutside, IsPieceCause, IsSame, first_words};
 ghost use Rattle.fish_recover.specs.Opening.{pages_of};
 
-use crate::bytes::{words_in, zeros};
+use crate::bytes::zeros;
 use crate::refusal::OpenRefusal;
 use fish_catalog::{Checked, Commit};
 use fish_disk::Disk;
-use fish_image::{Checker, ImageRefusal};
+use fish_image::{Checker, ImageRefusal, words_in};
 use fish_layout::{LINE_BYTES, LINES_AT, PAGE_LINES};
 use std::alloc::Global;
 

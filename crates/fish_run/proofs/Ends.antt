@@ -14,7 +14,7 @@ use Rattle.fish_outside.specs.Content.{Files, Gained, GainedPart, SameFiles}
 use Rattle.fish_report.specs.ReportText.{report_text}
 use Rattle.fish_report.specs.declared.item.Item.{Item}
 use Rattle.fish_rule.specs.Logs.{Learns}
-use Rattle.fish_run.proofs.Lists.{get_at, pairs_length, pairs_map, pairs_push, take_length}
+use Rattle.fish_feed.proofs.Lists.{get_at, pairs_length, pairs_map, pairs_push, take_length}
 use Rattle.fish_run.proofs.Tables.{renewed_any, renewed_join}
 use Rattle.fish_run.proofs.Turns.{behind_next, cut_join, first_on, rounds_both, rounds_first}
 use Rattle.fish_run.proofs.Works.{done_later, first_later}

@@ -1,12 +1,10 @@
 -- The control pass from block to block.
-use Rattle.std.proofs.Common.{◌≡◌, ℕ, ◌+◌, ◌*◌, ◌/◌, ◌%◌, ◌^◌, ◌<◌, ◌≤◌, List, [], ◌∷◌, length, map, refl}
+use Rattle.std.proofs.Common.{◌≡◌, ℕ, ◌+◌, ◌^◌, ◌<◌, ◌≤◌, List, [], ◌∷◌, length, map, refl}
 use Rattle.std.proofs.Common.{sym, ap, ◌∙◌, subst, inl, ⊎_elim, true, arith}
 use Rattle.std.proofs.Math.Decide.{dec_lt}
 use Rattle.std.proofs.Common.{All, None, Option, Some, Result, Ok, Err, slice_get}
-use Rattle.std.proofs.lemmas.Nat.{div-mul-add, mod-mul-add}
 use Rattle.std.specs.Prelude.{IfErr, OnOk}
 use Rattle.std.specs.Result.{IsErrAnd}
-use Rattle.fish_catalog.proofs.Clamping.{all_clamped}
 use Rattle.fish_catalog.specs.Clamps.{clamped}
 use Rattle.fish_catalog.specs.Listing.{listed_of}
 use Rattle.fish_catalog.specs.declared.commit.Commit.{Commit}
@@ -58,34 +56,9 @@ use Rattle.fish_walk.specs.Looks.{IsTailCount}
 use Rattle.fish_walk.specs.Settling.{EndsAt}
 use Rattle.fish_rule.specs.Logs.{KnowsMark}
 use Rattle.fish_whole.specs.Whole.{Later}
+use Rattle.fish_lanes.proofs.Beginning.{begun_all, first_end}
 
 -- ---- before the first block
-
--- a table that was just opened ends where it begins
-first_end : (v : View) (k : Key) → v ≡ first_view k → k.line < 68719476736 → HasEnd v k.number
-unfolding high low
-first_end v k is few = subst (λ (z : View). HasEnd z k.number) (sym is) (record {
-  alone = record { control = refl; all = refl; idle = refl };
-  outside = refl;
-  above = omega arith;
-  settled = omega arith;
-  count = k.number;
-  counted = omega arith;
-  tail =
-      let x : ℕ = k.line + k.number * 68719476736 in
-      let packed : x ≡ k.number * 68719476736 + k.line = omega arith in
-      let up : high x ≡ k.number = ap (λ (z : ℕ). z / 68719476736) packed ∙ div-mul-add k.number 68719476736 k.line few in
-      let down : low x ≡ k.line = ap (λ (z : ℕ). z % 68719476736) packed ∙ mod-mul-add k.number 68719476736 k.line few in
-      (x, (λ i. Some (record { number = sym up i; line = sym down i })), up, refl);
-  ends = inl refl;
-  marks = λ s e. absurd cc;
-})
-
--- rows that are cut to a count have begun by then
-begun_all : (n : ℕ) (rows : List CatRow) → All (HasBegunBy n) (map (clamped n) rows)
-begun_all n rows i d less =
-    let row = all_clamped n rows i d less in
-    record { from = row.from; begins = row.begins; early = row.early }
 
 -- the control pass of a table that was just opened waits for no lane
 none_waits : (k : Key) (r : Registrar) → Knows (first_view k) r → r.waiting ≡ None

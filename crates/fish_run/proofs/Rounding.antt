@@ -24,7 +24,7 @@ use Rattle.fish_run.proofs.Faults.{commit_well, first_no_input, lane_whole}
 use Rattle.fish_run.proofs.Giving.{both_length, given_next, idle_first, none_next, nones, nones_left, nones_length, nones_right}
 use Rattle.fish_run.proofs.Giving.{works_length}
 use Rattle.fish_run.proofs.Going.{close_of, here_self}
-use Rattle.fish_run.proofs.Lists.{pairs_length, pairs_map}
+use Rattle.fish_feed.proofs.Lists.{pairs_length, pairs_map}
 use Rattle.fish_run.proofs.Stepping.{goes_next, kept_pairs, ran_numbered}
 use Rattle.fish_run.proofs.Tables.{renewed_push, renewed_true}
 use Rattle.fish_run.proofs.Turns.{behind_next, rounds_cut, rounds_end, rounds_more, rounds_none, rounds_rolled, runs_step}

@@ -24,7 +24,8 @@ use Rattle.fish_rule.specs.Passes.{view}
 use Rattle.fish_rule.specs.declared.table.Log.{Log}
 use Rattle.fish_rule.specs.declared.view.Shut.{Shut}
 use Rattle.fish_rule.specs.declared.view.View.{View}
-use Rattle.fish_run.proofs.Lists.{pairs_at, pairs_length, pairs_map, pairs_triples}
+use Rattle.fish_feed.proofs.Lists.{pairs_at, pairs_length, pairs_map}
+use Rattle.fish_run.proofs.Lists.{pairs_triples}
 use Rattle.fish_run.proofs.Tables.{none_full}
 use Rattle.fish_run.proofs.Works.{idle_new}
 use Rattle.fish_run.specs.within.Going.{HasNext, HasStepped, StepsLane}

@@ -11,7 +11,7 @@ use Rattle.fish_lanes.specs.Running.{IsShared}
 use Rattle.fish_lanes.specs.declared.lane.Lane.{Lane}
 use Rattle.fish_lanes.specs.declared.work.Work.{Work}
 use Rattle.fish_outside.specs.Content.{Files, SameFiles}
-use Rattle.fish_run.proofs.Lists.{pairs_at, pairs_length, pairs_map}
+use Rattle.fish_feed.proofs.Lists.{pairs_at, pairs_length, pairs_map}
 use Rattle.fish_run.specs.within.Parts.{AreNewLanes, AreUngiven}
 use Rattle.fish_script.specs.declared.script.Statement.{Statement}
 

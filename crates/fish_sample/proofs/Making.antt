@@ -1,7 +1,5 @@
 -- The store of a sample, as it is made.
-use Rattle.std.proofs.Common.{[], ◌≡◌, ℕ, ◌+◌, ◌*◌, ◌/◌, ◌%◌, ◌<◌, ◌≤◌, List, All, Option, Some, map, refl, sym, ap, ◌∙◌, subst, inl, arith}
-use Rattle.std.proofs.lemmas.Nat.{div-mul-add, mod-mul-add}
-use Rattle.fish_catalog.proofs.Clamping.{all_clamped}
+use Rattle.std.proofs.Common.{[], ◌≡◌, ℕ, ◌<◌, ◌≤◌, List, All, Option, Some, map, refl, sym, ap, ◌∙◌, subst, arith}
 use Rattle.fish_catalog.specs.Clamps.{clamped}
 use Rattle.fish_catalog.specs.Listing.{listed_of}
 use Rattle.fish_catalog.specs.declared.commit.Commit.{Commit}
@@ -9,7 +7,6 @@ use Rattle.fish_catalog.specs.declared.entry.Entry.{Entry}
 use Rattle.fish_catalog.specs.declared.row.CatRow.{CatRow}
 use Rattle.fish_flush.specs.Carrying.{Carries}
 use Rattle.fish_ingest.specs.Ingestion.{CanStart}
-use Rattle.fish_lanes.specs.Ending.{HasEnd}
 use Rattle.fish_lanes.specs.Registering.{KnowsRegistry, registry_of}
 use Rattle.fish_recover.specs.Stores.{HasOpened, IsOf, IsOpened, asked_shape}
 use Rattle.fish_recover.specs.declared.opened.Opened.{Opened}
@@ -18,7 +15,7 @@ use Rattle.fish_registry.specs.declared.registrar.Registrar.{Registrar}
 use Rattle.fish_rule.proofs.laws.Versions.{definitions_first}
 use Rattle.fish_rule.specs.Passes.{view}
 use Rattle.fish_rule.specs.Table.{first_view}
-use Rattle.fish_rule.specs.World.{high, last_line, low}
+use Rattle.fish_rule.specs.World.{last_line}
 use Rattle.fish_rule.specs.declared.view.Key.{Key}
 use Rattle.fish_rule.specs.declared.view.View.{View}
 use Rattle.fish_store.proofs.Opening.{opened_sound}
@@ -32,32 +29,7 @@ use Rattle.std.specs.Prelude.{IfOk, IfSome, IsSome}
 use Rattle.fish_flush.specs.Kept.{first_commit}
 use Rattle.fish_recover.specs.declared.refusal.Asked.{Asked}
 use Rattle.fish_sample.specs.within.Blocks.{IsAlwaysShown, IsBetween, IsNewStore, IsOfMade}
-
--- a table that was just opened ends where it begins
-first_end : (v : View) (k : Key) → v ≡ first_view k → k.line < 68719476736 → HasEnd v k.number
-unfolding high low
-first_end v k is few = subst (λ (z : View). HasEnd z k.number) (sym is) (record {
-  alone = record { control = refl; all = refl; idle = refl };
-  outside = refl;
-  above = omega arith;
-  settled = omega arith;
-  count = k.number;
-  counted = omega arith;
-  tail =
-      let x : ℕ = k.line + k.number * 68719476736 in
-      let packed : x ≡ k.number * 68719476736 + k.line = omega arith in
-      let up : high x ≡ k.number = ap (λ (z : ℕ). z / 68719476736) packed ∙ div-mul-add k.number 68719476736 k.line few in
-      let down : low x ≡ k.line = ap (λ (z : ℕ). z % 68719476736) packed ∙ mod-mul-add k.number 68719476736 k.line few in
-      (x, (λ i. Some (record { number = sym up i; line = sym down i })), up, refl);
-  ends = inl refl;
-  marks = λ s e. absurd cc;
-})
-
--- rows that are cut to a count have begun by then
-begun_all : (n : ℕ) (rows : List CatRow) → All (HasBegunBy n) (map (clamped n) rows)
-begun_all n rows i d less =
-    let row = all_clamped n rows i d less in
-    record { from = row.from; begins = row.begins; early = row.early }
+use Rattle.fish_lanes.proofs.Beginning.{begun_all, first_end}
 
 -- a registrar of the rows with which a table begins knows them
 first_known : (k : Key) (r : Registrar) → k.rows.value ≡ r.catalog

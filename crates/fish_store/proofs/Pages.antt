@@ -1,32 +1,14 @@
 -- Files whose first lines are the same have the same pages below them.
-use Rattle.std.proofs.Common.{◌≡◌, ℕ, ◌+◌, ◌*◌, ◌/◌, ◌<◌, ◌≤◌, inl, inr, List, [], ◌∷◌, ◌++◌, length, take, drop}
-use Rattle.std.proofs.Common.{refl, sym, ap, subst, ◌∙◌, arith, length-drop}
+use Rattle.std.proofs.Common.{◌≡◌, ℕ, ◌+◌, ◌*◌, ◌<◌, ◌≤◌, inl, inr, List, [], ◌∷◌, ◌++◌, length, take, drop}
+use Rattle.std.proofs.Common.{refl, sym, ap, subst, ◌∙◌, arith}
 use Rattle.std.proofs.lemmas.Bool.{cases_lt}
-use Rattle.std.proofs.lemmas.List.{length-take, take-append-le, take-take, take_all}
-use Rattle.fish_cold.proofs.LogWords.{are_pages}
-use Rattle.fish_image.proofs.Words.{length-words_of, words_of-take}
+use Rattle.std.proofs.lemmas.List.{take-append-le, take-take, take_all}
+use Rattle.fish_cold.proofs.LogWords.{are_pages, lines_room, lines_words}
+use Rattle.fish_image.proofs.Words.{length-words_of}
 use Rattle.fish_cold.specs.Pages.{lines_below, log_words, page_size, page_words}
-use Rattle.fish_image.specs.Stands.{words_in, words_of}
+use Rattle.fish_image.specs.Stands.{words_in}
 use Rattle.fish_slots.specs.Offsets.{lines_at}
 use Rattle.fish_slots.specs.Slots.{lines_of}
-
--- the words of lines are those of the file
-lines_words : (image : List ℕ) (m : ℕ) → words_in (lines_of m image) ≡ log_words image 0 (length (words_in (lines_of m image)))
-lines_words image m =
-    let bytes = lines_of m image in
-    let size = length-words_of (length bytes / 8) bytes in
-    let cut = length-take (32 * m) (drop lines_at image) in
-    words_of-take (length bytes / 8) (32 * m) (drop lines_at image) (omega arith)
-    ∙ ap (λ n. words_of n (drop lines_at image)) (sym size)
-
-lines_room : (image : List ℕ) (m : ℕ) → 0 < length (words_in (lines_of m image))
-    → lines_at + 8 * length (words_in (lines_of m image)) ≤ length image
-lines_room image m some =
-    let bytes = lines_of m image in
-    let size = length-words_of (length bytes / 8) bytes in
-    let cut = length-take (32 * m) (drop lines_at image) in
-    let behind = length-drop lines_at image in
-    omega arith
 
 -- the first of more lines are the lines before
 pub first_lines : (image lines more : List ℕ) (m n : ℕ) → m ≤ n → length lines ≡ 32 * m → lines_of n image ≡ lines ++ more

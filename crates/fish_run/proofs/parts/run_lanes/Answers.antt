@@ -6,7 +6,8 @@ use Rattle.fish_feed.specs.Works.{Triples}
 use Rattle.fish_outside.proofs.CauseLemmas.{Rose_earlier, Rose_later}
 use Rattle.fish_outside.specs.Causes.{Rose}
 use Rattle.fish_run.proofs.Faults.{feed_well}
-use Rattle.fish_run.proofs.Lists.{pairs_length, written_back}
+use Rattle.fish_feed.proofs.Lists.{pairs_length}
+use Rattle.fish_run.proofs.Lists.{written_back}
 use Rattle.fish_run.proofs.One.{are_rounds}
 use Rattle.fish_run.proofs.Rounding.{stops_unopened}
 use Rattle.fish_run.proofs.Works.{done_later, still_both}

@@ -3,7 +3,8 @@ use Rattle.std.proofs.Common.{◌≡◌, ◌∙◌, Some, false, length, slice_g
 use Rattle.std.proofs.lemmas.Option.{slice_get_within}
 use Rattle.std.specs.List.{list_any}
 use Rattle.fish_lanes.specs.declared.lane.Lane.{Lane}
-use Rattle.fish_run.proofs.Lists.{below_push, get_at}
+use Rattle.fish_feed.proofs.Lists.{get_at}
+use Rattle.fish_run.proofs.Lists.{below_push}
 use Rattle.fish_run.proofs.Stepping.{left_more}
 use Rattle.fish_run.specs.within.Turning.{says_full}
 use Rattle.fish_run.proofs.rounds.go_on.Goals as goal

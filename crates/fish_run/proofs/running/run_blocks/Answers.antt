@@ -8,7 +8,7 @@ use Rattle.fish_run.proofs.Caused.{caused_since, caused_write}
 use Rattle.fish_run.proofs.Ends.{runs_all, stops_first, stops_more, writes_first, writes_more}
 use Rattle.fish_run.proofs.Faults.{write_other, write_well}
 use Rattle.fish_run.proofs.Going.{close_of, err_known, new_registry}
-use Rattle.fish_run.proofs.Lists.{get_at}
+use Rattle.fish_feed.proofs.Lists.{get_at}
 use Rattle.fish_run.proofs.One.{first_of, rounds_self, stops_with}
 use Rattle.fish_run.proofs.Works.{still_both, still_self}
 use Rattle.fish_run.specs.Blocks.{Round, first_registry}

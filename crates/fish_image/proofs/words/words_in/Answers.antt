@@ -2,7 +2,7 @@
 use Rattle.std.proofs.Common.{◌≡◌, ◌/◌, ◌∙◌, List, ℕ, ◌++◌, drop, length, take, ap, arith}
 use Rattle.std.proofs.Math.Seq.{take-append_seam}
 use Rattle.fish_image.proofs.Words.{read_words, words_of-take}
-use Rattle.fish_cold.proofs.reading.words_in.Goals as goal
+use Rattle.fish_image.proofs.words.words_in.Goals as goal
 
 pub returns : goal.returns
 returns c =
