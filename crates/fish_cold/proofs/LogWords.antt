@@ -3,7 +3,7 @@ use Rattle.std.proofs.Common.{◌≡◌, ℕ, zero, suc, ◌+◌, ◌-◌, ◌*�
 use Rattle.std.proofs.Common.{refl, sym, ap, ◌∙◌, arith, drop-drop, length-drop}
 use Rattle.std.proofs.lemmas.List.{length-take, length-take-le}
 use Rattle.std.specs.Prelude.{min}
-use Rattle.fish_image.proofs.Words.{length-words_of, words_of-take}
+use Rattle.fish_image.proofs.ByteWords.{length-words_of, words_of-take}
 use Rattle.fish_image.specs.Slot.{number}
 use Rattle.fish_image.specs.Stands.{words_in, words_of}
 use Rattle.fish_slots.specs.Offsets.{lines_at}

@@ -24,7 +24,7 @@ use Rattle.fish_flush.proofs.Growing.{grown_agrees}
 use Rattle.fish_flush.proofs.RegionSteps.{line_inside, line_later, line_start}
 use Rattle.fish_flush.proofs.TableKeys.{begin_word, end_word, few_rows}
 use Rattle.fish_flush.proofs.Words.{words_both}
-use Rattle.fish_image.proofs.Words.{length-words_of}
+use Rattle.fish_image.proofs.ByteWords.{length-words_of}
 use Rattle.fish_image.specs.Commits.{HasBoundaries, IsBoundary, IsWithin}
 use Rattle.fish_image.specs.Log.{Agrees}
 use Rattle.fish_image.specs.Progress.{AreHeads}

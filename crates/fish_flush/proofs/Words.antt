@@ -4,7 +4,7 @@ use Rattle.std.proofs.Common.{length, get_or, drop, refl, ap, sym, ◌∙◌, ar
 use Rattle.std.specs.List.{flat_map}
 use Rattle.byteorder.specs.Endian.{little_bytes}
 use Rattle.fish_image.proofs.Spelling.{behind, length-word, length-words, number-word}
-use Rattle.fish_image.proofs.Words.{words_of-append}
+use Rattle.fish_image.proofs.ByteWords.{words_of-append}
 use Rattle.fish_image.specs.Slot.{word}
 use Rattle.fish_image.specs.Stands.{words_in, words_of}
 

@@ -1,4 +1,5 @@
 pub mod Agreement
+pub mod ByteWords
 pub mod Formats
 pub mod KeyValues
 pub mod Newest
@@ -7,4 +8,3 @@ pub mod Regions
 pub mod RowKeys
 pub mod RowValues
 pub mod Spelling
-pub mod Words

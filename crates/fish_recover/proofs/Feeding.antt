@@ -13,7 +13,7 @@ use Rattle.fish_image.specs.declared.checker.Checker.{Checker}
 use Rattle.fish_image.specs.declared.refusal.ImageRefusal.{ImageRefusal}
 use Rattle.fish_image.specs.declared.refusal.ImageRefusal.TheVariants.{Damaged as Broken, OutOfMemory as NoMemory}
 use Rattle.fish_slots.specs.Offsets.{lines_at}
-use Rattle.fish_image.proofs.Words.{words_of-take}
+use Rattle.fish_image.proofs.ByteWords.{words_of-take}
 use Rattle.fish_recover.proofs.Words.{words_joined, words_next}
 use Rattle.fish_recover.specs.Opening.{AreRead}
 use Rattle.fish_recover.specs.within.Opening.{HasRead, IsLinesCause, IsPieceCause, IsSame, first_words}

@@ -20,7 +20,7 @@ use Rattle.fish_slots.specs.Commits.{Counts, Rests}
 use Rattle.fish_slots.specs.Offsets.{lines_at}
 use Rattle.fish_slots.specs.Slots.{IsOpen, line_count, lines_of}
 use Rattle.fish_recover.proofs.Holding.{body_lines}
-use Rattle.fish_image.proofs.Words.{length-words_of}
+use Rattle.fish_image.proofs.ByteWords.{length-words_of}
 use Rattle.fish_recover.specs.Opening.{IsFound, IsRead}
 use Rattle.fish_recover.specs.within.Resting.{AreAtRest, AreLong, AreStored, AreWhole}
 use Rattle.fish_recover.specs.declared.finding.Found.{Found}

@@ -5,7 +5,7 @@ use Rattle.std.proofs.Math.Seq.{take-add}
 use Rattle.std.proofs.lemmas.Bool.{cases_lt}
 use Rattle.std.proofs.lemmas.List.{drop_all, length-take, length-take-le}
 use Rattle.fish_disk.specs.Content.{part}
-use Rattle.fish_image.proofs.Words.{no_bytes, words_of-append}
+use Rattle.fish_image.proofs.ByteWords.{no_bytes, words_of-append}
 use Rattle.fish_image.specs.Stands.{words_in, words_of}
 use Rattle.fish_slots.specs.Offsets.{lines_at}
 use Rattle.fish_recover.specs.within.Opening.{first_words}

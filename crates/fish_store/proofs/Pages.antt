@@ -4,7 +4,7 @@ use Rattle.std.proofs.Common.{refl, sym, ap, subst, ◌∙◌, arith}
 use Rattle.std.proofs.lemmas.Bool.{cases_lt}
 use Rattle.std.proofs.lemmas.List.{take-append-le, take-take, take_all}
 use Rattle.fish_cold.proofs.LogWords.{are_pages, lines_room, lines_words}
-use Rattle.fish_image.proofs.Words.{length-words_of}
+use Rattle.fish_image.proofs.ByteWords.{length-words_of}
 use Rattle.fish_cold.specs.Pages.{lines_below, log_words, page_size, page_words}
 use Rattle.fish_image.specs.Stands.{words_in}
 use Rattle.fish_slots.specs.Offsets.{lines_at}

@@ -1,7 +1,7 @@
 -- Each word is made of its eight bytes, and what is left of the bytes is none.
 use Rattle.std.proofs.Common.{◌≡◌, ◌/◌, ◌∙◌, List, ℕ, ◌++◌, drop, length, take, ap, arith}
 use Rattle.std.proofs.Math.Seq.{take-append_seam}
-use Rattle.fish_image.proofs.Words.{read_words, words_of-take}
+use Rattle.fish_image.proofs.ByteWords.{read_words, words_of-take}
 use Rattle.fish_image.proofs.words.words_in.Goals as goal
 
 pub returns : goal.returns
