@@ -2,4 +2,3 @@ pub mod Moments
 pub mod Past
 pub mod Recorded
 pub mod Regions
-pub mod Room

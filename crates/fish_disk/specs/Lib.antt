@@ -2,5 +2,4 @@ pub mod Calls
 pub mod Content
 pub mod Crash
 pub mod Memory
-pub mod Sure
 pub mod within

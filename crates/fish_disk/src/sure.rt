@@ -1,96 +1,70 @@
 //! A disk in memory that never fails.
 
-ghost use Rattle.std.specs.Prelude.{◌≡◌, ◌≤◌, ◌+◌, ◌-◌, ◌++◌, ◌↔◌, [], Some, length, min, take, vec_capacity, option_map, IfOk, IfSome, IsTrue, OnOk};
+ghost use Rattle.std.specs.Prelude.{◌≡◌, ◌≤◌, ◌+◌, [], Some, length, take, option_map, IfOk, IfSome};
+ghost use Rattle.fish_outside.specs.Bounded.{content_in, content_within};
 ghost use Rattle.fish_outside.specs.Causes.{HasCause};
-ghost use Rattle.fish_outside.specs.within.Room.{content_within};
 ghost use Rattle.fish_disk.specs.Content.{Gave, StillReads, Wrote, put_at};
 ghost use Rattle.fish_disk.specs.Crash.{KeepsPast, LeavesOnly, TornFrom};
 
 use crate::copy::copy_from;
 use crate::disk::Disk;
-use fish_outside::Failed;
+use fish_outside::{BoundedBytes, Failed};
 use std::alloc::{AllocError, Global};
+use std::marker::Model;
 
 /// Bytes in memory that it takes at the start. It never fails, and each call is done at once, so that
 /// a crash leaves what is read. It tells its content as long as that fits its room.
 #[derive(Debug, Drop)]
 pub struct SureDisk {
-    bytes: Vec<u8>,
-    room: u64,
-    told: bool,
-    ghost fits: { length bytes.items ≤ room },
-    ghost holds: { room ≤ vec_capacity bytes },
+    bytes: BoundedBytes,
+}
+
+impl Model for SureDisk {
+    ghost use Rattle.fish_outside.specs.Bounded.{Bounded};
+
+    ghost Value = { Bounded };
+
+    ghost view = { λ d. d.bytes };
 }
 
 impl SureDisk {
-    ghost use Rattle.fish_disk.specs.Sure.{kept_of, room_of, content_in};
-
     /// An empty disk with room for so many bytes, for which it takes the memory.
     pub fn new(alloc: Global, room: u64) -> Result<SureDisk, AllocError>
-        ensures room { IfOk result (λ disk. room_of disk ≡ room) }
+        ensures room { IfOk result (λ disk. disk.room ≡ room) }
         ensures content { IfOk result (λ disk. content_in disk ≡ Some []) }
     {
         Ok(SureDisk {
-            bytes: Vec::with_capacity(alloc, room as usize)?,
-            room,
-            told: true,
+            bytes: BoundedBytes::new(alloc, room)?,
         })
     }
 
     /// Its bytes, as far as they fit the room.
     pub fn as_bytes(&self) -> &[u8]
-        ensures kept { result.now ≡ kept_of self.now }
+        ensures kept { result.now ≡ self.now.kept }
         ensures content { IfSome (content_in self.now) (λ all. result.now ≡ all) }
+        ensures fits { length result.now ≤ self.now.room }
     {
-        self.bytes.as_slice()
+        self.bytes.as_bytes()
     }
 }
 
-/// Puts a piece over the bytes from a place on, as far as they fit the room, and answers whether all
-/// of it was put. Takes no memory.
-fn put_within(bytes: &mut Vec<u8>, room: usize, at: usize, piece: &[u8]) -> bool
-    requires start { at ≤ length bytes.old.items }
-    requires fits { length bytes.old.items ≤ room }
-    requires holds { room ≤ vec_capacity bytes.old }
-    ensures put { bytes.new.items ≡ take room (put_at at piece.now bytes.old.items) }
-    ensures whole { IsTrue result ↔ length (put_at at piece.now bytes.old.items) ≤ room }
-    ensures holds { room ≤ vec_capacity bytes.new }
+/// Puts a piece over the bytes from a place on, as far as they fit the room. Takes no memory.
+fn put_within(bytes: &mut BoundedBytes, at: usize, piece: &[u8])
+    requires { at ≤ length bytes.old.kept }
+    ensures content { content_in bytes.new
+        ≡ content_within bytes.old.room (option_map (put_at at piece.now) (content_in bytes.old)) }
+    ensures kept { bytes.new.kept ≡ take bytes.old.room (put_at at piece.now bytes.old.kept) }
+    ensures room { bytes.new.room ≡ bytes.old.room }
 {
-    let over = piece.len().min(bytes.len() - at);
+    let over = piece.len().min(bytes.as_bytes().len() - at);
     let (front, rest) = piece.split_at(over);
-    overwrite(bytes, at, front);
-    extend_within(bytes, room, rest)
-}
-
-/// Puts a piece over as many bytes from a place on.
-fn overwrite(bytes: &mut Vec<u8>, at: usize, piece: &[u8])
-    requires { at + length piece.now ≤ length bytes.old.items }
-    ensures put { bytes.new.items ≡ put_at at piece.now bytes.old.items }
-    ensures holds { vec_capacity bytes.new ≡ vec_capacity bytes.old }
-{
-    bytes[at..at + piece.len()].copy_from_slice(piece);
-}
-
-/// Puts a piece after the others as far as it fits, and answers whether all of it was put.
-fn extend_within(bytes: &mut Vec<u8>, room: usize, piece: &[u8]) -> bool
-    requires fits { length bytes.old.items ≤ room }
-    requires holds { room ≤ vec_capacity bytes.old }
-    ensures put { bytes.new.items
-        ≡ bytes.old.items ++ take (min (length piece.now) (room - length bytes.old.items)) piece.now }
-    ensures whole { IsTrue result ↔ length bytes.old.items + length piece.now ≤ room }
-    ensures holds { room ≤ vec_capacity bytes.new }
-{
-    let fit = piece.len().min(room - bytes.len());
-    let (front, _) = piece.split_at(fit);
-    // It fits the memory that was taken at the start.
-    bytes.extend_from_slice(front).unwrap();
-    fit == piece.len()
+    bytes.overwrite(at, front);
+    bytes.append(rest);
 }
 
 impl Disk for SureDisk {
     ghost use Rattle.std.specs.Prelude.{false, is_some};
     ghost use Rattle.std.proofs.Common.{ap};
-    ghost use Rattle.fish_disk.specs.Sure.{kept_of, room_of, content_in};
     ghost use Rattle.fish_disk.specs.within.Sure.{kept_with};
 
     ghost content = { content_in };
@@ -116,7 +90,7 @@ impl Disk for SureDisk {
     ghost told = { λ _ _ now. ap is_some now };
 
     fn read(&mut self, at: u64, buf: &mut [u8]) -> Result<usize, Failed> {
-        Ok(copy_from(self.bytes.as_slice(), at, buf))
+        Ok(copy_from(self.bytes.as_bytes(), at, buf))
     }
 
     fn write_at(&mut self, at: u64, piece: &[u8]) -> Result<(), Failed>
@@ -129,16 +103,14 @@ impl Disk for SureDisk {
         ensures cause { HasCause 0 0 result }
 
         ensures fits { content_in self.new
-            ≡ content_within (room_of self.old) (option_map (put_at at piece.now) (content_in self.old)) }
-        ensures kept { kept_of self.new ≡ kept_with (room_of self.old) at piece.now (kept_of self.old) }
-        ensures room { room_of self.new ≡ room_of self.old }
+            ≡ content_within self.old.room (option_map (put_at at piece.now) (content_in self.old)) }
+        ensures kept { self.new.kept ≡ kept_with self.old.room at piece.now self.old.kept }
+        ensures room { self.new.room ≡ self.old.room }
     {
-        if at > self.bytes.len() as u64 {
-            self.told = false;
-            return Ok(());
+        // Past the end only where bytes were dropped before, so that nothing is told any more.
+        if at <= self.bytes.as_bytes().len() as u64 {
+            put_within(&mut self.bytes, at as usize, piece);
         }
-        let whole = put_within(&mut self.bytes, self.room as usize, at as usize, piece);
-        self.told = self.told && whole;
         Ok(())
     }
 
@@ -147,6 +119,6 @@ impl Disk for SureDisk {
     }
 
     fn length(&mut self) -> Result<u64, Failed> {
-        Ok(self.bytes.len() as u64)
+        Ok(self.bytes.as_bytes().len() as u64)
     }
 }

@@ -1,6 +1,6 @@
+pub mod Bounded
 pub mod Causes
 pub mod Content
 pub mod Memory
 pub mod Reading
-pub mod SureSink
 pub mod within

@@ -1,3 +1,2 @@
 pub mod MemoryFeed
 pub mod Reading
-pub mod Room

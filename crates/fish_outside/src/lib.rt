@@ -6,6 +6,7 @@
 //! trusted edge: a few lines over real files and standard output, which tell nothing of content.
 #![tactic(auto)]
 
+mod bounded;
 mod fault;
 mod file;
 mod heap;
@@ -19,6 +20,7 @@ mod source;
 mod sure;
 mod sure_sink;
 
+pub use bounded::BoundedBytes;
 pub use fault::{Failed, FeedRefusal};
 pub use file::{FileFeed, FileHost};
 pub use heap::keep_freed_memory;

@@ -1,6 +1,6 @@
 -- The lanes of a block, and a store between blocks.
 use Rattle.std.specs.Prelude.{ℕ, ◌≡◌, ◌+◌, ◌<◌, List, All, Some, length}
-use Rattle.fish_disk.specs.Sure.{content_in}
+use Rattle.fish_outside.specs.Bounded.{content_in}
 use Rattle.fish_disk.specs.declared.sure.SureDisk.{SureDisk}
 use Rattle.fish_lanes.specs.Blocks.{EachLane, IsNewLane}
 use Rattle.fish_lanes.specs.Controlling.{CanControl}
