@@ -80,7 +80,7 @@ pub(crate) fn store(
 
 /// The control pass takes back a lane.
 pub(crate) fn take_back(log: &Log, control: &mut Pass, other: Pass, lane: u8) -> Result<(), Cause>
-    requires control { IsPassOf log.now control.old }
+    requires pass { IsPassOf log.now control.old }
     requires other { IsOutOf log.now other }
     requires control { (view control.old).lane ≡ 1 }
     requires out { Among lane (view control.old).out }

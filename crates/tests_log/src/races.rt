@@ -316,7 +316,7 @@ fn take_racers(
     racers: [Racer; 3],
     kept: Vec<Kept>,
 ) -> Result<Raced, Cause>
-    requires control { IsPassOf log.now control.old }
+    requires pass { IsPassOf log.now control.old }
     requires racers { AreOut log.now racers (λ racer. racer.seat.pass) }
     requires control { (view control.old).lane ≡ 1 }
     requires idle { (view control.old).flight ≡ None }

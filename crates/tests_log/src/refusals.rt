@@ -207,7 +207,7 @@ fn expect_lanes<R: Abort>(
 
 /// The control pass takes back lanes 2 and 3.
 fn take_two(log: &Log, control: &mut Pass, second: Pass, third: Pass) -> Result<(), Cause>
-    requires control { IsPassOf log.now control.old }
+    requires pass { IsPassOf log.now control.old }
     requires second { IsOutOf log.now second }
     requires third { IsOutOf log.now third }
     requires control { (view control.old).lane ≡ 1 }

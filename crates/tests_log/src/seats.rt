@@ -63,7 +63,7 @@ pub(crate) fn split_beside(log: &Log, control: &mut Pass, registrar: &Registrar)
 
 /// The control pass takes back a seat. How many records were stored there.
 fn take_seat(log: &Log, control: &mut Pass, seat: Seat, lane: u8) -> Result<usize, Cause>
-    requires control { IsPassOf log.now control.old }
+    requires pass { IsPassOf log.now control.old }
     requires seat { IsOutOf log.now seat.pass }
     requires control { (view control.old).lane ≡ 1 }
     requires out { Among lane (view control.old).out }
@@ -83,7 +83,7 @@ pub(crate) fn take_three(
     control: &mut Pass,
     seats: [Seat; 3],
 ) -> Result<[usize; 3], Cause>
-    requires control { IsPassOf log.now control.old }
+    requires pass { IsPassOf log.now control.old }
     requires seats { AreOut log.now seats (λ seat. seat.pass) }
     requires control { (view control.old).lane ≡ 1 }
     requires idle { (view control.old).flight ≡ None }

@@ -80,7 +80,7 @@ fn settled_by_two(
     control: &mut Pass,
     second: &mut Pass,
 ) -> Result<[Settled; 4], Cause>
-    requires control { IsPassOf log.now control.old }
+    requires pass { IsPassOf log.now control.old }
     requires second { IsPassOf log.now second.old }
     requires rows { log.now.key.rows.value ≡ [] }
 {
@@ -130,7 +130,7 @@ fn settled_at_the_end(
     control: &mut Pass,
     second: &mut Pass,
 ) -> Result<[Settled; 2], Cause>
-    requires control { IsPassOf log.now control.old }
+    requires pass { IsPassOf log.now control.old }
     requires second { IsPassOf log.now second.old }
     requires rows { log.now.key.rows.value ≡ [] }
 {
