@@ -83,15 +83,17 @@ module _ {D : Type 0} (content : D → Option (List ℕ)) (images : D → List �
     pub whole : fault_of ≡ None → (log : Remains) × (out.remains ≡ Some log)
         × IsWhole content images since moment mid disk' o told script log old new out.refused
     pub stopped : (why : RunFault) → fault_of ≡ Some why → (log : Remains) → out.remains ≡ Some log
-        → IsStopped content images since moment mid disk' o told script log old new why
-    pub lost : out.remains ≡ None → (fault_of ≡ Some ran.Memory) × IsLost content images since moment mid disk' o told script old new
+        → IsStopped content images since moment mid disk' o told script log old new out.refused why
+    pub lost : out.remains ≡ None → (fault_of ≡ Some ran.Memory)
+        × IsLost content images since moment mid disk' o told script old new out.refused
     pub damaged : IsSome (content disk') → IfSome fault_of IsUndamaged
 
   -- the log that a stopped run left, or that it was lost
   left_of : (o : Opened) (why : RunFault) (remains : Option Remains)
-      → ((log : Remains) → remains ≡ Some log → IsStopped content images since moment mid disk' o told script log old new why)
-      → (remains ≡ None → (Some why ≡ Some ran.Memory) × IsLost content images since moment mid disk' o told script old new)
-      → IsLeft content images since moment mid disk' o told script old new why remains
+      → ((log : Remains) → remains ≡ Some log
+      → IsStopped content images since moment mid disk' o told script log old new out.refused why)
+      → (remains ≡ None → (Some why ≡ Some ran.Memory) × IsLost content images since moment mid disk' o told script old new out.refused)
+      → IsLeft content images since moment mid disk' o told script old new out.refused why remains
   left_of o why (Some log) stopped lost = stopped log refl
   left_of o why None stopped lost =
       let gone = lost refl in
@@ -135,8 +137,8 @@ module _ {D : Type 0} (content : D → Option (List ℕ)) (images : D → List �
       → (r.fault ≡ None → (log : Remains) × (r.remains ≡ Some log)
       × IsWhole content images since moment mid disk' o told script log old new r.refused)
       → ((why : RunFault) → r.fault ≡ Some why → (log : Remains) → r.remains ≡ Some log
-      → IsStopped content images since moment mid disk' o told script log old new why)
-      → (r.remains ≡ None → (r.fault ≡ Some ran.Memory) × IsLost content images since moment mid disk' o told script old new)
+      → IsStopped content images since moment mid disk' o told script log old new r.refused why)
+      → (r.remains ≡ None → (r.fault ≡ Some ran.Memory) × IsLost content images since moment mid disk' o told script old new r.refused)
       → (IsSome (content disk') → IfSome r.fault IsUndamaged)
       → Went o r.fault
   went_as o r opens report refused remains whole stopped lost damaged = record {
@@ -147,7 +149,12 @@ module _ {D : Type 0} (content : D → Option (List ℕ)) (images : D → List �
       remains ∙ all.1,
       subst (λ (x : Bool). IsWhole content images since moment mid disk' o told script all.0 old new x) (sym refused) all.2,
     );
-    stopped = λ why some log is. stopped why some log (sym remains ∙ is);
-    lost = λ is. lost (sym remains ∙ is);
+    stopped = λ why some log is.
+        subst (λ (x : Bool). IsStopped content images since moment mid disk' o told script log old new x why) (sym refused)
+        (stopped why some log (sym remains ∙ is));
+    lost = λ is. let all = lost (sym remains ∙ is) in (
+      all.0,
+      subst (λ (x : Bool). IsLost content images since moment mid disk' o told script old new x) (sym refused) all.1,
+    );
     damaged = damaged;
   }

@@ -43,14 +43,14 @@ module _ {D : Type 0} (content : D → Option (List ℕ)) (images : D → List �
       keeps_held disk r.mid disk' asked r.opened true (rounds_of r.whole.blocks) None r.log r.opens some r.whole.keeps
 
   -- a log is left of a stopped run that has one
-  left_some : (mid disk' : D) (o : Opened) (told : Option Files) (text : List script.Block) (old new : Option (List ℕ)) (why : RunFault)
-      (remains : Option Remains) (log : Remains) → remains ≡ Some log
-      → IsLeft content images since moment mid disk' o told text old new why remains
-      → IsStopped content images since moment mid disk' o told text log old new why
-  left_some mid disk' o told text old new why remains log is left =
-      subst (IsLeft content images since moment mid disk' o told text old new why) is left
+  left_some : (mid disk' : D) (o : Opened) (told : Option Files) (text : List script.Block) (old new : Option (List ℕ)) (refused : Bool)
+      (why : RunFault) (remains : Option Remains) (log : Remains) → remains ≡ Some log
+      → IsLeft content images since moment mid disk' o told text old new refused why remains
+      → IsStopped content images since moment mid disk' o told text log old new refused why
+  left_some mid disk' o told text old new refused why remains log is left =
+      subst (IsLeft content images since moment mid disk' o told text old new refused why) is left
 
   pub stopped_keeps : StoppedRunsKeep content images since moment
   stopped_keeps disk disk' asked told text old new why o r log is some =
-      let s = left_some r.mid disk' r.opened told text old new why o.remains log is r.left in
+      let s = left_some r.mid disk' r.opened told text old new o.refused why o.remains log is r.left in
       (s, keeps_held disk r.mid disk' asked r.opened s.ended (rounds_of s.blocks ++ s.part) s.cut log r.opens some s.keeps)

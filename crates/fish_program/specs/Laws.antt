@@ -56,6 +56,6 @@ module _ {D : Type 0} (content : D → Option (List ℕ)) (images : D → List �
       (old new : Option (List ℕ)) (why : RunFault) (o : Outcome)
       (r : IsStoppedRun content images since moment disk disk' asked told text old new why o) (log : Remains)
       → o.remains ≡ Some log → IsSome (content disk')
-      → (s : IsStopped content images since moment r.mid disk' r.opened told text log old new why)
+      → (s : IsStopped content images since moment r.mid disk' r.opened told text log old new o.refused why)
       × KeepsHeld content images since moment disk disk' asked (opened_item r.opened) s.ended
       (rounds_of s.blocks ++ s.part) s.cut log

@@ -1,5 +1,5 @@
 -- What a run of a script tells of the file that the script stands in, of the disk, of the output and of the log.
-use Rattle.std.specs.Prelude.{◌≡◌, ◌≢◌, ℕ, List, [], Option, Some, None, IfSome, IsSome, ⊤}
+use Rattle.std.specs.Prelude.{◌≡◌, ◌≢◌, ℕ, List, [], Bool, Option, Some, None, IfSome, IsSome, ⊤}
 use Rattle.fish_outside.specs.Content.{Files}
 use Rattle.fish_recover.specs.declared.opened.Opened.{Opened}
 use Rattle.fish_recover.specs.declared.refusal.Asked.{Asked}
@@ -65,12 +65,12 @@ pub record IsWholeRun
 
 -- a log is left of a run that this fault stopped, or was lost since memory ran out
 abbrev pub IsLeft : {D : Type 0} → (D → Option (List ℕ)) → (D → List ℕ → Type 0) → (D → ℕ → List ℕ → Type 0) → (D → ℕ)
-    → D → D → Opened → Option Files → List Block → Option (List ℕ) → Option (List ℕ) → RunFault → Option Remains
+    → D → D → Opened → Option Files → List Block → Option (List ℕ) → Option (List ℕ) → Bool → RunFault → Option Remains
     → Type 0
-IsLeft content images since moment mid disk' o told script old new why (Some log) =
-    IsStopped content images since moment mid disk' o told script log old new why
-IsLeft content images since moment mid disk' o told script old new why None =
-    (why ≡ ran.Memory) × IsLost content images since moment mid disk' o told script old new
+IsLeft content images since moment mid disk' o told script old new refused why (Some log) =
+    IsStopped content images since moment mid disk' o told script log old new refused why
+IsLeft content images since moment mid disk' o told script old new refused why None =
+    (why ≡ ran.Memory) × IsLost content images since moment mid disk' o told script old new refused
 
 -- the store was opened, and this fault stopped the script's run
 pub record IsStoppedRun
@@ -85,7 +85,7 @@ pub record IsStoppedRun
   pub mid : D
   pub opens : Opens content images since moment disk mid disk' asked opened
   pub report : o.report.items ≡ []
-  pub left : IsLeft content images since moment mid disk' opened told script old new why o.remains
+  pub left : IsLeft content images since moment mid disk' opened told script old new o.refused why o.remains
 
 -- and it is a record below the table of which the disk has none: never one that is told in the end
 pub record IsDamagedRun

@@ -55,8 +55,9 @@ module _
   All x refused end = RunsAll content images since moment p (point_at disk' x) o.count (first_registry rows) (opened_item o) told text
       old mid refused end
 
-  abbrev pub Stops : Stopped → Type 0
-  Stops e = RunsSome content images since moment p disk' o.count (first_registry rows) (opened_item o) told text old mid e
+  abbrev pub Stops : Bool → Stopped → Type 0
+  Stops refused e = RunsSome content images since moment p disk' o.count (first_registry rows) (opened_item o) told text old mid
+      refused e
 
   -- after all blocks no new one has to be begun
   renewed_all : (rounds : List Round) → AreRenewed rounds false → AreRenewed (rounds ++ []) true
@@ -108,7 +109,7 @@ module _
     -- of its end a part was written at most
     late_of : (refused : Bool) (end : ℕ) (why : RunFault) → why ≢ fault.Input → All x refused end
         → HasEnd (view x.pass) x.file.flusher.count → GainedPart mid new (report_text (item.Closed end ∷ []))
-        → IsStopped content images since moment disk disk' o told text remains old new why
+        → IsStopped content images since moment disk disk' o told text remains old new refused why
     late_of refused end why other h ends last = record {
       blocks = h.blocks;
       part = [];
@@ -126,6 +127,7 @@ module _
             (sym (entries_end (view x.pass) end remains h.ran.ends closed))
             (part_then old mid new (report_of (opened_item o) h.blocks) (item.Closed end ∷ []) h.written last),
       );
+      refused_is = h.refused_is;
       input = λ e. absurd (other e);
       keeps = keeps_of content images since moment read disk o p (point_at disk' x) from rows same (rounds_of h.blocks ++ []) false None
           end ran unshut remains true closed (λ e. ends);
@@ -146,19 +148,20 @@ module _
     -- or a fault came at its end
     pub ends_late : (refused : Bool) (end : ℕ) (why : RunFault) (fault : Option RunFault) → fault ≡ Some why → All x refused end
         → HasEnd (view x.pass) x.file.flusher.count → Finishes (Ok end) fault mid new
-        → IsStopped content images since moment disk disk' o told text remains old new why
+        → IsStopped content images since moment disk disk' o told text remains old new refused why
     ends_late refused end why fault is all ends f =
         let last = subst (λ (z : Option RunFault). Finishes (Ok end) z mid new) is f in late_of refused end why last.0 all ends last.1
 
   -- where a fault stopped the blocks, a store that is there may be closed
-  close_is : (e : Stopped) (x : Store) → e.store ≡ Some x → (h : Stops e) → (h.stops.at ≡ point_at disk' x) × CanClose x
+  close_is : {refused : Bool} (e : Stopped) (x : Store) → e.store ≡ Some x → (h : Stops refused e)
+      → (h.stops.at ≡ point_at disk' x) × CanClose x
   close_is e x is h = store_is (λ z. (h.stops.at ≡ point_at disk' z) × CanClose z) e.store x is h.stops.store
 
   -- and then the log is closed
-  stopped_of : (x : Store) (remains : Remains) → IsClosed (view x.pass) remains → (e : Stopped) → e.store ≡ Some x → Stops e
-      → Gained mid new []
-      → IsStopped content images since moment disk disk' o told text remains old new e.why
-  stopped_of x remains closed e is h none = record {
+  stopped_of : (refused : Bool) (x : Store) (remains : Remains) → IsClosed (view x.pass) remains → (e : Stopped) → e.store ≡ Some x
+      → Stops refused e → Gained mid new []
+      → IsStopped content images since moment disk disk' o told text remains old new refused e.why
+  stopped_of refused x remains closed e is h none = record {
     blocks = h.blocks;
     part = h.part;
     cut = h.cut;
@@ -170,6 +173,7 @@ module _
     last = last_of x (close_is e x is h).1 remains closed (rounds_of h.blocks ++ h.part) h.stops.fresh h.cut h.stops.end ran;
     ended = false;
     written = part_still old mid new (report_text (report_of (opened_item o) h.blocks)) h.written none;
+    refused_is = h.refused_is;
     input = λ i. ((h.input i).0, gained_none old mid new (report_text (report_of (opened_item o) h.blocks)) (h.input i).1 none);
     keeps = keeps_of content images since moment read disk o p (point_at disk' x) from rows same (rounds_of h.blocks ++ h.part)
         h.stops.fresh h.cut h.stops.end ran unshut remains false closed (λ i. absurd cc);
@@ -184,18 +188,18 @@ module _
           (rounds_of h.blocks ++ h.part) h.stops.fresh h.cut h.stops.end) at h.stops.ran
 
   -- the same by how the fault was handed on
-  pub ends_stopped : (x : Store) (remains : Remains) → IsClosed (view x.pass) remains → (e : Stopped) (why : RunFault)
-      (fault : Option RunFault) → fault ≡ Some why → e.store ≡ Some x → Stops e → Finishes (Err e.why) fault mid new
-      → IsStopped content images since moment disk disk' o told text remains old new why
-  ends_stopped x remains closed e why fault fault_is is some f =
+  pub ends_stopped : (refused : Bool) (x : Store) (remains : Remains) → IsClosed (view x.pass) remains → (e : Stopped) (why : RunFault)
+      (fault : Option RunFault) → fault ≡ Some why → e.store ≡ Some x → Stops refused e → Finishes (Err e.why) fault mid new
+      → IsStopped content images since moment disk disk' o told text remains old new refused why
+  ends_stopped refused x remains closed e why fault fault_is is some f =
       let both : Some e.why ≡ Some why = sym f.0 ∙ fault_is in
       let same : e.why ≡ why = cc in
-      subst (IsStopped content images since moment disk disk' o told text remains old new) same
-      (stopped_of x remains closed e is some f.1)
+      subst (IsStopped content images since moment disk disk' o told text remains old new refused) same
+      (stopped_of refused x remains closed e is some f.1)
 
   -- all blocks ran, and there was no memory to show the log
   pub lost_all : (x : Store) (refused : Bool) (end : ℕ) → All x refused end
-      → IsLost content images since moment disk disk' o told text old mid
+      → IsLost content images since moment disk disk' o told text old mid refused
   lost_all x refused end h = record {
     blocks = h.blocks;
     part = [];
@@ -203,6 +207,7 @@ module _
     are = all_first told text h.blocks h.all;
     next = tt;
     written = part_whole old mid (report_text (report_of (opened_item o) h.blocks)) h.written;
+    refused_is = h.refused_is;
     keeps = still_keeps content images since moment read disk o p (point_at disk' x) from rows same (rounds_of h.blocks ++ []) false None
         end
         (subst (λ (z : List Round). HasRunFirst content images since moment p (point_at disk' x) o.count (first_registry rows) z false None
@@ -210,14 +215,16 @@ module _
   }
 
   -- or a fault stopped them
-  pub lost_some : (e : Stopped) → Stops e → IsLost content images since moment disk disk' o told text old mid
-  lost_some e h = record {
+  pub lost_some : (refused : Bool) (e : Stopped) → Stops refused e
+      → IsLost content images since moment disk disk' o told text old mid refused
+  lost_some refused e h = record {
     blocks = h.blocks;
     part = h.part;
     cut = h.cut;
     are = h.are;
     next = h.next;
     written = h.written;
+    refused_is = h.refused_is;
     keeps = subst (λ (z : D). (c : Commit) (log : List Entry) (t : ℕ) → StoodFor content images since moment disk z o c log t
         → StillKeeps (images z) (since z t) log (rounds_of h.blocks ++ h.part) h.cut) h.stops.disk_is
         (still_keeps content images since moment read disk o p h.stops.at from rows same (rounds_of h.blocks ++ h.part) h.stops.fresh h.cut
@@ -227,11 +234,12 @@ module _
   -- ---- what is told of the outside
 
   -- the disk's content was told at first where it is in the end
-  told_some : (e : Stopped) → Stops e → IsSome (content disk') → IsSome (content p.disk)
+  told_some : {refused : Bool} (e : Stopped) → Stops refused e → IsSome (content disk') → IsSome (content p.disk)
   told_some e h told = h.stops.ran.runs.told_before (subst (λ (z : D). IsSome (content z)) (sym h.stops.disk_is) told)
 
   -- and then the fault that stopped the blocks is no damage
-  pub well_some : (c : Commit) (log : List Entry) → IsOpened (content disk) (images disk) c log o → (e : Stopped) → Stops e
+  pub well_some : {refused : Bool} (c : Commit) (log : List Entry) → IsOpened (content disk) (images disk) c log o → (e : Stopped)
+      → Stops refused e
       → IsSome (content disk') → IsUndamaged e.why
   well_some c log h e some told = some.stops.whole (first_past log o) (record {
     sound = sound_first content images since moment read disk o p p from c log h (told_some e some told);

@@ -149,13 +149,13 @@ module _
     }
 
     -- so the run stopped, in the block after those that were written or after it
-    pub stops_more : (text : List script.Block) (i : ℕ) (x : script.Block) (refused : Bool) (disk : D) (rounds : List Round)
+    pub stops_more : (text : List script.Block) (i : ℕ) (x : script.Block) (refused now : Bool) (disk : D) (rounds : List Round)
         (cut : Option Round) (e : Stopped) → i < length text → x ≡ get_or text i x
         → WritesBlocks content images since moment p m from r begin old (take i text) mid s a b refused
         → StopsRounds content images since moment m disk mid s rounds cut e
-        → AreRenewed (with_cut rounds cut) true → HowStopped new x b c rounds cut e
-        → RunsSome content images since moment p disk from r begin new text a c e
-    stops_more text i x refused disk rounds cut e less is h stop renewed how = ⊎_elim not_done was_done how
+        → AreRenewed (with_cut rounds cut) true → HowStopped new x b c refused now rounds cut e
+        → RunsSome content images since moment p disk from r begin new text a c now e
+    stops_more text i x refused now disk rounds cut e less is h stop renewed how = ⊎_elim not_done was_done how
       where
         blocks : List Block
         blocks = h.blocks
@@ -167,7 +167,7 @@ module _
         at = get_at text i x less is
 
         Goal : Type 0
-        Goal = RunsSome content images since moment p disk from r begin new text a c e
+        Goal = RunsSome content images since moment p disk from r begin new text a c now e
 
         stopped : StopsRounds content images since moment p disk from r (rounds_of blocks ++ rounds) cut e
         stopped = stops_after disk (rounds_of blocks) rounds cut e h.ran stop
@@ -179,10 +179,11 @@ module _
 
         Begun : Type 0
         Begun = AreRounds new x.lanes (with_cut rounds cut) × Gained b c [] × (e.why ≡ fault.Input → cut ≡ None)
+            × (now ≡ refused)
 
         Done : Type 0
         Done = (y : Block) × IsBlockOf new x y × (y.rounds ≡ rounds) × (cut ≡ None) × GainedPart b c (report_text (block_items y))
-            × (e.why ≢ fault.Input)
+            × (e.why ≢ fault.Input) × (now ≡ refused || said_refused (block_said y.rounds))
 
         not_done : Begun → Goal
         not_done m = record {
@@ -195,6 +196,7 @@ module _
           renewed = all_renewed;
           written = part_whole a c (report_text (report_of begin blocks))
               (gained_none a b c (report_text (report_of begin blocks)) h.written m.1);
+          refused_is = m.3 ∙ h.refused_is;
           input = λ k. (m.2 k, gained_none a b c (report_text (report_of begin blocks)) h.written m.1);
         }
 
@@ -222,6 +224,7 @@ module _
                   all_renewed);
               written = subst (λ (z : List Item). GainedPart a c (report_text z)) (sym (report_more begin blocks m.0))
                   (part_then a b c (report_of begin blocks) (block_items m.0) h.written m.4);
+              refused_is = m.6 ∙ ap (λ z. z || said_refused (block_said m.0.rounds)) h.refused_is ∙ sym (refused_more blocks m.0);
               input = λ k. absurd (m.5 k);
             }
 
@@ -261,7 +264,7 @@ module _
   pub all_stopped : (p q : Point D) (disk : D) (told : Option Files) (text : List script.Block) (a b : Option (List ℕ))
       (refused : Bool) (to : ℕ) (e : Stopped) (h : RunsAll content images since moment p q from r begin told text a b refused to)
       → StopsRounds content images since moment p disk from r (rounds_of h.blocks) None e → e.why ≢ fault.Input
-      → RunsSome content images since moment p disk from r begin told text a b e
+      → RunsSome content images since moment p disk from r begin told text a b refused e
   all_stopped p q disk told text a b refused to e h stop other = record {
     blocks = h.blocks;
     part = [];
@@ -273,14 +276,16 @@ module _
     renewed = subst (λ (z : List Round). AreRenewed z true) (sym (append-nil (rounds_of h.blocks)))
         (renewed_any (rounds_of h.blocks) true h.renewed);
     written = part_whole a b (report_text (report_of begin h.blocks)) h.written;
+    refused_is = h.refused_is;
     input = λ k. absurd (other k);
   }
 
   -- nothing ran, since the first item couldn't be written
-  pub stops_first : (p : Point D) (disk : D) (told : Option Files) (text : List script.Block) (a b : Option (List ℕ)) (e : Stopped)
-      → StopsRounds content images since moment p disk from r [] None e → e.why ≢ fault.Input
-      → GainedPart a b (report_text (begin ∷ [])) → RunsSome content images since moment p disk from r begin told text a b e
-  stops_first p disk told text a b e stop other part = record {
+  pub stops_first : (p : Point D) (disk : D) (told : Option Files) (text : List script.Block) (a b : Option (List ℕ)) (refused : Bool)
+      (e : Stopped) → StopsRounds content images since moment p disk from r [] None e → e.why ≢ fault.Input
+      → GainedPart a b (report_text (begin ∷ [])) → refused ≡ false
+      → RunsSome content images since moment p disk from r begin told text a b refused e
+  stops_first p disk told text a b refused e stop other part accepted = record {
     blocks = [];
     part = [];
     cut = None;
@@ -289,5 +294,6 @@ module _
     stops = stop;
     renewed = tt;
     written = part;
+    refused_is = accepted;
     input = λ k. absurd (other k);
   }

@@ -97,16 +97,16 @@ module _
 
   module _ (disk : D) (a : Lasts) (told : Option Files) (text : script.Block) (go : CanGoOn images disk a.store a.count) where
     -- a fault stopped its rounds, or came before them
-    pub one_cut : (disk' : D) (given : List (List Work)) (written : Option (List ℕ)) (e : Stopped)
+    pub one_cut : (disk' : D) (given : List (List Work)) (written : Option (List ℕ)) (before : Bool) (e : Stopped)
         (h : StopsBlock content images since moment disk a.store a.count given disk' e)
         → AreRounds told text.lanes (with_cut h.rounds h.cut)
-        → StopsOne content images since moment disk disk' a told text written written e
-    one_cut disk' given written e h are = record {
+        → StopsOne content images since moment disk disk' a told text written written before before e
+    one_cut disk' given written before e h are = record {
       rounds = h.rounds;
       cut = h.cut;
       stops = h.stops;
       renewed = h.renewed;
-      how = inl (are, Gained_refl written, h.input);
+      how = inl (are, Gained_refl written, h.input, refl);
     }
 
     module _ (disk' : D) (d : Ended) (given : List (List Work)) (done : Pairs (AreDone told) text.lanes given)
@@ -146,11 +146,12 @@ module _
           })
 
       -- it couldn't be written
-      pub one_unwritten : (e : Stopped) → e.store ≡ Some d.store → IsUndamaged e.why → e.why ≢ fault.Input
+      pub one_unwritten : (before now : Bool) (e : Stopped) → e.store ≡ Some d.store → IsUndamaged e.why → e.why ≢ fault.Input
           → GainedPart old new (report_text (said_items text.several a.count d.end d.said.items))
-          → StopsOne content images since moment disk disk' a told text old new e
+          → now ≡ before || said_refused d.said.items
+          → StopsOne content images since moment disk disk' a told text old new before now e
       unfolding block
-      one_unwritten e named_is well other part =
+      one_unwritten before now e named_is well other part refused =
           let p = point_at disk a.store in
           let q = point_at disk' d.store in
           let r = registry_of (view a.store.pass) a.store.registrar in
@@ -169,5 +170,6 @@ module _
               refl,
               subst (λ (z : List Item). GainedPart old new (report_text z)) items_are part,
               other,
+              refused ∙ ap (λ (z : List Said). before || said_refused z) h.said_are,
             );
           }

@@ -42,8 +42,7 @@ AreNextOf told text many (a ∷ rounds) = (s : script.Block) × (slice_get text 
 
 -- the store was opened of a disk that stood for this log by this commit, since the moment a crash had left nothing else, and the content
 -- of the disk is told in the end
-pub record StoodFor
-    {D : Type 0}
+pub record StoodFor {D : Type 0}
     (content : D → Option (List ℕ))
     (images : D → List ℕ → Type 0)
     (since : D → ℕ → List ℕ → Type 0)
@@ -84,8 +83,7 @@ entries_of remains = remains.base + length remains.log
 -- a run that came to its end: each block of the script ran; where a round found the table full, a new one was begun after it, but near
 -- the limits of a log; the text of their items, and that the log was closed, was written; refusals of a full log agree, what is left is
 -- that of a closed log, and it has its buckets; and the disk keeps all of the log
-pub record IsWhole
-    {D : Type 0}
+pub record IsWhole {D : Type 0}
     (content : D → Option (List ℕ))
     (images : D → List ℕ → Type 0)
     (since : D → ℕ → List ℕ → Type 0)
@@ -110,15 +108,14 @@ WritesPart true first told text count old new blocks =
 
 -- a run that a fault stopped: the first blocks ran, and perhaps the first rounds of one more, in the last of which a lane stopped at the
 -- fault, but for one of a file that couldn't be read; what is left is that of a closed log; a first part of the report was written,
--- without the cut block, and all of it where it was a file; and the disk keeps what was committed
-pub record IsStopped
-    {D : Type 0}
+-- without the cut block, and all of it where it was a file; refusals are those of the blocks; and the disk keeps what was committed
+pub record IsStopped {D : Type 0}
     (content : D → Option (List ℕ))
     (images : D → List ℕ → Type 0)
     (since : D → ℕ → List ℕ → Type 0)
     (moment : D → ℕ)
     (disk disk' : D) (o : Opened) (told : Option Files) (text : List script.Block) (remains : Remains) (old new : Option (List ℕ))
-    (why : RunFault) : Type 0 where
+    (refused : Bool) (why : RunFault) : Type 0 where
   pub blocks : List Block
   pub part : List Round
   pub cut : Option Round
@@ -130,24 +127,26 @@ pub record IsStopped
   pub last : LastTable o remains fresh (rounds_of blocks ++ part) cut
   pub ended : Bool
   pub written : WritesPart ended (opened_item o) told text (entries_of remains) old new blocks
+  pub refused_is : refused ≡ are_refused blocks
   pub input : why ≡ fault.Input → (cut ≡ None) × Gained old new (report_text (report_of (opened_item o) blocks))
   pub keeps : (c : Commit) (log : List Entry) (t : ℕ) → StoodFor content images since moment disk disk' o c log t
       → Keeps (images disk') (since disk' t) c log ended (rounds_of blocks ++ part) cut remains
 
 -- a run whose log couldn't be shown, since memory ran out: the first blocks ran, and perhaps one more, which was cut; a first part of the
 -- report of the blocks was written; and the disk keeps what was committed
-pub record IsLost
-    {D : Type 0}
+pub record IsLost {D : Type 0}
     (content : D → Option (List ℕ))
     (images : D → List ℕ → Type 0)
     (since : D → ℕ → List ℕ → Type 0)
     (moment : D → ℕ)
-    (disk disk' : D) (o : Opened) (told : Option Files) (text : List script.Block) (old new : Option (List ℕ)) : Type 0 where
+    (disk disk' : D) (o : Opened) (told : Option Files) (text : List script.Block) (old new : Option (List ℕ))
+    (refused : Bool) : Type 0 where
   pub blocks : List Block
   pub part : List Round
   pub cut : Option Round
   pub are : AreFirst told text blocks
   pub next : AreNextOf told text (length blocks) (with_cut part cut)
   pub written : GainedPart old new (report_text (report_of (opened_item o) blocks))
+  pub refused_is : refused ≡ are_refused blocks
   pub keeps : (c : Commit) (log : List Entry) (t : ℕ) → StoodFor content images since moment disk disk' o c log t
       → StillKeeps (images disk') (since disk' t) log (rounds_of blocks ++ part) cut

@@ -43,7 +43,7 @@ use std::thread::Threads;
 pub struct Ran {
     /// Why it stopped before its script's end, if it did.
     pub fault: Option<RunFault>,
-    /// Whether a statement was refused.
+    /// Whether a statement of the blocks that ran was refused.
     pub refused: bool,
     /// The log, where there was memory to show it.
     pub remains: Option<Remains>,
@@ -90,10 +90,10 @@ where
         (W.written out.old) (W.written out.new) result.refused }
     ensures stopped { (why : Why) → result.fault ≡ Some why → (r : Remains) → result.remains ≡ Some r
         → IsStopped D.content D.images D.since D.moment disk.old disk.new opened (H.files host.new) script.now r
-        (W.written out.old) (W.written out.new) why }
+        (W.written out.old) (W.written out.new) result.refused why }
     ensures lost { result.remains ≡ None → (result.fault ≡ Some RunFault.Memory)
         × IsLost D.content D.images D.since D.moment disk.old disk.new opened (H.files host.new) script.now
-        (W.written out.old) (W.written out.new) }
+        (W.written out.old) (W.written out.new) result.refused }
     ensures content { SameFiles (H.files host.old) (H.files host.new) }
     ensures before { IsSome (D.content disk.new) → IsSome (D.content disk.old) }
     ensures input { result.fault ≡ Some RunFault.Input → Rose (H.faults host.old) (H.faults host.new) }
@@ -220,7 +220,7 @@ where
         (first_item made count) (H.files host.new) script.now (W.written out.old) (W.written out.new) refused.new
         true) }
     ensures some { IfErr result (StopsRun D.content D.images D.since D.moment disk.old disk.new store count
-        (first_item made count) (H.files host.new) script.now (W.written out.old) (W.written out.new)) }
+        (first_item made count) (H.files host.new) script.now (W.written out.old) (W.written out.new) refused.new) }
     ensures content { SameFiles (H.files host.old) (H.files host.new) }
     ensures later { AreLater (counts_of H.faults W.faults D.faults host.old out.old disk.old)
         (counts_of H.faults W.faults D.faults host.new out.new disk.new) }
@@ -264,7 +264,7 @@ where
         (first_item made count) (H.files host.new) script.now (W.written out.old) (W.written out.new) refused.new
         false) }
     ensures some { IfErr result (StopsRun D.content D.images D.since D.moment disk.old disk.new store count
-        (first_item made count) (H.files host.new) script.now (W.written out.old) (W.written out.new)) }
+        (first_item made count) (H.files host.new) script.now (W.written out.old) (W.written out.new) refused.new) }
     ensures content { SameFiles (H.files host.old) (H.files host.new) }
     ensures later { AreLater (counts_of H.faults W.faults D.faults host.old out.old disk.old)
         (counts_of H.faults W.faults D.faults host.new out.new disk.new) }
@@ -312,7 +312,7 @@ where
     ensures ended { IfOk result (EndsOne D.content D.images D.since D.moment disk.old disk.new lasts (H.files host.new)
         block.now (W.written out.old) (W.written out.new) refused.old refused.new) }
     ensures stopped { IfErr result (StopsOne D.content D.images D.since D.moment disk.old disk.new lasts
-        (H.files host.new) block.now (W.written out.old) (W.written out.new)) }
+        (H.files host.new) block.now (W.written out.old) (W.written out.new) refused.old refused.new) }
     ensures content { SameFiles (H.files host.old) (H.files host.new) }
     ensures later { AreLater (counts_of H.faults W.faults D.faults host.old out.old disk.old)
         (counts_of H.faults W.faults D.faults host.new out.new disk.new) }
@@ -355,12 +355,11 @@ fn tell<W: Sink>(
         (report_text (said_items several from end said.now))) }
     ensures part { OnErr result (GainedPart (W.written out.old) (W.written out.new)
         (report_text (said_items several from end said.now))) }
-    ensures refused { OnOk result (refused.new ≡ refused.old || said_refused said.now) }
+    ensures refused { refused.new ≡ refused.old || said_refused said.now }
     ensures cause { HasWriteCause (W.faults out.old) (W.faults out.new) result }
 {
-    write_block(alloc, out, several, from, end, said)?;
     if has_refusal(said) {
         *refused = true;
     }
-    Ok(())
+    write_block(alloc, out, several, from, end, said)
 }

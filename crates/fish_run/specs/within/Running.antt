@@ -47,11 +47,13 @@ pub record EndsOne
   pub refused : now ≡ before || said_refused (block_said block.rounds)
 
 -- rounds and one that was cut are the first ones of the block, of which nothing was written; or all of it ran, and a first part was written
-abbrev pub HowStopped : Option Files → script.Block → Option (List ℕ) → Option (List ℕ) → List Round → Option Round → Stopped → Type 0
-HowStopped told text old new rounds cut s =
-    (AreRounds told text.lanes (with_cut rounds cut) × Gained old new [] × (s.why ≡ fault.Input → cut ≡ None))
+abbrev pub HowStopped : Option Files → script.Block → Option (List ℕ) → Option (List ℕ) → Bool → Bool → List Round
+    → Option Round → Stopped → Type 0
+HowStopped told text old new before now rounds cut s =
+    (AreRounds told text.lanes (with_cut rounds cut) × Gained old new [] × (s.why ≡ fault.Input → cut ≡ None)
+    × (now ≡ before))
     ⊎ ((b : Block) × IsBlockOf told text b × (b.rounds ≡ rounds) × (cut ≡ None) × GainedPart old new (report_text (block_items b))
-    × (s.why ≢ fault.Input))
+    × (s.why ≢ fault.Input) × (now ≡ before || said_refused (block_said b.rounds)))
 
 -- a fault came before it ran, in it, or as it was written
 pub record StopsOne
@@ -60,13 +62,14 @@ pub record StopsOne
     (images : D → List ℕ → Type 0)
     (since : D → ℕ → List ℕ → Type 0)
     (moment : D → ℕ)
-    (disk disk' : D) (a : Lasts) (told : Option Files) (text : script.Block) (old new : Option (List ℕ)) (s : Stopped) : Type 0 where
+    (disk disk' : D) (a : Lasts) (told : Option Files) (text : script.Block) (old new : Option (List ℕ))
+    (before now : Bool) (s : Stopped) : Type 0 where
   pub rounds : List Round
   pub cut : Option Round
   pub stops : StopsRounds content images since moment (point_at disk a.store) disk' a.count
       (registry_of (view a.store.pass) a.store.registrar) rounds cut s
   pub renewed : AreRenewed (with_cut rounds cut) true
-  pub how : HowStopped told text old new rounds cut s
+  pub how : HowStopped told text old new before now rounds cut s
 
 -- ---- a run
 
@@ -87,6 +90,8 @@ pub record EndsRun
 
 -- a fault stopped it
 abbrev pub StopsRun : {D : Type 0} → (D → Option (List ℕ)) → (D → List ℕ → Type 0) → (D → ℕ → List ℕ → Type 0) → (D → ℕ)
-    → D → D → Store → ℕ → Item → Option Files → List script.Block → Option (List ℕ) → Option (List ℕ) → Stopped → Type 0
-StopsRun content images since moment disk disk' s first begin told text old new e =
-    RunsSome content images since moment (point_at disk s) disk' first (first_registry s.registrar.catalog) begin told text old new e
+    → D → D → Store → ℕ → Item → Option Files → List script.Block → Option (List ℕ) → Option (List ℕ) → Bool → Stopped
+    → Type 0
+StopsRun content images since moment disk disk' s first begin told text old new refused e =
+    RunsSome content images since moment (point_at disk s) disk' first (first_registry s.registrar.catalog) begin told text old new
+    refused e

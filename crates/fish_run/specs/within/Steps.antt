@@ -182,12 +182,11 @@ pub record RunsAll {D : Type 0}
 
 -- a fault stopped them
 pub record RunsSome {D : Type 0}
-    (content : D → Option (List ℕ))
-    (images : D → List ℕ → Type 0)
+    (content : D → Option (List ℕ)) (images : D → List ℕ → Type 0)
     (since : D → ℕ → List ℕ → Type 0)
     (moment : D → ℕ)
     (p : Point D) (disk : D) (from : ℕ) (r : Registry) (begin : Item) (told : Option Files) (text : List script.Block)
-    (old new : Option (List ℕ)) (s : Stopped) : Type 0 where
+    (old new : Option (List ℕ)) (refused : Bool) (s : Stopped) : Type 0 where
   pub blocks : List Block
   pub part : List Round
   pub cut : Option Round
@@ -196,6 +195,7 @@ pub record RunsSome {D : Type 0}
   pub stops : StopsRounds content images since moment p disk from r (rounds_of blocks ++ part) cut s
   pub renewed : AreRenewed (with_cut (rounds_of blocks ++ part) cut) true
   pub written : GainedPart old new (report_text (report_of begin blocks))
+  pub refused_is : refused ≡ are_refused blocks
   pub input : s.why ≡ fault.Input → (cut ≡ None) × Gained old new (report_text (report_of begin blocks))
 
 -- all blocks ran, and all of the log was committed

@@ -107,14 +107,15 @@ returns-in-Err-clause-some g c =
     let refusal = c.in-Err.refusal in
     let why : e.why ≡ write_fault refusal = c.stopped.ensures.why ∙ c.from.ensures in
     stops_first disk.content disk.images disk.since disk.moment from first (first_item c.args.made from) p c.args.disk.now
-    (g.H.Host.files c.args.host.now) c.args.script.now (g.W.Sink.written c.args.out.now) (g.W.Sink.written c.write_opened.new.out) e
+    (g.H.Host.files c.args.host.now) c.args.script.now (g.W.Sink.written c.args.out.now) (g.W.Sink.written c.write_opened.new.out)
+    c.args.refused.now e
     (stops_with disk.content disk.images disk.since disk.moment p c.args.disk.now s from from first [] e c.stopped.ensures.store
     (close_of disk.images c.args.disk.now s s.log.key.number new.go)
     (subst IsUndamaged (sym why) (write_well refusal))
     (first_of disk.content disk.images disk.since disk.moment p p from from first first []
     (rounds_self disk.content disk.images disk.since disk.moment p from first)
     (subst (HasEnd (view s.pass)) (sym c.requires.count) new.go.end))) (λ input. write_other refusal (sym why ∙ input))
-    c.in-Err.ensures.part
+    c.in-Err.ensures.part c.requires.accepted
 
 pub returns-in-Err-clause-cause : goal.returns-in-Err-clause-cause
 returns-in-Err-clause-cause g c =
@@ -143,11 +144,12 @@ returns-in_err-lasts-clause-some g c =
     let stop = c.in_err-lasts.ensures.stopped in
     err_known c.from_residual.result
     (StopsRun disk.content disk.images disk.since disk.moment c.args.disk.now c.run_one.new.disk c.args.store c.args.count begin new
-    c.args.script.now (written c.args.out.now) (written c.run_one.new.out)) e c.from_residual.ensures.1
+    c.args.script.now (written c.args.out.now) (written c.run_one.new.out) c.run_one.new.refused) e c.from_residual.ensures.1
     (stops_more disk.content disk.images disk.since disk.moment c.args.count first begin p m m a.count
     (registry_of (view a.store.pass) a.store.registrar) old new c.run_one.ensures.content (written c.args.out.now)
     (written c.loop-block.out) (written c.run_one.new.out) c.args.script.now c.loop-block.block-index c.block-item.result
-    c.loop-block.refused c.run_one.new.disk stop.rounds stop.cut e (omega (c.loop-block-test.true, arith)) c.block-item.is inv.writes
+    c.loop-block.refused c.run_one.new.refused c.run_one.new.disk stop.rounds stop.cut e (omega (c.loop-block-test.true, arith))
+    c.block-item.is inv.writes
     stop.stops stop.renewed stop.how)
 
 pub returns-in_err-lasts-clause-content : goal.returns-in_err-lasts-clause-content

@@ -35,9 +35,9 @@ returns-in_err-store-clause-stopped g c =
     let stop = c.in_err-store.ensures.stopped in
     err_known c.from_residual.result
     (StopsOne disk.content disk.images disk.since disk.moment c.args.disk.now c.run_lanes.new.disk c.args.lasts told c.args.block.now
-    written written) e c.from_residual.ensures.1
+    written written c.args.refused.now c.args.refused.now) e c.from_residual.ensures.1
     (one_cut disk.content disk.images disk.since disk.moment c.args.disk.now c.args.lasts told c.args.block.now c.requires.go
-    c.run_lanes.new.disk stop.given written e stop.stops
+    c.run_lanes.new.disk stop.given written c.args.refused.now e stop.stops
     (subst (λ (z : List (List Statement)). AreRounds told z (with_cut stop.stops.rounds stop.stops.cut)) c.as_slice-texts.ensures stop.are))
 
 pub returns-in_err-store-clause-cause : goal.returns-in_err-store-clause-cause
@@ -65,7 +65,7 @@ returns-in-Ok-clause-ended g c =
     c.run_lanes.new.disk d end.given done end.rounds old new c.args.refused.now c.tell-told.new.refused _ refl
     (subst (λ (z : List Said). Gained old new (report_text (said_items c.args.block.now.several c.args.lasts.count d.end z))) items
     c.in-Ok.ensures.written)
-    (subst (λ (z : List Said). c.tell-told.new.refused ≡ c.args.refused.now || said_refused z) items c.in-Ok.ensures.refused)
+    (subst (λ (z : List Said). c.tell-told.new.refused ≡ c.args.refused.now || said_refused z) items c.tell-told.ensures.refused)
 
 pub returns-in-Err-clause-stopped : goal.returns-in-Err-clause-stopped
 returns-in-Err-clause-stopped g c =
@@ -81,10 +81,11 @@ returns-in-Err-clause-stopped g c =
     let refusal = c.in-Err.refusal in
     let why : e.why ≡ write_fault refusal = c.stopped.ensures.why ∙ c.from.ensures in
     one_unwritten disk.content disk.images disk.since disk.moment c.args.disk.now c.args.lasts told c.args.block.now c.requires.go
-    c.run_lanes.new.disk d end.given done end.rounds old new e c.stopped.ensures.store
+    c.run_lanes.new.disk d end.given done end.rounds old new c.args.refused.now c.tell-told.new.refused e c.stopped.ensures.store
     (subst IsUndamaged (sym why) (write_well refusal)) (λ input. write_other refusal (sym why ∙ input))
     (subst (λ (z : List Said). GainedPart old new (report_text (said_items c.args.block.now.several c.args.lasts.count d.end z))) items
     c.in-Err.ensures.part)
+    (subst (λ (z : List Said). c.tell-told.new.refused ≡ c.args.refused.now || said_refused z) items c.tell-told.ensures.refused)
 
 pub returns-in-Err-clause-cause : goal.returns-in-Err-clause-cause
 returns-in-Err-clause-cause g c =

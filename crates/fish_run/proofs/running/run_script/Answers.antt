@@ -76,13 +76,15 @@ returns-in-Ok-clause-stopped g c why fault_is r is =
     let k = c.close in
     let now = g.W.Sink.written k.new.out in
     shown_is (λ (r : Remains). IsClosed (view l.store.pass) r × Finishes (Ok l.count) k.result.fault mid now)
-    (λ (r : Remains). IsStopped disk.content disk.images disk.since disk.moment first b.new.disk o told text r old now why)
-    k.result.remains r is k.ensures.shown
-    (λ f. ends_late disk.content disk.images disk.since disk.moment laws.as_read first o (point_at first s)
+    (λ (r : Remains). IsStopped disk.content disk.images disk.since disk.moment first b.new.disk o told text r old now k.result.refused
+    why) k.result.remains r is k.ensures.shown
+    (λ f. subst (λ (z : Bool). IsStopped disk.content disk.images disk.since disk.moment first b.new.disk o told text r old now z why)
+    (sym k.ensures.refused)
+    (ends_late disk.content disk.images disk.since disk.moment laws.as_read first o (point_at first s)
     (point_opened first s o e.log e.pass e.rows e.flusher e.cold) s.registrar.catalog e.rows new.unshut
     (subst (λ (z : Log). z.key.buckets ≡ 2 ^ z.shape.bucket_bits) e.log new.go.table.buckets)
     (new.go.can.of.about ∙ ap (λ (z : Log). z.key) e.log) b.new.disk told text old mid
-    now l.store h.close r f.0 b.new.refused l.count why k.result.fault fault_is h.runs (h.committed refl) f.1)
+    now l.store h.close r f.0 b.new.refused l.count why k.result.fault fault_is h.runs (h.committed refl) f.1))
 
 pub returns-in-Ok-clause-lost : goal.returns-in-Ok-clause-lost
 returns-in-Ok-clause-lost g c none =
@@ -104,13 +106,15 @@ returns-in-Ok-clause-lost g c none =
     let h = c.in-Ok.ensures.all in
     let k = c.close in (
       (k.ensures.lost none).0,
-      subst (λ (z : _). IsLost disk.content disk.images disk.since disk.moment first b.new.disk o told text old (g.W.Sink.written z))
-          (sym (k.ensures.lost none).1)
+      subst (λ (z : _). IsLost disk.content disk.images disk.since disk.moment first b.new.disk o told text old (g.W.Sink.written z)
+          k.result.refused) (sym (k.ensures.lost none).1)
+          (subst (λ (z : Bool). IsLost disk.content disk.images disk.since disk.moment first b.new.disk o told text old mid z)
+          (sym k.ensures.refused)
           (lost_all disk.content disk.images disk.since disk.moment laws.as_read first o (point_at first s)
           (point_opened first s o e.log e.pass e.rows e.flusher e.cold) s.registrar.catalog e.rows new.unshut
           (subst (λ (z : Log). z.key.buckets ≡ 2 ^ z.shape.bucket_bits) e.log new.go.table.buckets)
           (new.go.can.of.about ∙ ap (λ (z : Log). z.key) e.log) b.new.disk told text old mid
-          mid l.store b.new.refused l.count h.runs),
+          mid l.store b.new.refused l.count h.runs)),
     )
 
 pub returns-in-Ok-clause-damaged : goal.returns-in-Ok-clause-damaged
@@ -154,13 +158,15 @@ returns-in-Some-clause-stopped g c why fault_is r is =
     let k = c.close-in-Some in
     let now = g.W.Sink.written k.new.out in
     shown_is (λ (r : Remains). IsClosed (view x.pass) r × Finishes (Err stop.why) k.result.fault mid now)
-    (λ (r : Remains). IsStopped disk.content disk.images disk.since disk.moment first b.new.disk o told text r old now why)
-    k.result.remains r is k.ensures.shown
-    (λ f. ends_stopped disk.content disk.images disk.since disk.moment laws.as_read first o (point_at first s)
+    (λ (r : Remains). IsStopped disk.content disk.images disk.since disk.moment first b.new.disk o told text r old now k.result.refused
+    why) k.result.remains r is k.ensures.shown
+    (λ f. subst (λ (z : Bool). IsStopped disk.content disk.images disk.since disk.moment first b.new.disk o told text r old now z why)
+    (sym k.ensures.refused)
+    (ends_stopped disk.content disk.images disk.since disk.moment laws.as_read first o (point_at first s)
     (point_opened first s o e.log e.pass e.rows e.flusher e.cold) s.registrar.catalog e.rows new.unshut
     (subst (λ (z : Log). z.key.buckets ≡ 2 ^ z.shape.bucket_bits) e.log new.go.table.buckets)
     (new.go.can.of.about ∙ ap (λ (z : Log). z.key) e.log) b.new.disk told text old mid
-    now x r f.0 stop why k.result.fault fault_is c.in-Some.is some f.1)
+    now b.new.refused x r f.0 stop why k.result.fault fault_is c.in-Some.is some f.1))
 
 pub returns-in-Some-clause-lost : goal.returns-in-Some-clause-lost
 returns-in-Some-clause-lost g c none =
@@ -183,13 +189,15 @@ returns-in-Some-clause-lost g c none =
     let some = c.in-Err.ensures.some in
     let k = c.close-in-Some in (
       (k.ensures.lost none).0,
-      subst (λ (z : _). IsLost disk.content disk.images disk.since disk.moment first b.new.disk o told text old (g.W.Sink.written z))
-          (sym (k.ensures.lost none).1)
+      subst (λ (z : _). IsLost disk.content disk.images disk.since disk.moment first b.new.disk o told text old (g.W.Sink.written z)
+          k.result.refused) (sym (k.ensures.lost none).1)
+          (subst (λ (z : Bool). IsLost disk.content disk.images disk.since disk.moment first b.new.disk o told text old mid z)
+          (sym k.ensures.refused)
           (lost_some disk.content disk.images disk.since disk.moment laws.as_read first o (point_at first s)
           (point_opened first s o e.log e.pass e.rows e.flusher e.cold) s.registrar.catalog e.rows new.unshut
           (subst (λ (z : Log). z.key.buckets ≡ 2 ^ z.shape.bucket_bits) e.log new.go.table.buckets)
           (new.go.can.of.about ∙ ap (λ (z : Log). z.key) e.log) b.new.disk told text old mid
-          mid stop some),
+          mid b.new.refused stop some)),
     )
 
 pub returns-in-Some-clause-damaged : goal.returns-in-Some-clause-damaged
@@ -244,5 +252,5 @@ returns-in-None-clause-lost g c none =
           (point_opened first s o e.log e.pass e.rows e.flusher e.cold) s.registrar.catalog e.rows new.unshut
           (subst (λ (z : Log). z.key.buckets ≡ 2 ^ z.shape.bucket_bits) e.log new.go.table.buckets)
           (new.go.can.of.about ∙ ap (λ (z : Log). z.key) e.log) b.new.disk told text old mid
-          mid stop some,
+          mid b.new.refused stop some,
     )
