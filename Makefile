@@ -22,13 +22,14 @@ else
 	@tools/demo
 endif
 
-# Proves the program and all below it from nothing, with crates side by side, and builds it; again where a source has changed.
+# Proves the program and all below it, with crates side by side, and builds it; again where a source has changed. What a crate has
+# passed is kept on the machine.
 build: $(PROGRAM)
 
 $(PROGRAM): $(SOURCES)
 	tools/prove fishstore
 
-# Proves every crate but the benchmarks from nothing, and the tests, runs these, and runs the program over the cases.
+# Proves every crate but the benchmarks, and the tests, runs these, and runs the program over the cases.
 test:
 	tools/prove fishstore $(TESTS)
 	tools/cases cases/*.txt README.md
@@ -63,7 +64,7 @@ edits:
 	tools/generated
 	tools/edits --jobs $(JOBS) $(CRATES)
 
-# The merge gate: every proof from nothing, the must-fail edits, the programs, the tests and the cases.
+# The merge gate: every proof, the must-fail edits, the programs, the tests and the cases.
 gate:
 	bash .ci/run
 
