@@ -1,7 +1,7 @@
 //! Hashes of keys: the vectors that the authors of FNV-1a give, and keys that another program hashed.
 
 use crate::expecting::expect_all;
-use fish_layout::{bucket_of, key_hash};
+use fish_layout::{bucket_of, hash_of_id, hash_step, key_hash};
 use fish_value::{Value, read_value};
 use std::alloc::{AllocError, Global};
 use std::test::Fail;
@@ -43,6 +43,29 @@ fn hash_text(alloc: Global, id: u16, value: &Option<Value>) -> Result<String, Al
 #[test]
 fn hashes(rt: HostRuntime) -> Result<(), Fail> {
     expect_all(&rt, rt.alloc(), HASHES, hash_of)?;
+    Ok(())
+}
+
+/// An id, the bytes that follow its two as a text, and the hash of all: again `fo`, `foo` and `foobar`.
+const STEPS: &[((u16, &str), &str)] = &[
+    ((0x6f66, ""), "08985907b541d342"),
+    ((0x6f66, "o"), "dcb27518fed9d577"),
+    ((0x6f66, "obar"), "85944171f73967e8"),
+];
+
+/// The hash of an id in hexadecimal digits, with one step for each of the bytes that follow.
+fn stepped(alloc: Global, case: &(u16, &str)) -> Result<String, AllocError> {
+    let (id, text) = case;
+    let mut hash = hash_of_id(*id);
+    for byte in text.as_bytes() {
+        hash = hash_step(hash, *byte);
+    }
+    format!(in alloc; "{hash:016x}")
+}
+
+#[test]
+fn steps(rt: HostRuntime) -> Result<(), Fail> {
+    expect_all(&rt, rt.alloc(), STEPS, stepped)?;
     Ok(())
 }
 

@@ -1,6 +1,7 @@
 //! Lines of files in every cutting, with answers worked out by hand.
 
 use crate::expecting::expect_all;
+use fish_json::{cut_line, without_carriage_return};
 use fish_lines::{Line, LineList, lines_of_pieces};
 use fish_value::Bytes;
 use std::alloc::{AllocError, Global};
@@ -91,6 +92,34 @@ fn text_told(alloc: Global, text: &&str) -> Result<String, AllocError> {
 fn lines_of_every_cutting(rt: HostRuntime) -> Result<(), Fail> {
     expect_all(&rt, rt.alloc(), FILES, text_told)?;
     expect_all(&rt, rt.alloc(), BYTES, told)?;
+    Ok(())
+}
+
+/// A text, and its first line, that without a CR at its end, and what follows it.
+const FIRST_LINES: &[(&str, &str)] = &[
+    ("a\r\nb\nc", "a\r|a|b\nc"),
+    ("a\rb\r\r\n", "a\rb\r\r|a\rb\r|"),
+    ("\n\n", "||\n"),
+    ("a\r", "no end"),
+    ("", "no end"),
+];
+
+fn first_line(alloc: Global, text: &&str) -> Result<String, AllocError> {
+    let Some((line, rest)) = cut_line(text.as_bytes()) else {
+        return String::from_str(alloc, "no end");
+    };
+    let mut told = String::new(alloc);
+    push_bytes(&mut told, line)?;
+    told.push('|')?;
+    push_bytes(&mut told, without_carriage_return(line))?;
+    told.push('|')?;
+    push_bytes(&mut told, rest)?;
+    Ok(told)
+}
+
+#[test]
+fn first_lines(rt: HostRuntime) -> Result<(), Fail> {
+    expect_all(&rt, rt.alloc(), FIRST_LINES, first_line)?;
     Ok(())
 }
 

@@ -3,8 +3,8 @@
 
 use crate::expecting::{expect, expect_all};
 use fish_outside::{
-    Failed, FaultPlan, FeedRefusal, Host, HostFile, HostFiles, MemoryHost, MemorySink, Sink,
-    Source, SureHost, SureSink, write_whole,
+    BoundedBytes, Failed, FaultPlan, FeedRefusal, Host, HostFile, HostFiles, MemoryHost,
+    MemorySink, Sink, Source, SureHost, SureSink, write_whole,
 };
 use fish_value::{Bytes, Numbers64, Text};
 use std::alloc::{AllocError, Global};
@@ -301,5 +301,27 @@ fn sure_writes(rt: HostRuntime) -> Result<(), Fail> {
         told?.as_str(),
         "whole abc, whole abc, whole abcd, whole abcd, ",
     );
+    Ok(())
+}
+
+/// What is kept of two pieces, and what once a piece stands over the second and the third byte.
+fn bounded_told(alloc: Global, bytes: &mut BoundedBytes) -> Result<String, AllocError> {
+    let mut told = String::new(alloc);
+    bytes.append(b"abc");
+    bytes.append(b"def");
+    put_bytes(&mut told, bytes.as_bytes())?;
+    if bytes.as_bytes().len() >= 3 {
+        bytes.overwrite(1, b"xy");
+    }
+    put_bytes(&mut told, bytes.as_bytes())?;
+    Ok(told)
+}
+
+#[test]
+fn bounded_bytes(rt: HostRuntime) -> Result<(), Fail> {
+    let mut bytes = BoundedBytes::new(rt.alloc(), 4)?;
+    let told = bounded_told(rt.alloc(), &mut bytes);
+    drop(bytes);
+    expect(&rt, told?.as_str(), "abcd, axyd, ");
     Ok(())
 }
