@@ -2,7 +2,7 @@
 
 use crate::told::{expect, expect_all};
 use fish_catalog::{CatRow, Catalog, Commit};
-use fish_image::{has_format, is_within, read_slot, slot_body};
+use fish_image::{has_format, is_within, read_slot, slot_body, words_in};
 use fish_value::{Bytes, Text};
 use std::alloc::{AllocError, Global};
 use std::fmt::Write;
@@ -271,5 +271,33 @@ fn active_told(alloc: Global, case: &(u8, u16, u8)) -> Result<String, AllocError
 #[test]
 fn formats(rt: HostRuntime) -> Result<(), Fail> {
     expect_all(&rt, rt.alloc(), ACTIVE, active_told)?;
+    Ok(())
+}
+
+/// A text, and the whole words of its bytes in hexadecimal digits.
+const SPELLED: &[(&str, &str)] = &[
+    ("abcdefgh12345678xyz", "6867666564636261 3837363534333231 "),
+    ("abcdefg", ""),
+];
+
+fn put_words(told: &mut String, words: &[u64]) -> Result<(), AllocError> {
+    for word in words {
+        write!(told, "{word:016x} ")?;
+    }
+    Ok(())
+}
+
+fn spelled(alloc: Global, text: &&str) -> Result<String, AllocError> {
+    let words = words_in(alloc, text.as_bytes())?;
+    let mut told = String::new(alloc);
+    let put = put_words(&mut told, words.as_slice());
+    drop(words);
+    put?;
+    Ok(told)
+}
+
+#[test]
+fn words_of_bytes(rt: HostRuntime) -> Result<(), Fail> {
+    expect_all(&rt, rt.alloc(), SPELLED, spelled)?;
     Ok(())
 }
