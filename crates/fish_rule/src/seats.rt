@@ -25,10 +25,10 @@ use std::alloc::{AllocError, Global};
 use std::snapshot::Snapshot;
 
 /// The greatest number at which a log's claims that end within it may end.
-const MAX_NUMBER: u64 = 268_435_439;
+const LAST_NUMBER: u64 = 268_435_439;
 
 /// The greatest line at which a log may end.
-const MAX_LINE: u64 = 68_719_176_736;
+const LAST_LINE: u64 = 68_719_176_736;
 
 /// What a log begins with.
 #[derive(Debug, Drop)]
@@ -73,9 +73,9 @@ fn no_heads(alloc: Global, count: usize) -> Result<Numbers64, AllocError>
 }
 
 /// The lane LANE goes from the control pass to a new pass.
-struct Cut<const LANE: u8>;
+struct SplitLane<const LANE: u8>;
 
-impl<const LANE: u8> Split<View> for Cut<LANE> {
+impl<const LANE: u8> Split<View> for SplitLane<LANE> {
     ghost use Rattle.fish_rule.specs.SeatSteps.{split_left, split_right};
 
     ghost left = { split_left LANE };
@@ -84,9 +84,9 @@ impl<const LANE: u8> Split<View> for Cut<LANE> {
 }
 
 /// The control pass takes in another pass.
-struct Meet;
+struct JoinLane;
 
-impl Join<View> for Meet {
+impl Join<View> for JoinLane {
     ghost use Rattle.fish_rule.specs.SeatSteps.{join_both, spent};
 
     ghost both = { join_both };
@@ -104,8 +104,8 @@ fn key_of(shape: Shape, start: &Start) -> Key
     let number = u64::from(start.base.number);
     let line = start.base.line;
     let lines = (u64::from(shape.pages) * PAGE_LINES)
-        .min(MAX_NUMBER - number)
-        .min(MAX_LINE - line);
+        .min(LAST_NUMBER - number)
+        .min(LAST_LINE - line);
     Key {
         number,
         line,
@@ -174,7 +174,7 @@ pub fn open_log(alloc: Global, shape: Shape, start: &Start) -> Result<(Log, Pass
 }
 
 /// The lane LANE goes to a new pass.
-fn give_out<const LANE: u8>(log: &Log, control: &mut Pass) -> Pass
+fn split_lane<const LANE: u8>(log: &Log, control: &mut Pass) -> Pass
     requires pass { IsPassOf log.now control.old }
     requires can { CanSplitPass (view control.old) LANE }
     ensures control { IsPassOf log.now control.new }
@@ -182,7 +182,10 @@ fn give_out<const LANE: u8>(log: &Log, control: &mut Pass) -> Pass
     ensures left { view control.new ≡ split_left LANE (view control.old) }
     ensures right { view result ≡ split_right LANE (view control.old) }
 {
-    let seat = log.table.shared.split_seat::<Cut<LANE>>(&mut control.seat);
+    let seat = log
+        .table
+        .shared
+        .split_seat::<SplitLane<LANE>>(&mut control.seat);
     Pass {
         seat,
         lane: LANE,
@@ -202,21 +205,21 @@ pub fn split_pass(log: &Log, control: &mut Pass, lane: u8) -> Pass
     ensures right { view result ≡ split_right lane (view control.old) }
 {
     match lane {
-        2 => give_out::<2>(log, control),
-        3 => give_out::<3>(log, control),
-        4 => give_out::<4>(log, control),
-        5 => give_out::<5>(log, control),
-        6 => give_out::<6>(log, control),
-        7 => give_out::<7>(log, control),
-        8 => give_out::<8>(log, control),
-        9 => give_out::<9>(log, control),
-        10 => give_out::<10>(log, control),
-        11 => give_out::<11>(log, control),
-        12 => give_out::<12>(log, control),
-        13 => give_out::<13>(log, control),
-        14 => give_out::<14>(log, control),
-        15 => give_out::<15>(log, control),
-        _ => give_out::<16>(log, control),
+        2 => split_lane::<2>(log, control),
+        3 => split_lane::<3>(log, control),
+        4 => split_lane::<4>(log, control),
+        5 => split_lane::<5>(log, control),
+        6 => split_lane::<6>(log, control),
+        7 => split_lane::<7>(log, control),
+        8 => split_lane::<8>(log, control),
+        9 => split_lane::<9>(log, control),
+        10 => split_lane::<10>(log, control),
+        11 => split_lane::<11>(log, control),
+        12 => split_lane::<12>(log, control),
+        13 => split_lane::<13>(log, control),
+        14 => split_lane::<14>(log, control),
+        15 => split_lane::<15>(log, control),
+        _ => split_lane::<16>(log, control),
     }
 }
 
@@ -238,7 +241,9 @@ pub fn join_pass(log: &Log, control: &mut Pass, other: Pass)
         flight: _,
         walk: _,
     } = other;
-    log.table.shared.join_seat::<Meet>(&mut control.seat, seat);
+    log.table
+        .shared
+        .join_seat::<JoinLane>(&mut control.seat, seat);
     log.table.shared.load::<LoadTail>(&mut control.seat, 0);
     if control.shut.is_none() {
         control.shut = shut;

@@ -2,7 +2,7 @@
 use Rattle.std.proofs.Common.{ℕ, ◌<◌, ◌≤◌, sym, ap, ◌∙◌, subst, arith}
 use Rattle.fish_rule.proofs.steps.SplitPass.{left_stands, right_stands, splits}
 use Rattle.fish_rule.specs.Table.{Sat, Stands}
-use Rattle.fish_rule.proofs.seats.give_out.Goals as goal
+use Rattle.fish_rule.proofs.seats.split_lane.Goals as goal
 
 -- the rule allows a split, whatever the words are
 pub split_seat-seat-requires : goal.split_seat-seat-requires
