@@ -34,13 +34,15 @@ module _ (log : Log) (v : View) (prepared : Prepared) (about : v.about ≡ log.k
   pub can_place : v.shut ≡ None → CanPlace v prepared
   can_place ready = record {
     claim = record { live = entered.live; idle = entered.idle; ready = ready; version = 0; entered = entered.epoch };
-    defs = may.0;
-    origin = may.2.origin;
-    payload = may.2.payload;
-    made = may.2.made;
-    active = active;
-    lane_is = may.2.lane_is;
-    entered = entered.epoch ∙ ap (λ (n : ℕ). Confirmed n) (sym may.2.version_is);
+    fits = record {
+      defs = may.0;
+      origin = may.2.origin;
+      payload = may.2.payload;
+      made = may.2.made;
+      active = active;
+      lane_is = may.2.lane_is;
+      entered = entered.epoch ∙ ap (λ (n : ℕ). Confirmed n) (sym may.2.version_is);
+    };
     lines = body_lines may.2.made.0.0;
     size = refl;
   }

@@ -128,13 +128,15 @@ can_place_for v a b version entered reads form payload prepared s can unshut h =
           version = version;
           entered = at_version;
         };
-        defs = h.defs;
-        origin = h.origin;
-        payload = payload;
-        made = h.made;
-        active = subst (λ (z : ℕ). KnowsActive b.about b.learned z (map text_of h.defs)) (sym h.version_is) h.active;
-        lane_is = h.lane_is;
-        entered = at_version ∙ ap Confirmed (sym h.version_is);
+        fits = record {
+          defs = h.defs;
+          origin = h.origin;
+          payload = payload;
+          made = h.made;
+          active = subst (λ (z : ℕ). KnowsActive b.about b.learned z (map text_of h.defs)) (sym h.version_is) h.active;
+          lane_is = h.lane_is;
+          entered = at_version ∙ ap Confirmed (sym h.version_is);
+        };
         lines = body_lines h.made.0.0;
         size = refl;
       };
@@ -156,14 +158,14 @@ module _ (v b : View) (form : Form) (payload : List ℕ) (prepared : Prepared) (
   unshut = sym (ap (λ (z : View). z.shut) r.keeps.frame) ∙ r.can.claim.ready
 
   -- the record that the payload is, as the pass knows it later
-  record_for : (u : View) → Learns b u → u.lane ≡ b.lane → IsRecordFor u form payload r.can.made.0.0
+  record_for : (u : View) → Learns b u → u.lane ≡ b.lane → IsRecordFor u form payload r.can.fits.made.0.0
   record_for u learns lane = record {
-    defs = r.can.defs;
-    origin = r.can.origin;
-    parts = subst (λ (z : List ℕ). ArePartsFor r.can.defs r.can.origin z r.can.made.0.0) r.payload_is r.can.made.0.1;
+    defs = r.can.fits.defs;
+    origin = r.can.fits.origin;
+    parts = subst (λ (z : List ℕ). ArePartsFor r.can.fits.defs r.can.fits.origin z r.can.fits.made.0.0) r.payload_is r.can.fits.made.0.1;
     form_is = r.form_is;
-    lane_is = r.can.lane_is ∙ sym lane;
-    active = knows_later b u learns r.can.origin.version (map text_of r.can.defs) r.can.active;
+    lane_is = r.can.fits.lane_is ∙ sym lane;
+    active = knows_later b u learns r.can.fits.origin.version (map text_of r.can.fits.defs) r.can.fits.active;
   }
 
   -- the record was placed
@@ -183,9 +185,9 @@ module _ (v b : View) (form : Form) (payload : List ℕ) (prepared : Prepared) (
           stored = placed.stored;
           number_is = placed.number_is;
         };
-        parts = r.can.made.0.0;
+        parts = r.can.fits.made.0.0;
         are = record_for u placed.on.learns (on_lane placed.on);
-        words = subst (λ (z : ℕ). HoldsParts (record r.can.made.0.0 { number = z }) u) placed.number_is placed.words;
+        words = subst (λ (z : ℕ). HoldsParts (record r.can.fits.made.0.0 { number = z }) u) placed.number_is placed.words;
         fresh = omega arith;
         counted = omega arith;
         shut = placed.shut ∙ ap (λ (z : View). z.shut) r.keeps.frame;
@@ -209,12 +211,12 @@ module _ (v b : View) (form : Form) (payload : List ℕ) (prepared : Prepared) (
         by_claim = inr (record {
           unshut = unshut;
           mark = is.mark;
-          parts = r.can.made.0.0;
+          parts = r.can.fits.made.0.0;
           are = record_for (after_retire u) (learns_both b u (after_retire u) is.on.learns left.learns) (on_lane is.on);
           lines_are = is.lines_is ∙ r.can.size;
-          version_is = r.can.made.0.1.version_is ∙ sym (is.version ∙ r.known);
-          loaded = subst (HasLoaded v.clock (after_retire u).clock Version) (sym r.can.made.0.1.version_is)
-              (loaded_within v.clock v.clock b.clock (after_retire u).clock Version r.can.origin.version
+          version_is = r.can.fits.made.0.1.version_is ∙ sym (is.version ∙ r.known);
+          loaded = subst (HasLoaded v.clock (after_retire u).clock Version) (sym r.can.fits.made.0.1.version_is)
+              (loaded_within v.clock v.clock b.clock (after_retire u).clock Version r.can.fits.origin.version
               (later_self v.clock) r.loaded
               (later_both b.clock u.clock (after_retire u).clock is.on.clock (later_ticked u.clock)));
         });

@@ -20,7 +20,7 @@ use Rattle.fish_rule.specs.declared.view.View.{View}
 module _ (v : View) (prepared : Prepared) (can : CanPlace v prepared) where
   -- the words fill the record's lines
   words_fill : length prepared.body ≡ can.lines * 4
-  words_fill = body_fills can.made.0 ∙ ap (λ (z : ℕ). z * 4) (sym can.size)
+  words_fill = body_fills can.fits.made.0 ∙ ap (λ (z : ℕ). z * 4) (sym can.size)
 
   -- so the lines are a fourth of the words, from 1 to 18,625
   pub lines_are : length prepared.body / 4 ≡ can.lines
@@ -29,10 +29,10 @@ module _ (v : View) (prepared : Prepared) (can : CanPlace v prepared) where
 
   pub few_lines_of : (0 < length prepared.body / 4) × (length prepared.body / 4 ≤ 18625)
   few_lines_of =
-      let p = can.made.0.0 in
+      let p = can.fits.made.0.0 in
       let a = lines_are in
       let size = can.size in
-      let few = few_lines p can.made.0.2.proper in
+      let few = few_lines p can.fits.made.0.2.proper in
       let some_ = some_lines p in
       (omega arith, omega arith)
 
@@ -49,13 +49,15 @@ module _ (v : View) (prepared : Prepared) (can : CanPlace v prepared) where
       unlinked = refl;
       stored = h.kind;
       lines = (let e = words_fill in let a = lines_are in omega arith);
-      defs = can.defs;
-      origin = can.origin;
-      payload = can.payload;
-      made = can.made;
-      active = knows_later v u h.on.learns can.origin.version (map text_of can.defs) can.active;
-      lane_is = can.lane_is ∙ sym (on_lane h.on);
-      entered = h.epoch ∙ can.entered;
+      fits = record {
+        defs = can.fits.defs;
+        origin = can.fits.origin;
+        payload = can.fits.payload;
+        made = can.fits.made;
+        active = knows_later v u h.on.learns can.fits.origin.version (map text_of can.fits.defs) can.fits.active;
+        lane_is = can.fits.lane_is ∙ sym (on_lane h.on);
+        entered = h.epoch ∙ can.fits.entered;
+      };
     }
 
     -- and are
@@ -74,7 +76,7 @@ module _ (v : View) (prepared : Prepared) (can : CanPlace v prepared) where
           ready = written.ready;
           stored = written.stored;
           number_is = same ∙ sym is;
-          words = subst (λ (z : ℕ). HoldsParts (record can.made.0.0 { number = z }) t) (sym same) words;
+          words = subst (λ (z : ℕ). HoldsParts (record can.fits.made.0.0 { number = z }) t) (sym same) words;
           fresh = (let fresh = h.fresh in omega arith);
           counted = (let counted = h.counted in let count = written.only.count in omega arith);
           epoch = ap (λ (z : View). z.epoch) written.only.frame ∙ h.epoch;

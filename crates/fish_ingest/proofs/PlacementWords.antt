@@ -5,9 +5,8 @@ use Rattle.std.specs.List.{slice_get}
 use Rattle.fish_chain.proofs.Laws.{linked_filled, linked_flight}
 use Rattle.fish_chain.proofs.Partly.{IsPartly, partly_links, partly_publish}
 use Rattle.fish_chain.specs.Links.{CanLink, IsLinked}
-use Rattle.fish_claim.proofs.Answered.{learns_same}
 use Rattle.fish_claim.proofs.Filled.{body_keys}
-use Rattle.fish_claim.specs.Fills.{CanFill, IsFilled, filled_view, with_words}
+use Rattle.fish_claim.specs.Fills.{CanFill, IsFilled}
 use Rattle.fish_ingest.proofs.PlacementBody.{body_fills, keyed_of_body, numbered, numbered_fills}
 use Rattle.fish_ingest.specs.Placement.{CanWrite, HoldsParts, HasWritten, OnlyWrites}
 use Rattle.fish_ingest.specs.declared.preparation.Prepared.{Prepared}
@@ -21,7 +20,6 @@ use Rattle.fish_rule.proofs.laws.Clocks.{later_both}
 use Rattle.fish_rule.proofs.laws.Learning.{learns_both}
 use Rattle.fish_rule.specs.Clocks.{IsLater}
 use Rattle.fish_rule.specs.Flying.{region_of}
-use Rattle.fish_rule.specs.Logs.{Learns}
 use Rattle.fish_rule.specs.Keys.{IsKeyed}
 use Rattle.fish_rule.specs.Registry.{KnowsActive}
 use Rattle.fish_rule.specs.declared.view.Flight.{Flight}
@@ -31,13 +29,13 @@ use Rattle.fish_rule.specs.declared.view.View.{View}
 
 -- the parts of the record under the number of its claim
 abbrev pub parts_at : (v : View) (f : Flight) (prepared : Prepared) → CanWrite v f prepared → BodyParts
-parts_at v f prepared can = numbered f.number can.made.0.0
+parts_at v f prepared can = numbered f.number can.fits.made.0.0
 
 -- the region has the lines of the record
 same_lines : (v : View) (f : Flight) (prepared : Prepared) (can : CanWrite v f prepared)
-    → body_lines can.made.0.0 ≡ f.lines
+    → body_lines can.fits.made.0.0 ≡ f.lines
 same_lines v f prepared can =
-    let fills = body_fills can.made.0 in
+    let fills = body_fills can.fits.made.0 in
     let lines = can.lines in
     omega arith
 
@@ -45,7 +43,7 @@ same_lines v f prepared can =
 pub can_fill : (v : View) (f : Flight) (prepared : Prepared) (can : CanWrite v f prepared) (words : List ℕ)
     → IsBody (parts_at v f prepared can) words → CanFill v f words
 can_fill v f prepared can words is =
-    let b = can.made.0 in
+    let b = can.fits.made.0 in
     let lines = same_lines v f prepared can in
     record {
       flying = can.flying;
@@ -54,11 +52,11 @@ can_fill v f prepared can words is =
       stored = can.stored;
       full = numbered_fills f.number b.0 is ∙ ap (λ (z : ℕ). z * 4) lines;
       body = record {
-        version = can.origin.version;
-        entered = can.entered;
-        keyed = subst (λ (z : ℕ × ℕ). IsKeyed (KnowsActive v.about v.learned) can.origin.version z.0
-            f.number z.1 (body_of words)) (λ i. (can.lane_is i, lines i))
-            (keyed_of_body {active = KnowsActive v.about v.learned} f.number words b is can.active);
+        version = can.fits.origin.version;
+        entered = can.fits.entered;
+        keyed = subst (λ (z : ℕ × ℕ). IsKeyed (KnowsActive v.about v.learned) can.fits.origin.version z.0
+            f.number z.1 (body_of words)) (λ i. (can.fits.lane_is i, lines i))
+            (keyed_of_body {active = KnowsActive v.about v.learned} f.number words b is can.fits.active);
       };
     }
 
@@ -80,27 +78,6 @@ linked_later : (u t : View) (f : Flight) (bucket : ℕ) → IsLinked u f bucket 
 linked_later u t f bucket is =
     let quiet = is.changed.quiet in
     record { steps = quiet.steps; loads = quiet.loads; notes = []; since = quiet.notes }
-
--- so it is once the words are stored
-pub writing_begins : (v u : View) (f : Flight) (p : BodyParts) (words : List ℕ) → f.linked ≡ 0
-    → u ≡ filled_view v f words → IsFilled u (with_words f words) → IsBody p words → IsWriting v f p 0 u
-writing_begins v u f p words none is filled made = record {
-  flight = with_words f words;
-  filled = filled;
-  count = none;
-  words = words;
-  made = made;
-  same = refl;
-  region = refl;
-  kept = record {
-    learns = subst (Learns v) (sym is) (learns_same v (filled_view v f words) refl refl);
-    clock = subst (λ (z : View). IsLater v.clock z.clock) (sym is)
-        (record { steps = omega arith; loads = omega arith; notes = []; since = refl });
-    frame = subst (λ (z : View). z ≡ record v { flight = z.flight; learned = z.learned; clock = z.clock }) (sym is) refl;
-    count = ap (λ (z : View). z.learned.count) is;
-    found = ap (λ (z : View). z.learned.found) is;
-  };
-}
 
 module _ (v : View) (f : Flight) (p : BodyParts) (c : ℕ) (u : View) (s : IsWriting v f p c u) where
   -- the same as the links have it

@@ -21,14 +21,9 @@ use Rattle.fish_rule.specs.declared.view.View.{View}
 
 -- ---- the words
 
--- f was just claimed for a record of the lines that were prepared, which are of the pass's lane, of the version at
--- which it is entered, and of the definitions that it knows to be active at that version
-pub record CanWrite (v : View) (f : Flight) (prepared : Prepared) : Type 0 where
-  pub flying : v.flight ≡ Some f
-  pub unfilled : f.words ≡ []
-  pub unlinked : f.linked ≡ 0
-  pub stored : flight_kind v f ≡ Stored
-  pub lines : length prepared.body ≡ f.lines * 4
+-- what was prepared is a record of the pass's lane and of the version at which it is entered, with the keys of the
+-- definitions that it knows to be active there
+pub record IsPreparedIn (v : View) (prepared : Prepared) : Type 0 where
   pub defs : List ActiveDef
   pub origin : Origin
   pub payload : List ℕ
@@ -37,9 +32,18 @@ pub record CanWrite (v : View) (f : Flight) (prepared : Prepared) : Type 0 where
   pub lane_is : origin.lane ≡ v.lane
   pub entered : v.epoch ≡ Confirmed origin.version
 
+-- f was just claimed for the lines of what was prepared, which is a record of the pass
+pub record CanWrite (v : View) (f : Flight) (prepared : Prepared) : Type 0 where
+  pub flying : v.flight ≡ Some f
+  pub unfilled : f.words ≡ []
+  pub unlinked : f.linked ≡ 0
+  pub stored : flight_kind v f ≡ Stored
+  pub lines : length prepared.body ≡ f.lines * 4
+  pub fits : IsPreparedIn v prepared
+
 -- the parts of the record that was prepared, with the number of the claim
 abbrev pub claimed_parts : (v : View) (f : Flight) (prepared : Prepared) → CanWrite v f prepared → BodyParts
-claimed_parts v f prepared can = record can.made.0.0 { number = f.number }
+claimed_parts v f prepared can = record can.fits.made.0.0 { number = f.number }
 
 -- the words of the record in flight are those of these parts, but for the links
 pub record HoldsParts (p : BodyParts) (u : View) : Type 0 where

@@ -22,7 +22,8 @@ use Rattle.fish_ingest.specs.declared.preparation.Prepared.{Prepared}
 abbrev pub id_of : ActiveDef → ℕ
 id_of d = d.id
 
--- the definitions, of which there are few, stand in the order of their ids, which are below 256, and are what their texts are read as
+-- the definitions, of which there are few, stand in the order of their ids, which are below 256, and are what their
+-- texts are read as
 pub record AreDefs (defs : List ActiveDef) : Type 0 where
   pub few : length defs ≤ most_active
   pub ascending : IsStrictlyIncreasing (map id_of defs)

@@ -203,8 +203,8 @@ pub fn law_ingested()
     ensures ascend { IngestedAscend }
 {}
 
-/// Refusals by a full log are compared by their lines alone, where one pass knows of both claims, as after a join of the
-/// passes that were refused: those with one line asked for as many lines, and of others the lower ends at or before
+/// Refusals by a full log are compared by their lines alone, where one pass knows of both claims, as after a join of
+/// the passes that were refused: those with one line asked for as many lines, and of others the lower ends at or before
 /// the line of the other.
 ///
 /// Its contract is that law. No call of the program needs it.

@@ -15,7 +15,7 @@ use Rattle.fish_value.specs.declared.field.Form.{Form}
 pub record CanPlaceFor (v : View) (form : Form) (payload : List ℕ) (prepared : Prepared) (u : View) : Type 0 where
   pub keeps : OnlyEnters v u
   pub can : CanPlace u prepared
-  pub form_is : can.origin.form ≡ form
-  pub payload_is : can.payload ≡ payload
-  pub known : u.learned.version ≡ can.origin.version
-  pub loaded : HasLoaded v.clock u.clock Version can.origin.version
+  pub form_is : can.fits.origin.form ≡ form
+  pub payload_is : can.fits.payload ≡ payload
+  pub known : u.learned.version ≡ can.fits.origin.version
+  pub loaded : HasLoaded v.clock u.clock Version can.fits.origin.version

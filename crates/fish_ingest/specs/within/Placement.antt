@@ -1,18 +1,12 @@
 -- A place in the log for a record that is prepared, its words there, and its entries in their chains. What private
 -- clauses need of it.
-use Rattle.std.specs.Prelude.{ℕ, ◌≡◌, ◌≢◌, ◌<◌, ◌≤◌, List, map, None, Some}
+use Rattle.std.specs.Prelude.{ℕ, ◌≡◌, ◌≢◌, ◌<◌, ◌≤◌, None, Some}
 use Rattle.fish_ingest.specs.Passing.{OnlyIngests, HasMark, FoundSince}
-use Rattle.fish_ingest.specs.Placement.{HoldsParts}
-use Rattle.fish_ingest.specs.Preparation.{IsPreparedFor}
+use Rattle.fish_ingest.specs.Placement.{HoldsParts, IsPreparedIn}
 use Rattle.fish_ingest.specs.declared.placement.Pending.{Pending}
-use Rattle.fish_ingest.specs.declared.preparation.Origin.{Origin}
 use Rattle.fish_ingest.specs.declared.preparation.Prepared.{Prepared}
 use Rattle.fish_layout.specs.Body.{body_lines}
-use Rattle.fish_psf.specs.declared.key.ActiveDef.{ActiveDef}
-use Rattle.fish_rule.specs.Keys.{text_of}
-use Rattle.fish_rule.specs.Registry.{KnowsActive}
 use Rattle.fish_rule.specs.SpaceSteps.{CanClaimLines, CanPublishRegion, flight_at, flight_kind}
-use Rattle.fish_rule.specs.declared.view.Epoch.TheVariants.{Confirmed}
 use Rattle.fish_rule.specs.declared.view.Flight.{Flight}
 use Rattle.fish_rule.specs.declared.view.Kind.TheVariants.{Stored, Void}
 use Rattle.fish_rule.specs.declared.view.Shut.{Shut}
@@ -20,19 +14,12 @@ use Rattle.fish_rule.specs.declared.view.View.{View}
 
 -- ---- the place
 
--- what was prepared is a record of the pass's lane and of the version at which it is entered, with the keys of the
--- definitions that it knows to be active there, and the pass may claim its lines
+-- what was prepared is a record of the pass, which may claim its lines
 pub record CanPlace (v : View) (prepared : Prepared) : Type 0 where
   pub claim : CanClaimLines v
-  pub defs : List ActiveDef
-  pub origin : Origin
-  pub payload : List ℕ
-  pub made : IsPreparedFor defs origin payload prepared
-  pub active : KnowsActive v.about v.learned origin.version (map text_of defs)
-  pub lane_is : origin.lane ≡ v.lane
-  pub entered : v.epoch ≡ Confirmed origin.version
+  pub fits : IsPreparedIn v prepared
   pub lines : ℕ
-  pub size : lines ≡ body_lines made.0.0
+  pub size : lines ≡ body_lines fits.made.0.0
 
 -- the pass has these lines for a record under a number that was not counted before; all else that it claimed since
 -- is void
@@ -61,13 +48,14 @@ pub record IsShutBy (v : View) (lines : ℕ) (shut : Shut) (u : View) : Type 0 w
   pub unstored : FoundSince (λ kind. kind ≢ Stored) v u
 
 -- the record that was prepared is in flight and may be published, under a number that was not counted before
-pub record IsInPlace (v : View) (prepared : Prepared) (can : CanPlace v prepared) (pending : Pending) (u : View) : Type 0 where
+pub record IsInPlace (v : View) (prepared : Prepared) (can : CanPlace v prepared) (pending : Pending) (u : View)
+    : Type 0 where
   pub on : OnlyIngests v u
   pub flight : Flight
   pub ready : CanPublishRegion u flight
   pub stored : flight_kind u flight ≡ Stored
   pub number_is : flight.number ≡ pending.number
-  pub words : HoldsParts (record can.made.0.0 { number = flight.number }) u
+  pub words : HoldsParts (record can.fits.made.0.0 { number = flight.number }) u
   pub fresh : v.learned.count ≤ flight.number
   pub counted : flight.number < u.learned.count
   pub epoch : u.epoch ≡ v.epoch

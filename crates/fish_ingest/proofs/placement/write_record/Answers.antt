@@ -56,7 +56,7 @@ fill-requires-clause-view c =
     let can = c.requires.can.1 in
     let v = view c.args.pass.now in
     let number = number_is v f c.in-Some.region c.in_flight.result can.flying c.in-Some.is c.in_flight.ensures in
-    let b = can.made.0 in
+    let b = can.fits.made.0 in
     let body = subst (λ (z : ℕ). IsBody (numbered z b.0) c.set_number.new.body) (sym number)
     (c.set_number.ensures b.0 b.2) in
     (f, subst (CanFill v f) (sym c.as_slice.ensures) (can_fill v f c.args.prepared can c.set_number.new.body body))
@@ -66,7 +66,7 @@ overflow_cast-position c =
     let can = c.requires.can.1 in
     let s = c.loop-position.invariant.writing c.requires.can.0 can in
     let few = few_keys_of s.made.proper in
-    let keys = ap length (c.as_slice-key-items.ensures ∙ can.made.1) in
+    let keys = ap length (c.as_slice-key-items.ensures ∙ can.fits.made.1) in
     let less = c.loop-position-test.true in
     let end = c.loop-position.auto.position-end in
     omega arith
@@ -86,7 +86,7 @@ link-requires-clause-view c =
     let p = parts_at (view c.args.pass.now) f c.args.prepared can in
     let k : KeyPart = c.key-item.result in
     let u = view c.loop-position.pass in
-    let keys : c.as_slice-key-items.result.now ≡ p.keys = c.as_slice-key-items.ensures ∙ can.made.1 in
+    let keys : c.as_slice-key-items.result.now ≡ p.keys = c.as_slice-key-items.ensures ∙ can.fits.made.1 in
     let size = ap length keys in
     let inside : c.loop-position.position < length c.as_slice-key-items.result.now =
     (let t = c.loop-position-test.true in let e = c.loop-position.auto.position-end in omega arith) in
@@ -107,7 +107,7 @@ loop-position-preserved c = record {
       let v = view c.args.pass.now in
       let s = c.loop-position.invariant.writing f can in
       let p = parts_at v f c.args.prepared can in
-      let size = ap length (c.as_slice-key-items.ensures ∙ can.made.1) in
+      let size = ap length (c.as_slice-key-items.ensures ∙ can.fits.made.1) in
       let less : c.loop-position.position < length p.keys =
       (let t = c.loop-position-test.true in let e = c.loop-position.auto.position-end in omega arith) in
       subst (λ (z : ℕ). IsWriting v f p z (view c.link.new.pass)) (sym (add-one c.loop-position.position))
@@ -123,7 +123,7 @@ returns-clause-written c f flying =
     let can = c.requires.can.1 in
     let s = c.loop-position.invariant.writing g can in
     let p = parts_at v g c.args.prepared can in
-    let size = ap length (c.as_slice-key-items.ensures ∙ can.made.1) in
+    let size = ap length (c.as_slice-key-items.ensures ∙ can.fits.made.1) in
     let all : c.loop-position.position ≡ length p.keys =
     (let t = c.loop-position-test.false in let e = c.loop-position.auto.position-end in omega arith) in
     subst (λ (z : Flight). HasWritten v z (view c.loop-position.pass)) same

@@ -36,13 +36,15 @@ returns-in-Placed-clause-placed c =
         unlinked = refl;
         stored = placed.stored;
         lines = omega arith;
-        defs = c.args.defs.now;
-        origin = _;
-        payload = c.args.payload.now;
-        made = made;
-        active = subst (λ (k : Key). KnowsActive k u.learned 0 (map text_of c.args.defs.now)) (sym about)
-            (knows_active c.args.log.now.key u.learned 0 c.args.defs.now (omega arith) (omega arith) c.requires.active);
-        lane_is = c.lane-lane.ensures ∙ sym (ap (λ (z : View). z.lane) placed.known ∙ ap (λ (z : View). z.lane) entered.keeps.frame);
-        entered = epoch;
+        fits = record {
+          defs = c.args.defs.now;
+          origin = _;
+          payload = c.args.payload.now;
+          made = made;
+          active = subst (λ (k : Key). KnowsActive k u.learned 0 (map text_of c.args.defs.now)) (sym about)
+              (knows_active c.args.log.now.key u.learned 0 c.args.defs.now (omega arith) (omega arith) c.requires.active);
+          lane_is = c.lane-lane.ensures ∙ sym (ap (λ (z : View). z.lane) placed.known ∙ ap (λ (z : View). z.lane) entered.keeps.frame);
+          entered = epoch;
+        };
       },
     )
