@@ -9,6 +9,7 @@ use Rattle.std.proofs.lemmas.Bool.{cases_lt, eqb-true}
 use Rattle.std.proofs.lemmas.Option.{same_Some}
 use Rattle.std.proofs.Math.Decide.{ℕ_discrete}
 use Rattle.lru.proofs.CallerLemmas.{Contains-lookup, Contains-put_entries}
+use Rattle.fish_disk.specs.declared.disk.Disk.{Ghosts as Disks}
 use Rattle.fish_layout.specs.Pages.{page_of}
 use Rattle.fish_cold.specs.Answers.{Answers, IsDamageOf, LoadsWords, Walks}
 use Rattle.fish_cold.specs.within.Answers.{IsReadingOf}
@@ -181,11 +182,7 @@ one_held held fresh page p none is there =
     same_Some page p (is ∙ ap (λ o. option_or o held) none ∙ there)
 
 module _
-    {D T : Type 0}
-    (content : D → Option (List ℕ))
-    (images : D → List ℕ → Type 0)
-    (since : D → ℕ → List ℕ → Type 0)
-    (moment faults : D → ℕ)
+    {D T : Type 0} (disks : Disks D)
     (number : ℕ)
     (old new : Cold)
     (disk next : D) where
@@ -197,13 +194,13 @@ module _
   no_fault n read e whole (inr same) is = absurd (cc (sym same ∙ is))
 
   -- where nothing is brought, nothing is answered
-  pub looks_refused : (e : ColdRefusal) → Brings content images since moment faults number old disk next (Err e) → new ≡ old
-      → Looks {T = T} content images since moment faults number old new disk next (Err e)
+  pub looks_refused : (e : ColdRefusal) → Brings disks number old disk next (Err e) → new ≡ old
+      → Looks {T = T} disks number old new disk next (Err e)
   looks_refused e b same = record {
     used = tt;
     refused = same;
     cached = λ held. absurd (refused_held e ((b.untouched held).1));
-    kept = kept_same old new (content next) same;
+    kept = kept_same old new (disks.content next) same;
     outside = b.outside;
     cause = record { later = b.cause.later; failed = λ h. b.cause.failed (is_err e (err_is e h)) };
   } where
@@ -212,9 +209,9 @@ module _
 
   -- a page that was brought or is held was used
   pub looks_answered : (fresh : Option Page) (n : ℕ) (read result : Result T ColdRefusal) (page : Page)
-      → Brings content images since moment faults number old disk next (Ok fresh) → number ≤ base_page old
+      → Brings disks number old disk next (Ok fresh) → number ≤ base_page old
       → IfErr read (IsReadingOf n) → Some page ≡ option_or fresh (held_in old number) → Answered number fresh old new read result
-      → Looks content images since moment faults number old new disk next result
+      → Looks disks number old new disk next result
   looks_answered fresh n read (Ok x) page b low whole is a = record {
     used = (
       page,
@@ -223,7 +220,7 @@ module _
     );
     refused = tt;
     cached = λ held. ((b.untouched held).0, no_err x);
-    kept = kept_used number old new (content next) fresh page low b.fresh is (a.used page is);
+    kept = kept_used number old new (disks.content next) fresh page low b.fresh is (a.used page is);
     outside = b.outside;
     cause = record { later = b.cause.later; failed = λ h. absurd (no_err x h) };
   }
@@ -231,7 +228,7 @@ module _
     used = tt;
     refused = a.refused;
     cached = λ held. ((b.untouched held).0, λ h. no_fault n read e whole a.err (err_is e h));
-    kept = kept_same old new (content next) a.refused;
+    kept = kept_same old new (disks.content next) a.refused;
     outside = b.outside;
     cause = record { later = b.cause.later; failed = λ h. absurd (no_fault n read e whole a.err (err_is e h)) };
   }
@@ -282,11 +279,10 @@ if_some_used (Some c) number old fresh page P brought is h =
     h c (λ read. used_read c number old fresh page (told_page c number old fresh brought) read is)
 
 -- a page that was looked at or none
-pub reads_of : {D T : Type 0} (content : D → Option (List ℕ)) (images : D → List ℕ → Type 0) (since : D → ℕ → List ℕ → Type 0)
-    (moment faults : D → ℕ) (number : ℕ) (old new : Cold) (disk next : D) (result : Result T ColdRefusal)
-    → Looks content images since moment faults number old new disk next result
-    → ReadsAtMost content images since moment faults old new disk next result
-reads_of content images since moment faults number old new disk next (Ok x) h = record {
+pub reads_of : {D T : Type 0} (disks : Disks D) (number : ℕ) (old new : Cold) (disk next : D) (result : Result T ColdRefusal)
+    → Looks disks number old new disk next result
+    → ReadsAtMost disks old new disk next result
+reads_of disks number old new disk next (Ok x) h = record {
   base = h.used.2.base;
   starts = h.used.2.starts;
   refused = tt;
@@ -294,7 +290,7 @@ reads_of content images since moment faults number old new disk next (Ok x) h = 
   outside = h.outside;
   cause = h.cause;
 }
-reads_of content images since moment faults number old new disk next (Err e) h = record {
+reads_of disks number old new disk next (Err e) h = record {
   base = ap (λ (z : Cold). z.base) h.refused;
   starts = ap (λ (z : Cold). z.starts) h.refused;
   refused = h.refused;
@@ -307,26 +303,24 @@ reads_kept : (o : Option (List ℕ)) (cold : Cold) → IfSome o (λ c. IsReadFro
 reads_kept None cold = tt
 reads_kept (Some c) cold = λ read. read
 
-pub reads_none : {D T : Type 0} (content : D → Option (List ℕ)) (images : D → List ℕ → Type 0) (since : D → ℕ → List ℕ → Type 0)
-    (moment faults : D → ℕ) (old : Cold) (disk : D) (n : ℕ)
-    → ReadsAtMost {T = T} content images since moment faults old old disk disk (Err (Damaged n))
-reads_none content images since moment faults old disk n = record {
+pub reads_none : {D T : Type 0} (disks : Disks D) (old : Cold) (disk : D) (n : ℕ)
+    → ReadsAtMost {T = T} disks old old disk disk (Err (Damaged n))
+reads_none disks old disk n = record {
   base = refl;
   starts = refl;
   refused = refl;
-  kept = reads_kept (content disk) old;
-  outside = nothing_read content images since moment disk;
+  kept = reads_kept (disks.content disk) old;
+  outside = nothing_read disks disk;
   cause = record { later = omega arith; failed = λ h. absurd cc };
 }
 
-pub reads_end : {D T : Type 0} (content : D → Option (List ℕ)) (images : D → List ℕ → Type 0) (since : D → ℕ → List ℕ → Type 0)
-    (moment faults : D → ℕ) (old : Cold) (disk : D) (x : T)
-    → ReadsAtMost content images since moment faults old old disk disk (Ok x)
-reads_end content images since moment faults old disk x = record {
+pub reads_end : {D T : Type 0} (disks : Disks D) (old : Cold) (disk : D) (x : T)
+    → ReadsAtMost disks old old disk disk (Ok x)
+reads_end disks old disk x = record {
   base = refl;
   starts = refl;
   refused = tt;
-  kept = reads_kept (content disk) old;
-  outside = nothing_read content images since moment disk;
+  kept = reads_kept (disks.content disk) old;
+  outside = nothing_read disks disk;
   cause = record { later = omega arith; failed = λ h. absurd cc };
 }

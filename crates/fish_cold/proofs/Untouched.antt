@@ -4,15 +4,15 @@ use Rattle.std.specs.Prelude.{Option, Some, None, true, IfSome, is_some, option_
 use denote.Ref.{Bor}
 use Rattle.fish_cold.specs.Caching.{OnlyReads}
 use Rattle.fish_cold.specs.declared.page.Page.{Page}
+use Rattle.fish_disk.specs.declared.disk.Disk.{Ghosts as Disks}
 
 told_same : (x : Option (List ℕ)) → IfSome x (λ c. x ≡ Some c)
 told_same None = tt
 told_same (Some c) = refl
 
-pub nothing_read : {D : Type 0} (content : D → Option (List ℕ)) (images : D → List ℕ → Type 0) (since : D → ℕ → List ℕ → Type 0)
-    (moment : D → ℕ) (d : D) → OnlyReads content images since moment d d
-nothing_read content images since moment d = record {
-  content_is = told_same (content d);
+pub nothing_read : {D : Type 0} (disks : Disks D) (d : D) → OnlyReads disks d d
+nothing_read disks d = record {
+  content_is = told_same (disks.content d);
   crash = record { later = omega arith; now = λ c i. i; before = λ t c early s. inl s };
   one = omega arith;
 }

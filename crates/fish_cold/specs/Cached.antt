@@ -4,6 +4,7 @@ use Rattle.std.specs.Prelude.{Contains, IfSome, IsErrOf, OnErr, OnOk, nat_eq, dr
 use Rattle.std.specs.Map.{lookup}
 use Rattle.lru.specs.LruCache.{lru_cache, put_entries}
 use Rattle.fish_catalog.specs.declared.page_start.PageStart.{PageStart}
+use Rattle.fish_disk.specs.declared.disk.Disk.{Ghosts as Disks}
 use Rattle.fish_layout.specs.Pages.{page_of}
 use Rattle.fish_layout.specs.declared.parts.BodyParts.{BodyParts}
 use Rattle.fish_layout.specs.declared.parts.KeyPart.{KeyPart}
@@ -53,39 +54,24 @@ IsHeld cold number page = (p : Page) → held_in cold number ≡ Some p → page
 
 -- a record was looked at on a page: the page was used, and the disk isn't touched where it was held before; where nothing is
 -- answered nothing changed
-pub record Looks
-    {D T : Type 0}
-    (content : D → Option (List ℕ))
-    (images : D → List ℕ → Type 0)
-    (since : D → ℕ → List ℕ → Type 0)
-    (moment faults : D → ℕ)
-    (number : ℕ)
-    (old new : Cold)
-    (disk next : D)
+pub record Looks {D T : Type 0} (disks : Disks D) (number : ℕ) (old new : Cold) (disk next : D)
     (result : Result T ColdRefusal) : Type 0 where
   pub used : OnOk result ((page : Page) × IsHeld old number page × Uses number page old new)
   pub refused : OnErr result (new ≡ old)
   pub cached : Holds old number → (next ≡ disk) × ¬ IsErrOf result DiskFault
-  pub kept : IfSome (content next) (λ c. IsReadFrom c old → IsReadFrom c new)
-  pub outside : OnlyReads content images since moment disk next
-  pub cause : HasDiskCause (faults disk) (faults next) result
+  pub kept : IfSome (disks.content next) (λ c. IsReadFrom c old → IsReadFrom c new)
+  pub outside : OnlyReads disks disk next
+  pub cause : HasDiskCause (disks.faults disk) (disks.faults next) result
 
 -- the same, whether a page was looked at or none
-pub record ReadsAtMost
-    {D T : Type 0}
-    (content : D → Option (List ℕ))
-    (images : D → List ℕ → Type 0)
-    (since : D → ℕ → List ℕ → Type 0)
-    (moment faults : D → ℕ)
-    (old new : Cold)
-    (disk next : D)
-    (result : Result T ColdRefusal) : Type 0 where
+pub record ReadsAtMost {D T : Type 0} (disks : Disks D) (old new : Cold) (disk next : D) (result : Result T ColdRefusal)
+    : Type 0 where
   pub base : new.base ≡ old.base
   pub starts : new.starts ≡ old.starts
   pub refused : OnErr result (new ≡ old)
-  pub kept : IfSome (content next) (λ c. IsReadFrom c old → IsReadFrom c new)
-  pub outside : OnlyReads content images since moment disk next
-  pub cause : HasDiskCause (faults disk) (faults next) result
+  pub kept : IfSome (disks.content next) (λ c. IsReadFrom c old → IsReadFrom c new)
+  pub outside : OnlyReads disks disk next
+  pub cause : HasDiskCause (disks.faults disk) (disks.faults next) result
 
 -- ---- where an entry is
 

@@ -1,8 +1,9 @@
 -- What a page that is held says, and what a call of the disk does.
-use Rattle.std.specs.Prelude.{ℕ, ◌≡◌, ◌%◌, ◌+◌, ◌≤◌, List, Option, Result, IsErrOf}
+use Rattle.std.specs.Prelude.{ℕ, ◌≡◌, ◌%◌, ◌+◌, ◌≤◌, List, Result, IsErrOf}
 use Rattle.fish_catalog.specs.declared.page_start.PageStart.{PageStart}
 use Rattle.fish_disk.specs.Content.{StillReads}
 use Rattle.fish_disk.specs.Crash.{LeavesOnly}
+use Rattle.fish_disk.specs.declared.disk.Disk.{Ghosts as Disks}
 use Rattle.fish_outside.specs.Causes.{Rose}
 use Rattle.fish_cold.specs.Pages.{page_words}
 use Rattle.fish_cold.specs.Regions.{AreRegions}
@@ -23,13 +24,7 @@ pub record HasDiskCause {T : Type 0} (before now : ℕ) (result : Result T ColdR
   pub failed : IsErrOf result DiskFault → Rose before now
 
 -- the disk was read once at most, and a crash leaves what it might have left before
-pub record OnlyReads
-    {D : Type 0}
-    (content : D → Option (List ℕ))
-    (images : D → List ℕ → Type 0)
-    (since : D → ℕ → List ℕ → Type 0)
-    (moment : D → ℕ)
-    (old new : D) : Type 0 where
-  pub content_is : StillReads (content old) (content new)
-  pub crash : LeavesOnly images since moment old new (images old)
-  pub one : moment new ≤ moment old + 1
+pub record OnlyReads {D : Type 0} (disks : Disks D) (old new : D) : Type 0 where
+  pub content_is : StillReads (disks.content old) (disks.content new)
+  pub crash : LeavesOnly disks.images disks.since disks.moment old new (disks.images old)
+  pub one : disks.moment new ≤ disks.moment old + 1

@@ -115,8 +115,8 @@ impl Cold {
             → HasRegion self.old c number rest → Answers number rest result × LoadsWords rest loads.old loads.new result) }
         ensures carried { (k : TableKey) (h : CarriesTable (D.content disk.new) k self.old) → IsEntryRead h number result }
         ensures looks { (start : Start) → IsStartOf self.old.starts number start → start.line < self.old.base.line
-            → Looks D.content D.images D.since D.moment D.faults (page_of start.line) self.old self.new disk.old disk.new result }
-        ensures reads { ReadsAtMost D.content D.images D.since D.moment D.faults self.old self.new disk.old disk.new result }
+            → Looks D.Disk (page_of start.line) self.old self.new disk.old disk.new result }
+        ensures reads { ReadsAtMost D.Disk self.old self.new disk.old disk.new result }
 
         ensures damage { IfErr result (IsDamageOf number) }
     {
@@ -133,8 +133,8 @@ impl Cold {
         ensures entry { IfSome (D.content disk.new) (λ c. (rest : List ℕ) → IsReadFrom c self.old
             → HasRegion self.old c number rest → Answers number rest result × LoadsWords rest loads.old loads.new result) }
         ensures looks { (start : Start) → IsStartOf self.old.starts number start → start.line < self.old.base.line
-            → Looks D.content D.images D.since D.moment D.faults (page_of start.line) self.old self.new disk.old disk.new result }
-        ensures reads { ReadsAtMost D.content D.images D.since D.moment D.faults self.old self.new disk.old disk.new result }
+            → Looks D.Disk (page_of start.line) self.old self.new disk.old disk.new result }
+        ensures reads { ReadsAtMost D.Disk self.old self.new disk.old disk.new result }
         ensures damage { IfErr result (IsDamageOf number) }
     {
         match self.place_of(number) {
@@ -170,7 +170,7 @@ impl Cold {
             → IsStartIn self.old.starts page start → Leads (page_words self.old.base.line page c) (start.line % 32768) at line
             → Answers number (drop (4 * line) (page_words self.old.base.line page c)) result
             × LoadsWords (drop (4 * line) (page_words self.old.base.line page c)) loads.old loads.new result) }
-        ensures looks { Looks D.content D.images D.since D.moment D.faults page self.old self.new disk.old disk.new result }
+        ensures looks { Looks D.Disk page self.old self.new disk.old disk.new result }
         ensures damage { IfErr result (IsDamageOf number) }
     {
         match self.bring(disk, page) {
@@ -201,10 +201,9 @@ impl Cold {
         ensures carried { (t : TableKey) (h : CarriesTable (D.content disk.new) t self.old) (b n : ℕ) (p : BodyParts) (j : ℕ) (k : Key)
             → IsKeyAt h.prior b place n p j k → n < below → Walks place from p j k result }
         ensures linkable { IfOk result (λ o. IfSome o (IsLinkable place below from)) }
-        ensures looks { place ≢ 0 → Looks D.content D.images D.since D.moment D.faults (place / 131072) self.old self.new
-            disk.old disk.new result }
+        ensures looks { place ≢ 0 → Looks D.Disk (place / 131072) self.old self.new disk.old disk.new result }
         ensures nowhere { place ≡ 0 → (result ≡ Ok None) × (self.new ≡ self.old) × (disk.new ≡ disk.old) }
-        ensures reads { ReadsAtMost D.content D.images D.since D.moment D.faults self.old self.new disk.old disk.new result }
+        ensures reads { ReadsAtMost D.Disk self.old self.new disk.old disk.new result }
         ensures loads { loads.new ≤ loads.old + 38 }
         ensures none { IfOk result (λ o. o ≡ None → loads.new ≤ loads.old + 1) }
 
@@ -230,8 +229,7 @@ impl Cold {
         ensures ends { IfSome (D.content disk.new) (λ c. IsReadFrom c self.old
             → EndsWalk (words_on self.old c asked.place) (asked.place % 131072) asked.from result) }
         ensures linkable { IfOk result (λ o. IfSome o (IsLinkable asked.place asked.below asked.from)) }
-        ensures looks { Looks D.content D.images D.since D.moment D.faults (asked.place / 131072) self.old self.new
-            disk.old disk.new result }
+        ensures looks { Looks D.Disk (asked.place / 131072) self.old self.new disk.old disk.new result }
         ensures loads { loads.new ≤ loads.old + 38 }
         ensures none { IfOk result (λ o. o ≡ None → loads.new ≤ loads.old + 1) }
         ensures damage { IfErr result (IsDamageOf asked.below) }
@@ -262,8 +260,7 @@ impl Cold {
             × LoadsWords (drop (4 * line) (words_on self.old c node.now.place)) loads.old loads.new result) }
         ensures carried { (t : TableKey) (h : CarriesTable (D.content disk.new) t self.old) (b n : ℕ) (p : BodyParts) (k : Key)
             → IsKeyAt h.prior b node.now.place n p node.now.key k → IsEntryAnswer (Stored p.lane p.form p.payload) result }
-        ensures looks { Looks D.content D.images D.since D.moment D.faults (node.now.place / 131072) self.old self.new
-            disk.old disk.new result }
+        ensures looks { Looks D.Disk (node.now.place / 131072) self.old self.new disk.old disk.new result }
 
         ensures damage { IfErr result (IsDamageOf node.now.number) }
     {
@@ -282,8 +279,7 @@ impl Cold {
             → HasNodeOn self.old c node.now.place line p node.now.key k
             → Answers node.now.number (drop (4 * line) (words_on self.old c node.now.place)) result
             × LoadsWords (drop (4 * line) (words_on self.old c node.now.place)) loads.old loads.new result) }
-        ensures looks { Looks D.content D.images D.since D.moment D.faults (node.now.place / 131072) self.old self.new
-            disk.old disk.new result }
+        ensures looks { Looks D.Disk (node.now.place / 131072) self.old self.new disk.old disk.new result }
         ensures damage { IfErr result (IsDamageOf node.now.number) }
     {
         let page = node.place / PAGE_WORDS;
@@ -300,7 +296,7 @@ impl Cold {
     /// The page, if it isn't held, and none if it is.
     fn bring<D: Disk>(&self, disk: &mut D, page: u64) -> Result<Option<Page>, ColdRefusal>
         requires within { page ≤ page_of self.now.base.line }
-        ensures { Brings D.content D.images D.since D.moment D.faults page self.now disk.old disk.new result }
+        ensures { Brings D.Disk page self.now disk.old disk.new result }
     {
         if self.held(page).is_some() {
             return Ok(None);

@@ -4,6 +4,7 @@ use Rattle.std.specs.Prelude.{is_some}
 use Rattle.std.proofs.lemmas.Option.{get_or_from_slice_get, slice_get_within}
 use Rattle.fish_cold.specs.declared.cold.Cold.{Cold}
 use Rattle.fish_disk.specs.Content.{StillReads}
+use Rattle.fish_disk.specs.declared.disk.Disk.{Ghosts as Disks}
 use Rattle.fish_flush.specs.declared.flusher.Flusher.{Flusher}
 use Rattle.fish_lanes.proofs.Advancing.{run_fewer}
 use Rattle.fish_lanes.proofs.Finished.{done_both}
@@ -95,60 +96,57 @@ others_done Past P full log v before given gone last fewer told can given_size s
     (told ∙ ap is_some (sym seat.shut ∙ ap (λ (s : LanePass). (view s.pass).shut) seat_is)) (finished i y.0 z y.1 at_z)
 
 module _
-    {D : Type 0}
-    (content : D → Option (List ℕ))
-    (images : D → List ℕ → Type 0)
-    (since : D → ℕ → List ℕ → Type 0)
-    (moment : D → ℕ) where
+    {D : Type 0} (disks : Disks D) where
   -- what the control pass learns leaves the last commit
-  pub pass_goes : (p : Point D) (u : View) → Learns p.view u → GoesOnHere content images since moment p (record p { view = u })
-  pass_goes p u learns = here_stays content images since moment p (record p { view = u })
-      (stays_pass content images since moment p p.rows u learns (rows_self p.view p.rows))
+  pub pass_goes : (p : Point D) (u : View) → Learns p.view u → GoesOnHere disks p (record p { view = u })
+  pass_goes p u learns = here_stays disks p (record p { view = u })
+      (stays_pass disks p p.rows u learns (rows_self p.view p.rows))
 
   -- so a checkpoint may still follow
-  pub pass_again : (p : Point D) (u : View) → Learns p.view u → MayGoOn images p → MayGoOn images (record p { view = u })
-  pass_again p u learns = may_stays content images since moment p (record p { view = u })
-      (stays_pass content images since moment p p.rows u learns (rows_self p.view p.rows))
+  pub pass_again : (p : Point D) (u : View) → Learns p.view u → MayGoOn disks.images p → MayGoOn disks.images (record p { view = u })
+  pass_again p u learns = may_stays disks p (record p { view = u })
+      (stays_pass disks p p.rows u learns (rows_self p.view p.rows))
 
   -- reading pages leaves it too
-  pub pages_stay_at : (faults : D → ℕ) (k : Key) (n : Point D) (disk : D) (flusher : Flusher) (cold : Cold) → n.view.about ≡ k
-      → flusher ≡ n.flusher → ReadsPages content images since moment faults k n.cold cold n.disk disk
-      → Stays content images since moment n (record n { disk = disk; flusher = flusher; cold = cold })
-  pages_stay_at faults k n disk flusher cold about same reads =
-      pages_stay content images since moment faults n (record n { disk = disk; flusher = flusher; cold = cold }) (learns_self n.view)
+  pub pages_stay_at : (k : Key) (n : Point D) (disk : D) (flusher : Flusher) (cold : Cold) → n.view.about ≡ k
+      → flusher ≡ n.flusher → ReadsPages disks k n.cold cold n.disk disk
+      → Stays disks n (record n { disk = disk; flusher = flusher; cold = cold })
+  pages_stay_at k n disk flusher cold about same reads =
+      pages_stay disks n (record n { disk = disk; flusher = flusher; cold = cold }) (learns_self n.view)
       (rows_self n.view n.rows) same refl
-      (subst (λ (z : Key). ReadsPages content images since moment faults z n.cold cold n.disk disk) (sym about) reads)
+      (subst (λ (z : Key). ReadsPages disks z n.cold cold n.disk disk) (sym about) reads)
 
   -- what stood before the table is what the disk still has before it
-  pub sound_now : (p : Point D) (later : Option (List ℕ)) (k : Key) → p.view.about ≡ k → StillReads (content p.disk) later
-      → (past : Whole) → IsSoundBehind content images p later past → IsHere later k p.cold past
-  sound_now p later k about still past s = here_same (content p.disk) later k p.cold past still s.told
-      (subst (λ (z : Key). IsHere (content p.disk) z p.cold past) about
+  pub sound_now : (p : Point D) (later : Option (List ℕ)) (k : Key) → p.view.about ≡ k → StillReads (disks.content p.disk) later
+      → (past : Whole) → IsSoundBehind disks p later past → IsHere later k p.cold past
+  sound_now p later k about still past s = here_same (disks.content p.disk) later k p.cold past still s.told
+      (subst (λ (z : Key). IsHere (disks.content p.disk) z p.cold past) about
       (record { table = s.sound.has.table; entries = s.sound.has.entries }))
 
   -- of a block: its start; the passes are given; the lanes ran at once; the others were finished
   module _
       (p m n q : Point D)
-      (gives : GoesOnHere content images since moment p m)
-      (runs : GoesOnHere content images since moment m n)
-      (reads : GoesOnHere content images since moment n q) where
+      (gives : GoesOnHere disks p m)
+      (runs : GoesOnHere disks m n)
+      (reads : GoesOnHere disks n q) where
     -- what stood before the table at the start, as the disk at the end tells it
     abbrev pub Before : Whole → Type 0
-    Before past = IsSoundBehind content images p (content q.disk) past
+    Before past = IsSoundBehind disks p (disks.content q.disk) past
 
     -- it stood there when the passes were given
-    pub behind_given : (past : Whole) → Before past → IsSoundBehind content images m (content n.disk) past
+    pub behind_given : (past : Whole) → Before past → IsSoundBehind disks m (disks.content n.disk) past
     behind_given past s = record {
       sound = gives.sound past s.sound (runs.told_before (reads.told_before s.told));
       told = reads.told_before s.told;
     }
 
     -- and when the lanes had run
-    pub behind_run : (k : Key) → n.view.about ≡ k → (past : Whole) → Before past → WasHere (content n.disk) k n.cold (content q.disk) past
+    pub behind_run : (k : Key) → n.view.about ≡ k → (past : Whole) → Before past
+        → WasHere (disks.content n.disk) k n.cold (disks.content q.disk) past
     behind_run k about past s =
         let sound = runs.sound past (behind_given past s).sound (reads.told_before s.told) in
         record {
-          here = subst (λ (z : Key). IsHere (content n.disk) z n.cold past) about
+          here = subst (λ (z : Key). IsHere (disks.content n.disk) z n.cold past) about
               (record { table = sound.has.table; entries = sound.has.entries });
           told = s.told;
         }
@@ -157,9 +155,9 @@ module _
     pub all_ran : (full : Bool) (log : Log) (r s : Registrar) (first first' : Lane) (before given gone last : List Lane)
         → n.view.about ≡ log.key → full ≡ is_some p.view.shut → HasGiven p.view m.view (length before) → CanGive p.view before
         → length given ≡ length before → AreSeated log p.view before given
-        → HasRunFirst (IsSoundBehind content images m (content n.disk)) m.view n.view r s first first' → Stands n.view → Knows n.view s
+        → HasRunFirst (IsSoundBehind disks m (disks.content n.disk)) m.view n.view r s first first' → Stands n.view → Knows n.view s
         → length gone ≡ length given → AreGone log given gone → length last ≡ length gone
-        → EachLanePair (λ i x y. HasFinished (WasHere (content n.disk) log.key n.cold (content q.disk)) full log x y) gone last
+        → EachLanePair (λ i x y. HasFinished (WasHere (disks.content n.disk) log.key n.cold (disks.content q.disk)) full log x y) gone last
         → AllRan Before log p.view n.view r s first first' before last
     all_ran full log r s first first' before given gone last about told gives can given_size seated did stands knows gone_size went
         last_size finished = record {
@@ -167,8 +165,9 @@ module _
           given = given;
           gives = gives;
           seated = seated;
-          first_did = first_fewer (IsSoundBehind content images m (content n.disk)) Before m.view n.view r s first first' behind_given did;
-          others_did = others_done Before (WasHere (content n.disk) log.key n.cold (content q.disk)) full log p.view before given gone
+          first_did = first_fewer (IsSoundBehind disks m (disks.content n.disk)) Before m.view n.view r s first first' behind_given did;
+          others_did = others_done Before (WasHere (disks.content n.disk) log.key n.cold (disks.content q.disk)) full log p.view before
+              given gone
               last (behind_run log.key about) told can given_size seated gone_size went finished;
           stands = stands;
           knows = knows;

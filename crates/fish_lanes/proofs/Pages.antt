@@ -3,6 +3,7 @@ use Rattle.std.proofs.Common.{◌≡◌, ℕ, List, Option, Some, None, sym, ap,
 use Rattle.std.specs.Prelude.{IsSome}
 use Rattle.fish_cold.specs.declared.cold.Cold.{Cold}
 use Rattle.fish_disk.specs.Content.{StillReads}
+use Rattle.fish_disk.specs.declared.disk.Disk.{Ghosts as Disks}
 use Rattle.fish_image.specs.Reached.{Reached}
 use Rattle.fish_lanes.specs.within.Pasts.{IsHere}
 use Rattle.fish_rule.specs.declared.view.Key.{Key}
@@ -21,30 +22,29 @@ pub here_same : (old new : Option (List ℕ)) (k : Key) (cold : Cold) (past : Wh
     → IsHere old k cold past → IsHere new k cold past
 here_same old new k cold past still some h = subst (λ (o : Option (List ℕ)). IsHere o k cold past) (sym (same_told old new still some)) h
 
-module _ {D : Type 0} (content : D → Option (List ℕ)) (images : D → List ℕ → Type 0) (since : D → ℕ → List ℕ → Type 0)
-    (moment faults : D → ℕ) (k : Key) where
+module _ {D : Type 0} (disks : Disks D) (k : Key) where
   abbrev pub Reads : Cold → Cold → D → D → Type 0
-  Reads old new disk next = ReadsPages content images since moment faults k old new disk next
+  Reads old new disk next = ReadsPages disks k old new disk next
 
   -- no page
   pub pages_none : (cold : Cold) (disk : D) → Reads cold cold disk disk
   pages_none cold disk =
-      let stays = stays_none content images since moment faults cold disk in
-      record { cold = stays; kept = carried_last content images since moment faults cold cold disk disk stays }
+      let stays = stays_none disks cold disk in
+      record { cold = stays; kept = carried_last disks cold cold disk disk stays }
 
   -- some, and then others
   pub pages_both : (a b c : Cold) (d e f : D) → Reads a b d e → Reads b c e f → Reads a c d f
   pages_both a b c d e f h g =
-      let stays = stays_both content images since moment faults a b c d e f h.cold g.cold in
-      record { cold = stays; kept = carried_last content images since moment faults a c d f stays }
+      let stays = stays_both disks a b c d e f h.cold g.cold in
+      record { cold = stays; kept = carried_last disks a c d f stays }
 
   -- where the content is told, it was
-  pub pages_told : (a b : Cold) (d e : D) → Reads a b d e → IsSome (content e) → IsSome (content d)
-  pages_told a b d e h = told_still (content d) (content e) h.cold.content_is
+  pub pages_told : (a b : Cold) (d e : D) → Reads a b d e → IsSome (disks.content e) → IsSome (disks.content d)
+  pages_told a b d e h = told_still (disks.content d) (disks.content e) h.cold.content_is
 
   -- and the disk has before the table what it had
-  pub here_on : (a b : Cold) (d e : D) (past : Whole) → Reads a b d e → IsSome (content e) → IsHere (content d) k a past
-      → IsHere (content e) k b past
+  pub here_on : (a b : Cold) (d e : D) (past : Whole) → Reads a b d e → IsSome (disks.content e) → IsHere (disks.content d) k a past
+      → IsHere (disks.content e) k b past
   here_on a b d e past h some was =
-      let t = on_table (content d) (content e) k a b was.table h.cold.content_is some (h.kept was.table) in
+      let t = on_table (disks.content d) (disks.content e) k a b was.table h.cold.content_is some (h.kept was.table) in
       record { table = t.0; entries = ap (λ (z : Reached). z.entries) t.1 ∙ was.entries }

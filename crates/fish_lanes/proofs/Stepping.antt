@@ -1,7 +1,8 @@
 -- How an open store goes on over a step that leaves its file.
-use Rattle.std.proofs.Common.{ℕ, List, Option, refl}
+use Rattle.std.proofs.Common.{List, refl}
 use Rattle.fish_catalog.specs.declared.row.CatRow.{CatRow}
 use Rattle.fish_disk.proofs.Moments.{leaves_none}
+use Rattle.fish_disk.specs.declared.disk.Disk.{Ghosts as Disks}
 use Rattle.fish_rule.specs.Logs.{Learns}
 use Rattle.fish_rule.specs.declared.view.View.{View}
 use Rattle.fish_registry.specs.declared.registrar.Registrar.{Registrar}
@@ -19,38 +20,36 @@ pub rows_self : (v : View) (rows : List CatRow) → RowsGoOn v rows rows
 rows_self v rows n old le grown = grown
 
 -- a pass that learns, and rows that go on
-pub stays_pass : {D : Type 0} (content : D → Option (List ℕ)) (images : D → List ℕ → Type 0) (since : D → ℕ → List ℕ → Type 0)
-    (moment : D → ℕ) (p : Point D) (rows : List CatRow) (u : View) → Learns p.view u → RowsGoOn p.view p.rows rows
-    → Stays content images since moment p (record p { rows = rows; view = u })
-stays_pass content images since moment p rows u learns grows = record {
+pub stays_pass : {D : Type 0} (disks : Disks D) (p : Point D) (rows : List CatRow) (u : View) → Learns p.view u
+    → RowsGoOn p.view p.rows rows
+    → Stays disks p (record p { rows = rows; view = u })
+stays_pass disks p rows u learns grows = record {
   learns = learns;
   rows_on = grows;
   flusher = refl;
   shape = refl;
-  content_is = still_self (content p.disk);
-  crash = leaves_none images since moment p.disk (images p.disk) (λ i here. here);
-  table = λ t. table_same (content p.disk) (content p.disk) p.view.about p.cold p.cold refl refl t;
+  content_is = still_self (disks.content p.disk);
+  crash = leaves_none disks.images disks.since disks.moment p.disk (disks.images p.disk) (λ i here. here);
+  table = λ t. table_same (disks.content p.disk) (disks.content p.disk) p.view.about p.cold p.cold refl refl t;
 }
 
 -- ---- after a look at the registration that waits
 
 -- the store goes on
-pub looked_goes : {D : Type 0} (content : D → Option (List ℕ)) (images : D → List ℕ → Type 0) (since : D → ℕ → List ℕ → Type 0)
-    (moment : D → ℕ) (before : Point D) (disk : D) (file : StoreFile) (log : Log) (p q : Pass) (r s : Registrar)
-    → GoesOnHere content images since moment before (point_of disk file log p r) → Learns (view p) (view q)
-    → RowsGoOn (view p) r.catalog s.catalog → GoesOnHere content images since moment before (point_of disk file log q s)
-looked_goes content images since moment before disk file log p q r s goes learns grows =
+pub looked_goes : {D : Type 0} (disks : Disks D) (before : Point D) (disk : D) (file : StoreFile) (log : Log) (p q : Pass) (r s : Registrar)
+    → GoesOnHere disks before (point_of disk file log p r) → Learns (view p) (view q)
+    → RowsGoOn (view p) r.catalog s.catalog → GoesOnHere disks before (point_of disk file log q s)
+looked_goes disks before disk file log p q r s goes learns grows =
     let now = point_of disk file log p r in
     let looked = point_of disk file log q s in
-    here_both content images since moment before now looked goes (here_stays content images since moment now looked
-    (stays_pass content images since moment now s.catalog (view q) learns grows))
+    here_both disks before now looked goes (here_stays disks now looked
+    (stays_pass disks now s.catalog (view q) learns grows))
 
 -- and may be committed
-pub looked_may : {D : Type 0} (content : D → Option (List ℕ)) (images : D → List ℕ → Type 0) (since : D → ℕ → List ℕ → Type 0)
-    (moment : D → ℕ) (disk : D) (file : StoreFile) (log : Log) (p q : Pass) (r s : Registrar)
-    → MayGoOn images (point_of disk file log p r) → Learns (view p) (view q) → RowsGoOn (view p) r.catalog s.catalog
-    → MayGoOn images (point_of disk file log q s)
-looked_may content images since moment disk file log p q r s may learns grows =
+pub looked_may : {D : Type 0} (disks : Disks D) (disk : D) (file : StoreFile) (log : Log) (p q : Pass) (r s : Registrar)
+    → MayGoOn disks.images (point_of disk file log p r) → Learns (view p) (view q) → RowsGoOn (view p) r.catalog s.catalog
+    → MayGoOn disks.images (point_of disk file log q s)
+looked_may disks disk file log p q r s may learns grows =
     let now = point_of disk file log p r in
-    may_stays content images since moment now (point_of disk file log q s)
-    (stays_pass content images since moment now s.catalog (view q) learns grows) may
+    may_stays disks now (point_of disk file log q s)
+    (stays_pass disks now s.catalog (view q) learns grows) may

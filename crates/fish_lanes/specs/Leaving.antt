@@ -1,6 +1,7 @@
 -- What a block leaves: the store, its lanes, and what their items say. It was run from a store s over a disk, and a
 -- store t and a disk' are there after it; Past is so of what stands before the table.
-use Rattle.std.specs.Prelude.{ℕ, ◌≡◌, ◌≤◌, List, Option, Some, length, slice_get}
+use Rattle.std.specs.Prelude.{ℕ, ◌≡◌, ◌≤◌, List, Some, length, slice_get}
+use Rattle.fish_disk.specs.declared.disk.Disk.{Ghosts as Disks}
 use Rattle.fish_lanes.specs.Blocks.{EachLane, AreEnded, AreKept, HasRegistered, IsBlockSpan, NameMarks, SaysBlock}
 use Rattle.fish_lanes.specs.Controlling.{CanControl, IsCommitted}
 use Rattle.fish_lanes.specs.Ending.{HasEnd}
@@ -26,19 +27,14 @@ use Rattle.fish_whole.specs.Whole.{Later, Whole, WillHold}
 -- its log is the same one, and ends where the block does; at each moment since, a crash left a part of it that has the
 -- last commit's entries; a checkpoint may follow, unless the first lane met a fault of the disk; and what that lane
 -- tells as committed was
-pub record LeavesStore
-    {D : Type 0}
-    (content : D → Option (List ℕ))
-    (images : D → List ℕ → Type 0)
-    (since : D → ℕ → List ℕ → Type 0)
-    (moment : D → ℕ)
-    (disk : D) (s : Store) (disk' : D) (t : Store) (lanes : List Lane) (end : BlockEnd) : Type 0 where
+pub record LeavesStore {D : Type 0} (disks : Disks D) (disk : D) (s : Store) (disk' : D) (t : Store) (lanes : List Lane)
+    (end : BlockEnd) : Type 0 where
   pub log : t.log ≡ s.log
   pub can : CanControl t.log t.pass t.registrar
   pub below : IsBelow t.log.key t.file.cold
-  pub goes : GoesOnHere content images since moment (point_at disk s) (point_at disk' t)
+  pub goes : GoesOnHere disks (point_at disk s) (point_at disk' t)
   pub again : ((x : Lane) → slice_get lanes 0 ≡ Some x → x.fault ≡ cause.Disk → ⊥)
-      → MayGoOn images (point_at disk' t)
+      → MayGoOn disks.images (point_at disk' t)
   pub ends : HasEnd (view t.pass) end.to
   pub later : Later (view s.pass) (view t.pass)
   pub committed : (x : Lane) → slice_get lanes 0 ≡ Some x → AllOf (IsCommitted t.file.flusher.count) x.items

@@ -123,12 +123,12 @@ fn run_first<D: Disk, G: Gate>(
     requires first { IsFirst (view control.old) registrar.old lane.old }
     ensures can { CanControl log.now control.new registrar.new }
     ensures below { IsBelow log.now.key file.new.cold }
-    ensures goes { GoesOnHere D.content D.images D.since D.moment (point_of disk.old file.old log.now control.old registrar.old)
+    ensures goes { GoesOnHere D.Disk (point_of disk.old file.old log.now control.old registrar.old)
         (point_of disk.new file.new log.now control.new registrar.new) }
     ensures again { GoesAgain D.images (point_of disk.new file.new log.now control.new registrar.new) lane.new }
-    ensures run { HasRunFirst (IsSoundBehind D.content D.images (point_of disk.old file.old log.now control.old registrar.old)
+    ensures run { HasRunFirst (IsSoundBehind D.Disk (point_of disk.old file.old log.now control.old registrar.old)
         (D.content disk.new)) (view control.old) (view control.new) registrar.old registrar.new lane.old lane.new }
-    ensures stops { Stops (IsSoundBehind D.content D.images (point_of disk.old file.old log.now control.old registrar.old)
+    ensures stops { Stops (IsSoundBehind D.Disk (point_of disk.old file.old log.now control.old registrar.old)
         (D.content disk.new)) (D.faults disk.old) (D.faults disk.new) lane.new }
     ensures committed { AllOf (IsCommitted file.new.flusher.count) lane.new.items }
 {
@@ -167,12 +167,12 @@ fn run_all<R: Threads + Sync, D: Disk + Send, G: Gate + Sync>(
     requires ready { AreReady log.now others.old }
     ensures can { CanControl log.now control.new registrar.new }
     ensures below { IsBelow log.now.key file.new.cold }
-    ensures goes { GoesOnHere D.content D.images D.since D.moment (point_of disk.old file.old log.now control.old registrar.old)
+    ensures goes { GoesOnHere D.Disk (point_of disk.old file.old log.now control.old registrar.old)
         (point_of disk.new file.new log.now control.new registrar.new) }
     ensures again { GoesAgain D.images (point_of disk.new file.new log.now control.new registrar.new) first.new }
-    ensures run { HasRunFirst (IsSoundBehind D.content D.images (point_of disk.old file.old log.now control.old registrar.old)
+    ensures run { HasRunFirst (IsSoundBehind D.Disk (point_of disk.old file.old log.now control.old registrar.old)
         (D.content disk.new)) (view control.old) (view control.new) registrar.old registrar.new first.old first.new }
-    ensures stops { Stops (IsSoundBehind D.content D.images (point_of disk.old file.old log.now control.old registrar.old)
+    ensures stops { Stops (IsSoundBehind D.Disk (point_of disk.old file.old log.now control.old registrar.old)
         (D.content disk.new)) (D.faults disk.old) (D.faults disk.new) first.new }
     ensures committed { AllOf (IsCommitted file.new.flusher.count) first.new.items }
     ensures gone { AreGone log.now others.old others.new }
@@ -213,15 +213,15 @@ fn run_by_passes<R: Threads + Sync, D: Disk + Send, G: Gate + Sync>(
     requires others { CanGive (view control.old) others.old }
     ensures can { CanControl log.now control.new registrar.new }
     ensures below { IsBelow log.now.key file.new.cold }
-    ensures goes { GoesOnHere D.content D.images D.since D.moment (point_of disk.old file.old log.now control.old registrar.old)
+    ensures goes { GoesOnHere D.Disk (point_of disk.old file.old log.now control.old registrar.old)
         (point_of disk.new file.new log.now control.new registrar.new) }
     ensures again { (first.new.fault ≡ cause.Disk → ⊥)
         → MayGoOn D.images (point_of disk.new file.new log.now control.new registrar.new) }
-    ensures course { HasRunLanes (IsSoundBehind D.content D.images (point_of disk.old file.old log.now control.old registrar.old)
+    ensures course { HasRunLanes (IsSoundBehind D.Disk (point_of disk.old file.old log.now control.old registrar.old)
         (D.content disk.new)) log.now (view control.old) (view control.new) registrar.old registrar.new first.old
         first.new others.old others.new }
-    ensures stops { EachLane (λ i x. Stops (IsSoundBehind D.content D.images (point_of disk.old file.old log.now control.old registrar.old)
-        (D.content disk.new)) (D.faults disk.old) (D.faults disk.new) x) (first.new ∷ others.new) }
+    ensures stops { EachLane (λ i x. Stops (IsSoundBehind D.Disk (point_of disk.old file.old log.now control.old
+        registrar.old) (D.content disk.new)) (D.faults disk.old) (D.faults disk.new) x) (first.new ∷ others.new) }
     ensures committed { AllOf (IsCommitted file.new.flusher.count) first.new.items }
 {
     let full = is_full(control);
@@ -269,7 +269,7 @@ fn run_lanes<R: Threads + Sync, D: Disk + Send, G: Gate + Sync>(
     requires others { CanGive (view control.old) others.old }
     ensures can { CanControl log.now control.new registrar.new }
     ensures below { IsBelow log.now.key file.new.cold }
-    ensures goes { GoesOnHere D.content D.images D.since D.moment (point_of disk.old file.old log.now control.old registrar.old)
+    ensures goes { GoesOnHere D.Disk (point_of disk.old file.old log.now control.old registrar.old)
         (point_of disk.new file.new log.now control.new registrar.new) }
     ensures again { (first.new.fault ≡ cause.Disk → ⊥)
         → MayGoOn D.images (point_of disk.new file.new log.now control.new registrar.new) }
@@ -279,15 +279,14 @@ fn run_lanes<R: Threads + Sync, D: Disk + Send, G: Gate + Sync>(
     ensures first_seat { first.new.seat ≡ first.old.seat }
     ensures kept { AreKept others.old others.new }
     ensures vacant { AreVacant others.new }
-    ensures sound { (past : Whole) → IsSoundBehind D.content D.images (point_of disk.old file.old log.now control.old registrar.old)
+    ensures sound { (past : Whole) → IsSoundBehind D.Disk (point_of disk.old file.old log.now control.old registrar.old)
         (D.content disk.new) past → (s : Span) → IsBlockSpan (view control.old) (view control.new) result.to s
-        → s.lanes ≡ length others.old + 1
-        → (s.from ≤ s.to) × WillHold past (view control.new) (λ w. SaysBlock w s (first.new ∷ others.new)) }
+        → s.lanes ≡ length others.old + 1 → (s.from ≤ s.to) × WillHold past (view control.new)
+        (λ w. SaysBlock w s (first.new ∷ others.new)) }
     ensures registered { HasRegistered (view control.old) (view control.new) registrar.old registrar.new first.new
         result }
-    ensures alone { others.old ≡ [] → SaysAloneBy (IsSoundBehind D.content D.images
-        (point_of disk.old file.old log.now control.old registrar.old) (D.content disk.new)) (view control.old) (view control.new) registrar.old
-        first.new }
+    ensures alone { others.old ≡ [] → SaysAloneBy (IsSoundBehind D.Disk (point_of disk.old file.old log.now control.old
+        registrar.old) (D.content disk.new)) (view control.old) (view control.new) registrar.old first.new }
     ensures ended { AreEnded (first.new ∷ others.new) }
     ensures shuts { SaysShutBy (view control.old) (view control.new) (first.new ∷ others.new) }
     ensures left { HandsBack (view control.old) (view control.new) (first.new ∷ others.new) }
@@ -295,8 +294,8 @@ fn run_lanes<R: Threads + Sync, D: Disk + Send, G: Gate + Sync>(
     ensures plans { (from : ℕ) → HasEnd (view control.old) from → LanesSayPlans (KnowsRows (view control.new))
         (registry_of (view control.old) registrar.old) registrar.new.catalog from (first.new ∷ others.new) }
     ensures marks { NameMarks (view control.new) (first.new ∷ others.new) }
-    ensures stops { EachLane (λ i x. Stops (IsSoundBehind D.content D.images (point_of disk.old file.old log.now control.old registrar.old)
-        (D.content disk.new)) (D.faults disk.old) (D.faults disk.new) x) (first.new ∷ others.new) }
+    ensures stops { EachLane (λ i x. Stops (IsSoundBehind D.Disk (point_of disk.old file.old log.now control.old
+        registrar.old) (D.content disk.new)) (D.faults disk.old) (D.faults disk.new) x) (first.new ∷ others.new) }
     ensures committed { AllOf (IsCommitted file.new.flusher.count) first.new.items }
 {
     run_by_passes(
@@ -343,10 +342,10 @@ pub fn run_block<R: Threads + Sync, D: Disk + Send, G: Gate + Sync>(
     requires end { (from : ℕ) × HasEnd (view store.old.pass) from }
     requires known { KnowsRegistry (view store.old.pass) (registry_of (view store.old.pass) store.old.registrar) }
     requires lanes { AreLanes lanes.old }
-    ensures store { LeavesStore D.content D.images D.since D.moment disk.old store.old disk.new store.new lanes.new result }
-    ensures lanes { LeavesLanes (IsSoundBehind D.content D.images (point_at disk.old store.old) (D.content disk.new))
+    ensures store { LeavesStore D.Disk disk.old store.old disk.new store.new lanes.new result }
+    ensures lanes { LeavesLanes (IsSoundBehind D.Disk (point_at disk.old store.old) (D.content disk.new))
         (D.faults disk.old) (D.faults disk.new) (view store.old.pass) (view store.new.pass) lanes.old lanes.new }
-    ensures items { ItemsHold (IsSoundBehind D.content D.images (point_at disk.old store.old) (D.content disk.new))
+    ensures items { ItemsHold (IsSoundBehind D.Disk (point_at disk.old store.old) (D.content disk.new))
         (view store.old.pass) (view store.new.pass) store.old.registrar store.new.registrar lanes.old lanes.new result }
 {
     let (first, others) = lanes.split_at_mut(1);

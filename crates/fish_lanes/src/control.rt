@@ -55,10 +55,10 @@ pub(crate) fn run_control<D: Disk, G: Gate>(
     requires empty { items.old ≡ [] }
     ensures can { CanControl log.now pass.new registrar.new }
     ensures below { IsBelow log.now.key file.new.cold }
-    ensures goes { GoesOnHere D.content D.images D.since D.moment (point_of disk.old file.old log.now pass.old registrar.old)
+    ensures goes { GoesOnHere D.Disk (point_of disk.old file.old log.now pass.old registrar.old)
         (point_of disk.new file.new log.now pass.new registrar.new) }
     ensures again { (result ≡ cause.Disk → ⊥) → MayGoOn D.images (point_of disk.new file.new log.now pass.new registrar.new) }
-    ensures run { HasControlled (IsSoundBehind D.content D.images (point_of disk.old file.old log.now pass.old registrar.old)
+    ensures run { HasControlled (IsSoundBehind D.Disk (point_of disk.old file.old log.now pass.old registrar.old)
         (D.content disk.new)) (view pass.old) (view pass.new) registrar.old registrar.new
         (done_of result (length (answers items.new)) works.now) items.new result }
     ensures all { result ≡ cause.None → (length works.now ≤ length (answers items.new))
@@ -68,7 +68,7 @@ pub(crate) fn run_control<D: Disk, G: Gate>(
 
     ensures cause { HasCause (D.faults disk.old) (D.faults disk.new) result }
     ensures later { D.faults disk.old ≤ D.faults disk.new }
-    ensures whole { (past : Whole) → IsSoundBehind D.content D.images (point_of disk.old file.old log.now pass.old registrar.old)
+    ensures whole { (past : Whole) → IsSoundBehind D.Disk (point_of disk.old file.old log.now pass.old registrar.old)
         (D.content disk.new) past → IsUndamaged result }
 {
     let mut defs = Defs::new(alloc);
@@ -118,19 +118,18 @@ fn run_statement<D: Disk, G: Gate>(
     ensures can { CanControl log.now pass.new registrar.new }
     ensures defs { IsDefsOf (view pass.new) defs.new }
     ensures below { IsBelow log.now.key file.new.cold }
-    ensures goes { GoesOnHere D.content D.images D.since D.moment (point_of disk.old file.old log.now pass.old registrar.old)
+    ensures goes { GoesOnHere D.Disk (point_of disk.old file.old log.now pass.old registrar.old)
         (point_of disk.new file.new log.now pass.new registrar.new) }
     ensures again { (IsErrOf result cause.Disk → ⊥)
         → MayGoOn D.images (point_of disk.new file.new log.now pass.new registrar.new) }
-    ensures done { IfOk result (IsControlled (IsSoundBehind D.content D.images
-        (point_of disk.old file.old log.now pass.old registrar.old) (D.content disk.new)) (view pass.old) registrar.old (view pass.new)
-        registrar.new work.now) }
+    ensures done { IfOk result (IsControlled (IsSoundBehind D.Disk (point_of disk.old file.old log.now pass.old
+        registrar.old) (D.content disk.new)) (view pass.old) registrar.old (view pass.new) registrar.new work.now) }
     ensures committed { IfOk result (IsCommitted file.new.flusher.count) }
     ensures part { IfErr result (λ _. IsPartControlled (view pass.old) (view pass.new) work.now) }
     ensures named { IfErr result (λ e. e ≢ cause.None) }
     ensures cause { IfErr result (HasCause (D.faults disk.old) (D.faults disk.new)) }
     ensures later { D.faults disk.old ≤ D.faults disk.new }
-    ensures whole { (past : Whole) → IsSoundBehind D.content D.images (point_of disk.old file.old log.now pass.old registrar.old)
+    ensures whole { (past : Whole) → IsSoundBehind D.Disk (point_of disk.old file.old log.now pass.old registrar.old)
         (D.content disk.new) past → IfErr result IsUndamaged }
 {
     match work {
@@ -159,7 +158,7 @@ fn commit<D: Disk>(
     ensures can { CanControl log.now pass.new registrar.now }
     ensures reads { Reads (view pass.old) (view pass.new) }
     ensures cold { file.new.cold ≡ file.old.cold }
-    ensures goes { GoesOnHere D.content D.images D.since D.moment (point_of disk.old file.old log.now pass.old registrar.now)
+    ensures goes { GoesOnHere D.Disk (point_of disk.old file.old log.now pass.old registrar.now)
         (point_of disk.new file.new log.now pass.new registrar.now) }
     ensures again { (IsErrOf result cause.Disk → ⊥)
         → MayGoOn D.images (point_of disk.new file.new log.now pass.new registrar.now) }

@@ -52,8 +52,7 @@ fn finish_lane<D: Disk, G: Gate>(
     requires below { IsBelow log.now.key file.old.cold }
     ensures below { IsBelow log.now.key file.new.cold }
     ensures flusher { file.new.flusher ≡ file.old.flusher }
-    ensures reads { ReadsPages D.content D.images D.since D.moment D.faults log.now.key file.old.cold file.new.cold disk.old
-        disk.new }
+    ensures reads { ReadsPages D.Disk log.now.key file.old.cold file.new.cold disk.old disk.new }
     ensures finished { HasFinished (WasHere (D.content disk.old) log.now.key file.old.cold (D.content disk.new)) full log.now lane.old
         lane.new }
     ensures stops { IsShort lane.old.fault → Stops (WasHere (D.content disk.old) log.now.key file.old.cold (D.content disk.new))
@@ -95,8 +94,7 @@ pub(crate) fn finish_others<D: Disk, G: Gate>(
     requires memory { EachLane (λ i x. IsShort x.fault) lanes.old }
     ensures below { IsBelow log.now.key file.new.cold }
     ensures flusher { file.new.flusher ≡ file.old.flusher }
-    ensures reads { ReadsPages D.content D.images D.since D.moment D.faults log.now.key file.old.cold file.new.cold disk.old
-        disk.new }
+    ensures reads { ReadsPages D.Disk log.now.key file.old.cold file.new.cold disk.old disk.new }
     ensures finished { EachLanePair (λ i x y. HasFinished (WasHere (D.content disk.old) log.now.key file.old.cold (D.content disk.new)) full
         log.now x y) lanes.old lanes.new }
     ensures stops { EachLane (λ i x. Stops (WasHere (D.content disk.old) log.now.key file.old.cold (D.content disk.new)) (D.faults disk.old)
@@ -126,8 +124,7 @@ fn finish_works<D: Disk, G: Gate>(
     ensures pass { CanBegin log.now pass.new }
     ensures below { IsBelow log.now.key file.new.cold }
     ensures flusher { file.new.flusher ≡ file.old.flusher }
-    ensures reads { ReadsPages D.content D.images D.since D.moment D.faults log.now.key file.old.cold file.new.cold disk.old
-        disk.new }
+    ensures reads { ReadsPages D.Disk log.now.key file.old.cold file.new.cold disk.old disk.new }
     ensures goes { FinishesBy (WasHere (D.content disk.old) log.now.key file.old.cold (D.content disk.new)) (view pass.old)
         (view pass.new) works.now items.old items.new result }
     ensures answers { AllOf IsAnswer items.old → AllOf IsAnswer items.new }
@@ -178,8 +175,7 @@ pub(crate) fn run_shared<D: Disk, G: Gate>(
     ensures defs { IsDefsOf (view pass.new) defs.new }
     ensures below { IsBelow log.now.key file.new.cold }
     ensures flusher { file.new.flusher ≡ file.old.flusher }
-    ensures reads { ReadsPages D.content D.images D.since D.moment D.faults log.now.key file.old.cold file.new.cold disk.old
-        disk.new }
+    ensures reads { ReadsPages D.Disk log.now.key file.old.cold file.new.cold disk.old disk.new }
     ensures item { IfOk result (IsItem (IsHere (D.content disk.new) log.now.key file.old.cold) (view pass.old) (view pass.new)
         work.now) }
     ensures part { IfErr result (λ _. IsPart (view pass.old) (view pass.new) work.now) }

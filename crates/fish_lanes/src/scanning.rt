@@ -74,8 +74,7 @@ pub(crate) fn scan_older<D: Disk>(
     ensures defs { IsDefsOf (view pass.new) defs.new }
     ensures base { IsBelow log.now.key file.new.cold }
     ensures flusher { file.new.flusher ≡ file.old.flusher }
-    ensures reads { ReadsPages D.content D.images D.since D.moment D.faults log.now.key file.old.cold file.new.cold disk.old
-        disk.new }
+    ensures reads { ReadsPages D.Disk log.now.key file.old.cold file.new.cold disk.old disk.new }
     ensures fits { IfOk result (IsFit (IsHere (D.content disk.new) log.now.key file.old.cold) (view pass.old) (view pass.new)
         (work.Scan ask.now)) }
 
@@ -289,8 +288,7 @@ fn older_with<P: Ledger, L: Ledger, D: Disk>(
     ensures defs { IsDefsOf (view pass.new) defs.new }
     ensures base { IsBelow log.now.key file.new.cold }
     ensures flusher { file.new.flusher ≡ file.old.flusher }
-    ensures reads { ReadsPages D.content D.images D.since D.moment D.faults log.now.key file.old.cold file.new.cold disk.old
-        disk.new }
+    ensures reads { ReadsPages D.Disk log.now.key file.old.cold file.new.cold disk.old disk.new }
     ensures explained { IfOk result (IsExplainedAnswer (view pass.old) (view pass.new) defs.new.known ask.now) }
     ensures answer { IfOk result (IsAnswerHere (D.content disk.new) log.now.key file.old.cold (view pass.old) (view pass.new)
         defs.new.known ask.now) }

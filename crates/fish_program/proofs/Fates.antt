@@ -1,6 +1,7 @@
 -- How a script that was read and the run of it make an end.
 use Rattle.std.proofs.Common.{◌≡◌, ℕ, inl, inr, List, [], append-nil, ap, refl, sym, subst, ◌∙◌}
 use Rattle.std.specs.Prelude.{Bool, Option, Some, None, IfSome, IsSome}
+use Rattle.fish_disk.specs.declared.disk.Disk.{Ghosts as Disks}
 use Rattle.fish_outside.specs.Content.{Files, Gained, SameFiles}
 use Rattle.fish_recover.specs.declared.opened.Opened.{Opened}
 use Rattle.fish_recover.specs.declared.refusal.Asked.{Asked}
@@ -64,12 +65,12 @@ ran_back (Some (ran.Damaged n)) f is = ap ran_of is
 
 -- ---- an end
 
-module _ {D : Type 0} (content : D → Option (List ℕ)) (images : D → List ℕ → Type 0) (since : D → ℕ → List ℕ → Type 0)
-    (moment : D → ℕ) (disk mid disk' : D) (asked : Asked) (told : Option Files) (script : List Block) (old new : Option (List ℕ))
+module _ {D : Type 0} (disks : Disks D) (disk mid disk' : D) (asked : Asked) (told : Option Files) (script : List Block)
+    (old new : Option (List ℕ))
     (out : Outcome) where
   -- no store was opened
-  pub refused_end : (e : OpenRefusal) → IsUnopened content images since moment disk disk' asked e → DidNothing old new out
-      → EndsScript content images since moment disk disk' asked told script old new out (open_fault e)
+  pub refused_end : (e : OpenRefusal) → IsUnopened disks disk disk' asked e → DidNothing old new out
+      → EndsScript disks disk disk' asked told script old new out (open_fault e)
   refused_end opening.NotAStore none nothing = inl (tt, none, nothing)
   refused_end (opening.Damaged n) none nothing = inl (tt, none, nothing)
   refused_end (opening.ShapeDiffers kept other) none nothing = inl (tt, none, nothing)
@@ -78,22 +79,22 @@ module _ {D : Type 0} (content : D → Option (List ℕ)) (images : D → List �
 
   -- what a run of a script ensures, with the refusals and the log of an outcome
   pub record Went (o : Opened) (fault_of : Option RunFault) : Type 0 where
-    pub opens : Opens content images since moment disk mid disk' asked o
+    pub opens : Opens disks disk mid disk' asked o
     pub report : out.report.items ≡ []
     pub whole : fault_of ≡ None → (log : Remains) × (out.remains ≡ Some log)
-        × IsWhole content images since moment mid disk' o told script log old new out.refused
+        × IsWhole disks mid disk' o told script log old new out.refused
     pub stopped : (why : RunFault) → fault_of ≡ Some why → (log : Remains) → out.remains ≡ Some log
-        → IsStopped content images since moment mid disk' o told script log old new out.refused why
+        → IsStopped disks mid disk' o told script log old new out.refused why
     pub lost : out.remains ≡ None → (fault_of ≡ Some ran.Memory)
-        × IsLost content images since moment mid disk' o told script old new out.refused
-    pub damaged : IsSome (content disk') → IfSome fault_of IsUndamaged
+        × IsLost disks mid disk' o told script old new out.refused
+    pub damaged : IsSome (disks.content disk') → IfSome fault_of IsUndamaged
 
   -- the log that a stopped run left, or that it was lost
   left_of : (o : Opened) (why : RunFault) (remains : Option Remains)
       → ((log : Remains) → remains ≡ Some log
-      → IsStopped content images since moment mid disk' o told script log old new out.refused why)
-      → (remains ≡ None → (Some why ≡ Some ran.Memory) × IsLost content images since moment mid disk' o told script old new out.refused)
-      → IsLeft content images since moment mid disk' o told script old new out.refused why remains
+      → IsStopped disks mid disk' o told script log old new out.refused why)
+      → (remains ≡ None → (Some why ≡ Some ran.Memory) × IsLost disks mid disk' o told script old new out.refused)
+      → IsLeft disks mid disk' o told script old new out.refused why remains
   left_of o why (Some log) stopped lost = stopped log refl
   left_of o why None stopped lost =
       let gone = lost refl in
@@ -102,7 +103,7 @@ module _ {D : Type 0} (content : D → Option (List ℕ)) (images : D → List �
 
   -- a run that this fault stopped
   stopped_end : (o : Opened) (why : RunFault) → Went o (Some why)
-      → IsStoppedRun content images since moment disk disk' asked told script old new why out
+      → IsStoppedRun disks disk disk' asked told script old new why out
   stopped_end o why went = record {
     opened = o;
     mid = mid;
@@ -113,7 +114,7 @@ module _ {D : Type 0} (content : D → Option (List ℕ)) (images : D → List �
 
   -- so it ends
   pub run_end : (o : Opened) (why : Option RunFault) → Went o why
-      → EndsScript content images since moment disk disk' asked told script old new out (ran_fault why)
+      → EndsScript disks disk disk' asked told script old new out (ran_fault why)
   run_end o None went =
       let whole = went.whole refl in record {
         opened = o;
@@ -132,14 +133,14 @@ module _ {D : Type 0} (content : D → Option (List ℕ)) (images : D → List �
       inr (n, refl, record { stopped = stopped_end o (ran.Damaged n) went; no_content = went.damaged })
 
   -- what the run ensures is so of an outcome that has its parts
-  pub went_as : (o : Opened) (r : Ran) → Opens content images since moment disk mid disk' asked o
+  pub went_as : (o : Opened) (r : Ran) → Opens disks disk mid disk' asked o
       → out.report.items ≡ [] → out.refused ≡ r.refused → out.remains ≡ r.remains
       → (r.fault ≡ None → (log : Remains) × (r.remains ≡ Some log)
-      × IsWhole content images since moment mid disk' o told script log old new r.refused)
+      × IsWhole disks mid disk' o told script log old new r.refused)
       → ((why : RunFault) → r.fault ≡ Some why → (log : Remains) → r.remains ≡ Some log
-      → IsStopped content images since moment mid disk' o told script log old new r.refused why)
-      → (r.remains ≡ None → (r.fault ≡ Some ran.Memory) × IsLost content images since moment mid disk' o told script old new r.refused)
-      → (IsSome (content disk') → IfSome r.fault IsUndamaged)
+      → IsStopped disks mid disk' o told script log old new r.refused why)
+      → (r.remains ≡ None → (r.fault ≡ Some ran.Memory) × IsLost disks mid disk' o told script old new r.refused)
+      → (IsSome (disks.content disk') → IfSome r.fault IsUndamaged)
       → Went o r.fault
   went_as o r opens report refused remains whole stopped lost damaged = record {
     opens = opens;
@@ -147,14 +148,14 @@ module _ {D : Type 0} (content : D → Option (List ℕ)) (images : D → List �
     whole = λ none. let all = whole none in (
       all.0,
       remains ∙ all.1,
-      subst (λ (x : Bool). IsWhole content images since moment mid disk' o told script all.0 old new x) (sym refused) all.2,
+      subst (λ (x : Bool). IsWhole disks mid disk' o told script all.0 old new x) (sym refused) all.2,
     );
     stopped = λ why some log is.
-        subst (λ (x : Bool). IsStopped content images since moment mid disk' o told script log old new x why) (sym refused)
+        subst (λ (x : Bool). IsStopped disks mid disk' o told script log old new x why) (sym refused)
         (stopped why some log (sym remains ∙ is));
     lost = λ is. let all = lost (sym remains ∙ is) in (
       all.0,
-      subst (λ (x : Bool). IsLost content images since moment mid disk' o told script old new x) (sym refused) all.1,
+      subst (λ (x : Bool). IsLost disks mid disk' o told script old new x) (sym refused) all.1,
     );
     damaged = damaged;
   }

@@ -1,6 +1,7 @@
 -- What the opening and the run of a script say of the disk, put together.
 use Rattle.std.proofs.Common.{◌≡◌, ℕ, List, ◌++◌, ap, subst}
 use Rattle.std.specs.Prelude.{Bool, true, Option, Some, None, IsSome}
+use Rattle.fish_disk.specs.declared.disk.Disk.{Ghosts as Disks}
 use Rattle.fish_outside.specs.Content.{Files}
 use Rattle.fish_recover.specs.declared.opened.Opened.{Opened}
 use Rattle.fish_recover.specs.declared.refusal.Asked.{Asked}
@@ -16,14 +17,13 @@ use Rattle.fish_program.specs.Laws.{KeepsHeld, StoppedRunsKeep, WholeRunsKeep}
 use Rattle.fish_program.specs.Runs.{IsLeft}
 use Rattle.fish_program.specs.Stores.{Opens}
 
-module _ {D : Type 0} (content : D → Option (List ℕ)) (images : D → List ℕ → Type 0) (since : D → ℕ → List ℕ → Type 0)
-    (moment : D → ℕ) where
+module _ {D : Type 0} (disks : Disks D) where
   -- what is kept of all that the store stood for is kept of what the disk held
   keeps_held : (disk mid disk' : D) (asked : Asked) (o : Opened) (ended : Bool) (rounds : List Round) (cut : Option Round)
-      (remains : Remains) → Opens content images since moment disk mid disk' asked o → IsSome (content disk')
-      → ((c : Commit) (log : List Entry) (t : ℕ) → StoodFor content images since moment mid disk' o c log t
-      → Keeps (images disk') (since disk' t) c log ended rounds cut remains)
-      → KeepsHeld content images since moment disk disk' asked (opened_item o) ended rounds cut remains
+      (remains : Remains) → Opens disks disk mid disk' asked o → IsSome (disks.content disk')
+      → ((c : Commit) (log : List Entry) (t : ℕ) → StoodFor disks mid disk' o c log t
+      → Keeps (disks.images disk') (disks.since disk' t) c log ended rounds cut remains)
+      → KeepsHeld disks disk disk' asked (opened_item o) ended rounds cut remains
   keeps_held disk mid disk' asked o ended rounds cut remains opens some keeps =
       let held = opens.held some in record {
         image = held.image;
@@ -38,19 +38,19 @@ module _ {D : Type 0} (content : D → Option (List ℕ)) (images : D → List �
         keeps = keeps opens.commit opens.log held.from held.stood;
       }
 
-  pub whole_keeps : WholeRunsKeep content images since moment
+  pub whole_keeps : WholeRunsKeep disks
   whole_keeps disk disk' asked told text old new o r some =
       keeps_held disk r.mid disk' asked r.opened true (rounds_of r.whole.blocks) None r.log r.opens some r.whole.keeps
 
   -- a log is left of a stopped run that has one
   left_some : (mid disk' : D) (o : Opened) (told : Option Files) (text : List script.Block) (old new : Option (List ℕ)) (refused : Bool)
       (why : RunFault) (remains : Option Remains) (log : Remains) → remains ≡ Some log
-      → IsLeft content images since moment mid disk' o told text old new refused why remains
-      → IsStopped content images since moment mid disk' o told text log old new refused why
+      → IsLeft disks mid disk' o told text old new refused why remains
+      → IsStopped disks mid disk' o told text log old new refused why
   left_some mid disk' o told text old new refused why remains log is left =
-      subst (IsLeft content images since moment mid disk' o told text old new refused why) is left
+      subst (IsLeft disks mid disk' o told text old new refused why) is left
 
-  pub stopped_keeps : StoppedRunsKeep content images since moment
+  pub stopped_keeps : StoppedRunsKeep disks
   stopped_keeps disk disk' asked told text old new why o r log is some =
       let s = left_some r.mid disk' r.opened told text old new o.refused why o.remains log is r.left in
       (s, keeps_held disk r.mid disk' asked r.opened s.ended (rounds_of s.blocks ++ s.part) s.cut log r.opens some s.keeps)

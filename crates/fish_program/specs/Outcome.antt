@@ -1,6 +1,7 @@
 -- How a run ends, and what each end tells of the words, the files, the disk, the output and the log.
 use Rattle.std.specs.Prelude.{◌≡◌, ◌⊎◌, ℕ, List, [], Bool, Option, None, Ok, Err, IfSome, ⊤, if◌then◌else◌}
 use Rattle.std.specs.List.{list_any}
+use Rattle.fish_disk.specs.declared.disk.Disk.{Ghosts as Disks}
 use Rattle.fish_outside.specs.Content.{Files, Gained, GainedPart}
 use Rattle.fish_report.specs.ReportText.{is_refusal, report_text}
 use Rattle.fish_report.specs.declared.item.Item.{Item}
@@ -74,45 +75,45 @@ EndsSelect answers file told old new o fault.Disk = ⊥
 
 -- how a run ends whose script was read, by each fault, on a store of the shape that is asked for: the whole script
 -- ran; or no store was opened, and nothing was done; or a fault stopped the script's run
-abbrev pub EndsScript : {D : Type 0} → (D → Option (List ℕ)) → (D → List ℕ → Type 0) → (D → ℕ → List ℕ → Type 0)
-    → (D → ℕ) → D → D → Asked → Option Files → List Block → Option (List ℕ) → Option (List ℕ) → Outcome → Fault → Type 0
-EndsScript content images since moment disk disk' asked told script old new o fault.None =
-    IsWholeRun content images since moment disk disk' asked told script old new o
-EndsScript content images since moment disk disk' asked told script old new o (fault.Store refusal) =
-    (IsOfStore refusal × IsUnopened content images since moment disk disk' asked refusal × DidNothing old new o)
+abbrev pub EndsScript : {D : Type 0} → Disks D → D → D → Asked → Option Files → List Block → Option (List ℕ)
+    → Option (List ℕ) → Outcome → Fault → Type 0
+EndsScript disks disk disk' asked told script old new o fault.None =
+    IsWholeRun disks disk disk' asked told script old new o
+EndsScript disks disk disk' asked told script old new o (fault.Store refusal) =
+    (IsOfStore refusal × IsUnopened disks disk disk' asked refusal × DidNothing old new o)
     ⊎ ((n : ℕ) × (refusal ≡ opening.Damaged n)
-    × IsDamagedRun content images since moment disk disk' asked told script old new n o)
-EndsScript content images since moment disk disk' asked told script old new o fault.Disk =
-    (IsUnopened content images since moment disk disk' asked opening.DiskFault × DidNothing old new o)
-    ⊎ IsStoppedRun content images since moment disk disk' asked told script old new ran.Disk o
-EndsScript content images since moment disk disk' asked told script old new o fault.Input =
-    IsStoppedRun content images since moment disk disk' asked told script old new ran.Input o
-EndsScript content images since moment disk disk' asked told script old new o fault.Output =
-    IsStoppedRun content images since moment disk disk' asked told script old new ran.Output o
-EndsScript content images since moment disk disk' asked told script old new o fault.Memory =
-    (IsUnopened content images since moment disk disk' asked opening.OutOfMemory × DidNothing old new o)
-    ⊎ IsStoppedRun content images since moment disk disk' asked told script old new ran.Memory o
-EndsScript content images since moment disk disk' asked told script old new o (fault.Script refusal) = ⊥
-EndsScript content images since moment disk disk' asked told script old new o (fault.Usage cause) = ⊥
+    × IsDamagedRun disks disk disk' asked told script old new n o)
+EndsScript disks disk disk' asked told script old new o fault.Disk =
+    (IsUnopened disks disk disk' asked opening.DiskFault × DidNothing old new o)
+    ⊎ IsStoppedRun disks disk disk' asked told script old new ran.Disk o
+EndsScript disks disk disk' asked told script old new o fault.Input =
+    IsStoppedRun disks disk disk' asked told script old new ran.Input o
+EndsScript disks disk disk' asked told script old new o fault.Output =
+    IsStoppedRun disks disk disk' asked told script old new ran.Output o
+EndsScript disks disk disk' asked told script old new o fault.Memory =
+    (IsUnopened disks disk disk' asked opening.OutOfMemory × DidNothing old new o)
+    ⊎ IsStoppedRun disks disk disk' asked told script old new ran.Memory o
+EndsScript disks disk disk' asked told script old new o (fault.Script refusal) = ⊥
+EndsScript disks disk disk' asked told script old new o (fault.Usage cause) = ⊥
 
 -- how a run of the script in a file ends: the script wasn't read, and nothing was done, the disk not touched; or it was
-abbrev pub EndsRun : {D : Type 0} → (D → Option (List ℕ)) → (D → List ℕ → Type 0) → (D → ℕ → List ℕ → Type 0)
-    → (D → ℕ) → D → D → Asked → List ℕ → Option Files → Option (List ℕ) → Option (List ℕ) → Outcome → Type 0
-EndsRun content images since moment disk disk' asked file told old new o =
+abbrev pub EndsRun : {D : Type 0} → Disks D → D → D → Asked → List ℕ → Option Files → Option (List ℕ)
+    → Option (List ℕ) → Outcome → Type 0
+EndsRun disks disk disk' asked file told old new o =
     (IsUnread file told o.fault × (disk' ≡ disk) × DidNothing old new o)
     ⊎ ((script : List Block) × HasScript file told script
-    × EndsScript content images since moment disk disk' asked told script old new o o.fault)
+    × EndsScript disks disk disk' asked told script old new o o.fault)
 
 -- ---- all commands
 
 -- how a command ends: a `select` and a `sample` don't touch the disk
-abbrev pub Ends : {D : Type 0} → (D → Option (List ℕ)) → (D → List ℕ → Type 0) → (D → ℕ → List ℕ → Type 0)
-    → (D → ℕ) → D → D → command.Asked → Option Files → Option (List ℕ) → Option (List ℕ) → Outcome → Type 0
-Ends content images since moment disk disk' (command.select def value form header file) told old new o =
+abbrev pub Ends : {D : Type 0} → Disks D → D → D → command.Asked → Option Files → Option (List ℕ) → Option (List ℕ)
+    → Outcome → Type 0
+Ends disks disk disk' (command.select def value form header file) told old new o =
     (disk' ≡ disk) × EndsSelect (Answers def value form header file) file told old new o o.fault
-Ends content images since moment disk disk' (command.run store script pages bits) told old new o =
-    EndsRun content images since moment disk disk' (shape_asked pages bits) script told old new o
-Ends content images since moment disk disk' (command.sample number) told old new o =
+Ends disks disk disk' (command.run store script pages bits) told old new o =
+    EndsRun disks disk disk' (shape_asked pages bits) script told old new o
+Ends disks disk disk' (command.sample number) told old new o =
     (disk' ≡ disk) × EndsSample number old new o o.fault
 
 -- the words are none, and this names why; or memory ran out before they were read
@@ -127,9 +128,9 @@ IsNoCommand line fault.Input = ⊥
 IsNoCommand line fault.Output = ⊥
 
 -- a run ends as the command does that the words are, or nothing was done, and the disk wasn't touched
-abbrev pub IsEnd : {D : Type 0} → (D → Option (List ℕ)) → (D → List ℕ → Type 0) → (D → ℕ → List ℕ → Type 0)
-    → (D → ℕ) → D → D → List (List ℕ) → Option Files → Option (List ℕ) → Option (List ℕ) → Outcome → Type 0
-IsEnd content images since moment disk disk' line told old new o =
+abbrev pub IsEnd : {D : Type 0} → Disks D → D → D → List (List ℕ) → Option Files → Option (List ℕ) → Option (List ℕ)
+    → Outcome → Type 0
+IsEnd disks disk disk' line told old new o =
     ((asked : command.Asked) × command.IsCommand line (Ok asked)
-    × Ends content images since moment disk disk' asked told old new o)
+    × Ends disks disk disk' asked told old new o)
     ⊎ (IsNoCommand line o.fault × (disk' ≡ disk) × DidNothing old new o)

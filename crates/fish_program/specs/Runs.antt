@@ -1,5 +1,6 @@
 -- What a run of a script tells of the file that the script stands in, of the disk, of the output and of the log.
 use Rattle.std.specs.Prelude.{◌≡◌, ◌≢◌, ℕ, List, [], Bool, Option, Some, None, IfSome, IsSome, ⊤}
+use Rattle.fish_disk.specs.declared.disk.Disk.{Ghosts as Disks}
 use Rattle.fish_outside.specs.Content.{Files}
 use Rattle.fish_recover.specs.declared.opened.Opened.{Opened}
 use Rattle.fish_recover.specs.declared.refusal.Asked.{Asked}
@@ -47,54 +48,36 @@ IsUnread file told (fault.Usage cause) = ⊥
 -- ---- its run
 
 -- the store was opened, the whole script ran, and this log is left
-pub record IsWholeRun
-    {D : Type 0}
-    (content : D → Option (List ℕ))
-    (images : D → List ℕ → Type 0)
-    (since : D → ℕ → List ℕ → Type 0)
-    (moment : D → ℕ)
-    (disk disk' : D) (asked : Asked) (told : Option Files) (script : List Block) (old new : Option (List ℕ))
-    (o : Outcome) : Type 0 where
+pub record IsWholeRun {D : Type 0} (disks : Disks D) (disk disk' : D) (asked : Asked) (told : Option Files)
+    (script : List Block) (old new : Option (List ℕ)) (o : Outcome) : Type 0 where
   pub opened : Opened
   pub mid : D
-  pub opens : Opens content images since moment disk mid disk' asked opened
+  pub opens : Opens disks disk mid disk' asked opened
   pub report : o.report.items ≡ []
   pub log : Remains
   pub remains : o.remains ≡ Some log
-  pub whole : IsWhole content images since moment mid disk' opened told script log old new o.refused
+  pub whole : IsWhole disks mid disk' opened told script log old new o.refused
 
 -- a log is left of a run that this fault stopped, or was lost since memory ran out
-abbrev pub IsLeft : {D : Type 0} → (D → Option (List ℕ)) → (D → List ℕ → Type 0) → (D → ℕ → List ℕ → Type 0) → (D → ℕ)
+abbrev pub IsLeft : {D : Type 0} → Disks D
     → D → D → Opened → Option Files → List Block → Option (List ℕ) → Option (List ℕ) → Bool → RunFault → Option Remains
     → Type 0
-IsLeft content images since moment mid disk' o told script old new refused why (Some log) =
-    IsStopped content images since moment mid disk' o told script log old new refused why
-IsLeft content images since moment mid disk' o told script old new refused why None =
-    (why ≡ ran.Memory) × IsLost content images since moment mid disk' o told script old new refused
+IsLeft disks mid disk' o told script old new refused why (Some log) =
+    IsStopped disks mid disk' o told script log old new refused why
+IsLeft disks mid disk' o told script old new refused why None =
+    (why ≡ ran.Memory) × IsLost disks mid disk' o told script old new refused
 
 -- the store was opened, and this fault stopped the script's run
-pub record IsStoppedRun
-    {D : Type 0}
-    (content : D → Option (List ℕ))
-    (images : D → List ℕ → Type 0)
-    (since : D → ℕ → List ℕ → Type 0)
-    (moment : D → ℕ)
-    (disk disk' : D) (asked : Asked) (told : Option Files) (script : List Block) (old new : Option (List ℕ))
-    (why : RunFault) (o : Outcome) : Type 0 where
+pub record IsStoppedRun {D : Type 0} (disks : Disks D) (disk disk' : D) (asked : Asked) (told : Option Files)
+    (script : List Block) (old new : Option (List ℕ)) (why : RunFault) (o : Outcome) : Type 0 where
   pub opened : Opened
   pub mid : D
-  pub opens : Opens content images since moment disk mid disk' asked opened
+  pub opens : Opens disks disk mid disk' asked opened
   pub report : o.report.items ≡ []
-  pub left : IsLeft content images since moment mid disk' opened told script old new o.refused why o.remains
+  pub left : IsLeft disks mid disk' opened told script old new o.refused why o.remains
 
 -- and it is a record below the table of which the disk has none: never one that is told in the end
-pub record IsDamagedRun
-    {D : Type 0}
-    (content : D → Option (List ℕ))
-    (images : D → List ℕ → Type 0)
-    (since : D → ℕ → List ℕ → Type 0)
-    (moment : D → ℕ)
-    (disk disk' : D) (asked : Asked) (told : Option Files) (script : List Block) (old new : Option (List ℕ))
-    (number : ℕ) (o : Outcome) : Type 0 where
-  pub stopped : IsStoppedRun content images since moment disk disk' asked told script old new (ran.Damaged number) o
-  pub no_content : IsSome (content disk') → ⊥
+pub record IsDamagedRun {D : Type 0} (disks : Disks D) (disk disk' : D) (asked : Asked) (told : Option Files)
+    (script : List Block) (old new : Option (List ℕ)) (number : ℕ) (o : Outcome) : Type 0 where
+  pub stopped : IsStoppedRun disks disk disk' asked told script old new (ran.Damaged number) o
+  pub no_content : IsSome (disks.content disk') → ⊥

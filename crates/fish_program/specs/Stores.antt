@@ -4,6 +4,7 @@ use Rattle.fish_catalog.specs.declared.commit.Commit.{Commit}
 use Rattle.fish_catalog.specs.declared.entry.Entry.{Entry}
 use Rattle.fish_disk.specs.Content.{StillReads}
 use Rattle.fish_disk.specs.Crash.{LeavesOnly}
+use Rattle.fish_disk.specs.declared.disk.Disk.{Ghosts as Disks}
 use Rattle.fish_image.specs.Stands.{Stands}
 use Rattle.fish_recover.specs.Opening.{IsOfStore}
 use Rattle.fish_recover.specs.Stores.{IsOf, IsOpened, IsStoreCause}
@@ -20,46 +21,31 @@ shape_asked pages bits = record { pages = pages; bucket_bits = bits }
 -- the disk, as it was read at the start, was empty, and a store of the shape that is asked for was made; or it stood
 -- for this log by this commit, which is of that shape. Since a moment after the first calls a crash left nothing
 -- else, up to where the run began
-pub record Held
-    {D : Type 0}
-    (content : D → Option (List ℕ))
-    (images : D → List ℕ → Type 0)
-    (since : D → ℕ → List ℕ → Type 0)
-    (moment : D → ℕ)
-    (disk mid disk' : D) (asked : Asked) (o : Opened) (c : Commit) (log : List Entry) : Type 0 where
+pub record Held {D : Type 0} (disks : Disks D) (disk mid disk' : D) (asked : Asked) (o : Opened) (c : Commit)
+    (log : List Entry) : Type 0 where
   pub image : List ℕ
-  pub read : content disk ≡ Some image
+  pub read : disks.content disk ≡ Some image
   pub was : IsOf asked o.made c log image
   pub from : ℕ
-  pub early : from ≤ moment disk + first_calls o.made
-  pub stood : StoodFor content images since moment mid disk' o c log from
+  pub early : from ≤ disks.moment disk + first_calls o.made
+  pub stood : StoodFor disks mid disk' o c log from
 
 -- a store was opened: whatever the disk tells, it is one of a log by a commit; and where it is told in the end, of
 -- that which it held. So what a run does to what `mid` stood for, it does to what the disk held at the start
-pub record Opens
-    {D : Type 0}
-    (content : D → Option (List ℕ))
-    (images : D → List ℕ → Type 0)
-    (since : D → ℕ → List ℕ → Type 0)
-    (moment : D → ℕ)
-    (disk mid disk' : D) (asked : Asked) (o : Opened) : Type 0 where
+pub record Opens {D : Type 0} (disks : Disks D) (disk mid disk' : D) (asked : Asked) (o : Opened) : Type 0 where
   pub commit : Commit
   pub log : List Entry
-  pub is : IsOpened (content mid) (images mid) commit log o
-  pub held : IsSome (content disk') → Held content images since moment disk mid disk' asked o commit log
+  pub is : IsOpened (disks.content mid) (disks.images mid) commit log o
+  pub held : IsSome (disks.content disk') → Held disks disk mid disk' asked o commit log
 
 -- no store was opened, for this: where the disk is told, it is the cause, and where it is one of the store, nothing
 -- on the disk changed. Of a disk that stood for a log a crash left what was there, or what stands for that log; and
 -- where it was empty, few calls were made
-pub record IsUnopened
-    {D : Type 0}
-    (content : D → Option (List ℕ))
-    (images : D → List ℕ → Type 0)
-    (since : D → ℕ → List ℕ → Type 0)
-    (moment : D → ℕ)
-    (disk disk' : D) (asked : Asked) (refusal : OpenRefusal) : Type 0 where
-  pub cause : IfSome (content disk') (λ image. IsStoreCause image asked refusal)
-  pub reads : IsOfStore refusal → StillReads (content disk) (content disk')
-  pub crash : (i : List ℕ) (c : Commit) (log : List Entry) → content disk ≡ Some i → Stands c i log
-      → LeavesOnly images since moment disk disk' (λ e. images disk e ⊎ Stands c e log)
-  pub calls : IfSome (content disk') (λ _. content disk ≡ Some [] → moment disk' ≤ moment disk + 8)
+pub record IsUnopened {D : Type 0} (disks : Disks D) (disk disk' : D) (asked : Asked) (refusal : OpenRefusal)
+    : Type 0 where
+  pub cause : IfSome (disks.content disk') (λ image. IsStoreCause image asked refusal)
+  pub reads : IsOfStore refusal → StillReads (disks.content disk) (disks.content disk')
+  pub crash : (i : List ℕ) (c : Commit) (log : List Entry) → disks.content disk ≡ Some i → Stands c i log
+      → LeavesOnly disks.images disks.since disks.moment disk disk' (λ e. disks.images disk e ⊎ Stands c e log)
+  pub calls : IfSome (disks.content disk') (λ _. disks.content disk ≡ Some []
+      → disks.moment disk' ≤ disks.moment disk + 8)

@@ -37,8 +37,8 @@ where
     H::Feed: Drop,
     ensures status { result.status ≡ status_of result.fault result.refused }
     ensures usage { IsUsage words.now result.fault }
-    ensures ended { IsEnd D.content D.images D.since D.moment disk.old disk.new words.now (H.files host.new)
-        (W.written out.old) (W.written out.new) result }
+    ensures ended { IsEnd D.Disk disk.old disk.new words.now (H.files host.new) (W.written out.old) (W.written out.new)
+        result }
     ensures content { SameFiles (H.files host.old) (H.files host.new) }
     ensures input { result.fault ≡ Fault.Input → Rose (H.faults host.old) (H.faults host.new) }
     ensures output { result.fault ≡ Fault.Output → Rose (W.faults out.old) (W.faults out.new) }
@@ -61,8 +61,8 @@ where
     H::Feed: Drop,
     ensures status { result.status ≡ status_of result.fault result.refused }
     ensures usage { IsUsage words.now result.fault }
-    ensures ended { IsEnd D.content D.images D.since D.moment disk.old disk.new words.now (H.files host.new)
-        (W.written out.old) (W.written out.new) result }
+    ensures ended { IsEnd D.Disk disk.old disk.new words.now (H.files host.new) (W.written out.old) (W.written out.new)
+        result }
     ensures content { SameFiles (H.files host.old) (H.files host.new) }
     ensures input { result.fault ≡ Fault.Input → Rose (H.faults host.old) (H.faults host.new) }
     ensures output { result.fault ≡ Fault.Output → Rose (W.faults out.old) (W.faults out.new) }
@@ -91,8 +91,8 @@ fn answer<R: Threads + Sync, H: Host, D: Disk + Send, W: Sink, G: Gate + Sync>(
 where
     H::Feed: Drop,
     ensures status { result.status ≡ status_of result.fault result.refused }
-    ensures ended { Ends D.content D.images D.since D.moment disk.old disk.new (asked_of command.now) (H.files host.new)
-        (W.written out.old) (W.written out.new) result }
+    ensures ended { Ends D.Disk disk.old disk.new (asked_of command.now) (H.files host.new) (W.written out.old)
+        (W.written out.new) result }
     ensures content { SameFiles (H.files host.old) (H.files host.new) }
     ensures input { result.fault ≡ Fault.Input → Rose (H.faults host.old) (H.faults host.new) }
     ensures output { result.fault ≡ Fault.Output → Rose (W.faults out.old) (W.faults out.new) }

@@ -8,6 +8,6 @@ use fish_disk::Disk;
 ///
 /// Its contract is that law. No call of the program needs it.
 pub fn law_runs_keep<D: Disk>()
-    ensures whole { WholeRunsKeep D.content D.images D.since D.moment }
-    ensures stopped { StoppedRunsKeep D.content D.images D.since D.moment }
+    ensures whole { WholeRunsKeep D.Disk }
+    ensures stopped { StoppedRunsKeep D.Disk }
 {}

@@ -38,9 +38,8 @@ pub(crate) fn answer_run<R: Threads + Sync, H: Host, D: Disk + Send, W: Sink, G:
 where
     H::Feed: Drop,
     ensures status { result.status ≡ status_of result.fault result.refused }
-    ensures ended { EndsRun D.content D.images D.since D.moment disk.old disk.new
-        (shape_asked command.now.pages command.now.bits) command.now.script (H.files host.new) (W.written out.old)
-        (W.written out.new) result }
+    ensures ended { EndsRun D.Disk disk.old disk.new (shape_asked command.now.pages command.now.bits) command.now.script
+        (H.files host.new) (W.written out.old) (W.written out.new) result }
     ensures content { SameFiles (H.files host.old) (H.files host.new) }
     ensures input { result.fault ≡ Fault.Input → Rose (H.faults host.old) (H.faults host.new) }
     ensures output { result.fault ≡ Fault.Output → Rose (W.faults out.old) (W.faults out.new) }
@@ -106,8 +105,8 @@ where
     requires shape { IsShape (asked_shape asked) }
     requires script { CanRun script.now }
     ensures status { result.status ≡ status_of result.fault result.refused }
-    ensures ended { EndsScript D.content D.images D.since D.moment disk.old disk.new asked (H.files host.new) script.now
-        (W.written out.old) (W.written out.new) result result.fault }
+    ensures ended { EndsScript D.Disk disk.old disk.new asked (H.files host.new) script.now (W.written out.old)
+        (W.written out.new) result result.fault }
     ensures content { SameFiles (H.files host.old) (H.files host.new) }
     ensures input { result.fault ≡ Fault.Input → Rose (H.faults host.old) (H.faults host.new) }
     ensures output { result.fault ≡ Fault.Output → Rose (W.faults out.old) (W.faults out.new) }

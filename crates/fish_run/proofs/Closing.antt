@@ -5,6 +5,7 @@ use Rattle.std.specs.Prelude.{IsSome}
 use Rattle.fish_catalog.specs.declared.commit.Commit.{Commit}
 use Rattle.fish_catalog.specs.declared.entry.Entry.{Entry}
 use Rattle.fish_catalog.specs.declared.row.CatRow.{CatRow}
+use Rattle.fish_disk.specs.declared.disk.Disk.{Ghosts as Disks}
 use Rattle.fish_lanes.specs.Ending.{HasEnd}
 use Rattle.fish_outside.specs.Content.{Files, Gained, GainedPart}
 use Rattle.fish_recover.specs.Stores.{IsOpened}
@@ -42,21 +43,17 @@ use Rattle.fish_store.specs.declared.store.Store.{Store}
 
 -- a store that was opened, from its first moment on
 module _
-    {D : Type 0}
-    (content : D → Option (List ℕ))
-    (images : D → List ℕ → Type 0)
-    (since : D → ℕ → List ℕ → Type 0)
-    (moment : D → ℕ)
-    (read : (d : D) (i : List ℕ) → content d ≡ Some i → images d i)
+    {D : Type 0} (disks : Disks D)
+    (read : (d : D) (i : List ℕ) → disks.content d ≡ Some i → disks.images d i)
     (disk : D) (o : Opened) (p : Point D) (from : p ≡ opened_point disk o) (rows : List CatRow) (same : rows ≡ o.catalog)
     (unshut : p.view.shut ≡ None) (buckets : o.log.key.buckets ≡ 2 ^ o.log.shape.bucket_bits)
     (about : p.view.about ≡ o.log.key) (disk' : D) (told : Option Files) (text : List script.Block) (old mid new : Option (List ℕ)) where
   abbrev pub All : Store → Bool → ℕ → Type 0
-  All x refused end = RunsAll content images since moment p (point_at disk' x) o.count (first_registry rows) (opened_item o) told text
+  All x refused end = RunsAll disks p (point_at disk' x) o.count (first_registry rows) (opened_item o) told text
       old mid refused end
 
   abbrev pub Stops : Bool → Stopped → Type 0
-  Stops refused e = RunsSome content images since moment p disk' o.count (first_registry rows) (opened_item o) told text old mid
+  Stops refused e = RunsSome disks p disk' o.count (first_registry rows) (opened_item o) told text old mid
       refused e
 
   -- after all blocks no new one has to be begun
@@ -67,7 +64,7 @@ module _
   module _ (x : Store) (close : CanClose x) (remains : Remains) (closed : IsClosed (view x.pass) remains) where
     -- what is left is that of the last table
     last_of : (rounds : List Round) (fresh : Bool) (cut : Option Round) (end : ℕ)
-        → HasRunFirst content images since moment p (point_at disk' x) o.count (first_registry rows) rounds fresh cut end
+        → HasRunFirst disks p (point_at disk' x) o.count (first_registry rows) rounds fresh cut end
         → LastTable o remains fresh rounds cut
     last_of rounds fresh cut end h =
         let shape : x.log.shape ≡ o.log.shape = h.shape ∙ ap (λ (z : Point D). z.shape) from in
@@ -92,7 +89,7 @@ module _
     -- all blocks ran, the log was committed, and its end was written
     whole_of : (refused : Bool) (end : ℕ) → All x refused end → HasEnd (view x.pass) x.file.flusher.count
         → Gained mid new (report_text (item.Closed end ∷ []))
-        → IsWhole content images since moment disk disk' o told text remains old new refused
+        → IsWhole disks disk disk' o told text remains old new refused
     whole_of refused end h ends last = record {
       blocks = h.blocks;
       are = h.all;
@@ -102,14 +99,14 @@ module _
           (sym (entries_end (view x.pass) end remains h.ran.ends closed))
           (written_both old mid new (report_of (opened_item o) h.blocks) (item.Closed end ∷ []) h.written last);
       refused_is = h.refused_is;
-      keeps = keeps_of content images since moment read disk o p (point_at disk' x) from rows same (rounds_of h.blocks) false None end h.ran
+      keeps = keeps_of disks read disk o p (point_at disk' x) from rows same (rounds_of h.blocks) false None end h.ran
           unshut remains true closed (λ e. ends);
     }
 
     -- of its end a part was written at most
     late_of : (refused : Bool) (end : ℕ) (why : RunFault) → why ≢ fault.Input → All x refused end
         → HasEnd (view x.pass) x.file.flusher.count → GainedPart mid new (report_text (item.Closed end ∷ []))
-        → IsStopped content images since moment disk disk' o told text remains old new refused why
+        → IsStopped disks disk disk' o told text remains old new refused why
     late_of refused end why other h ends last = record {
       blocks = h.blocks;
       part = [];
@@ -129,26 +126,26 @@ module _
       );
       refused_is = h.refused_is;
       input = λ e. absurd (other e);
-      keeps = keeps_of content images since moment read disk o p (point_at disk' x) from rows same (rounds_of h.blocks ++ []) false None
+      keeps = keeps_of disks read disk o p (point_at disk' x) from rows same (rounds_of h.blocks ++ []) false None
           end ran unshut remains true closed (λ e. ends);
     }
       where
-        ran : HasRunFirst content images since moment p (point_at disk' x) o.count (first_registry rows) (rounds_of h.blocks ++ []) false
+        ran : HasRunFirst disks p (point_at disk' x) o.count (first_registry rows) (rounds_of h.blocks ++ []) false
             None end
-        ran = subst (λ (z : List Round). HasRunFirst content images since moment p (point_at disk' x) o.count (first_registry rows) z false
+        ran = subst (λ (z : List Round). HasRunFirst disks p (point_at disk' x) o.count (first_registry rows) z false
             None end) (sym (append-nil (rounds_of h.blocks))) h.ran
 
     -- the run came to its end
     pub ends_whole : (refused : Bool) (end : ℕ) (why : Option RunFault) → why ≡ None → All x refused end
         → HasEnd (view x.pass) x.file.flusher.count → Finishes (Ok end) why mid new
-        → IsWhole content images since moment disk disk' o told text remains old new refused
+        → IsWhole disks disk disk' o told text remains old new refused
     ends_whole refused end None is all ends f = whole_of refused end all ends f
     ends_whole refused end (Some why) is all ends f = absurd cc
 
     -- or a fault came at its end
     pub ends_late : (refused : Bool) (end : ℕ) (why : RunFault) (fault : Option RunFault) → fault ≡ Some why → All x refused end
         → HasEnd (view x.pass) x.file.flusher.count → Finishes (Ok end) fault mid new
-        → IsStopped content images since moment disk disk' o told text remains old new refused why
+        → IsStopped disks disk disk' o told text remains old new refused why
     ends_late refused end why fault is all ends f =
         let last = subst (λ (z : Option RunFault). Finishes (Ok end) z mid new) is f in late_of refused end why last.0 all ends last.1
 
@@ -160,7 +157,7 @@ module _
   -- and then the log is closed
   stopped_of : (refused : Bool) (x : Store) (remains : Remains) → IsClosed (view x.pass) remains → (e : Stopped) → e.store ≡ Some x
       → Stops refused e → Gained mid new []
-      → IsStopped content images since moment disk disk' o told text remains old new refused e.why
+      → IsStopped disks disk disk' o told text remains old new refused e.why
   stopped_of refused x remains closed e is h none = record {
     blocks = h.blocks;
     part = h.part;
@@ -175,31 +172,31 @@ module _
     written = part_still old mid new (report_text (report_of (opened_item o) h.blocks)) h.written none;
     refused_is = h.refused_is;
     input = λ i. ((h.input i).0, gained_none old mid new (report_text (report_of (opened_item o) h.blocks)) (h.input i).1 none);
-    keeps = keeps_of content images since moment read disk o p (point_at disk' x) from rows same (rounds_of h.blocks ++ h.part)
+    keeps = keeps_of disks read disk o p (point_at disk' x) from rows same (rounds_of h.blocks ++ h.part)
         h.stops.fresh h.cut h.stops.end ran unshut remains false closed (λ i. absurd cc);
   }
     where
       at : h.stops.at ≡ point_at disk' x
       at = (close_is e x is h).0
 
-      ran : HasRunFirst content images since moment p (point_at disk' x) o.count (first_registry rows) (rounds_of h.blocks ++ h.part)
+      ran : HasRunFirst disks p (point_at disk' x) o.count (first_registry rows) (rounds_of h.blocks ++ h.part)
           h.stops.fresh h.cut h.stops.end
-      ran = subst (λ (z : Point D). HasRunFirst content images since moment p z o.count (first_registry rows)
+      ran = subst (λ (z : Point D). HasRunFirst disks p z o.count (first_registry rows)
           (rounds_of h.blocks ++ h.part) h.stops.fresh h.cut h.stops.end) at h.stops.ran
 
   -- the same by how the fault was handed on
   pub ends_stopped : (refused : Bool) (x : Store) (remains : Remains) → IsClosed (view x.pass) remains → (e : Stopped) (why : RunFault)
       (fault : Option RunFault) → fault ≡ Some why → e.store ≡ Some x → Stops refused e → Finishes (Err e.why) fault mid new
-      → IsStopped content images since moment disk disk' o told text remains old new refused why
+      → IsStopped disks disk disk' o told text remains old new refused why
   ends_stopped refused x remains closed e why fault fault_is is some f =
       let both : Some e.why ≡ Some why = sym f.0 ∙ fault_is in
       let same : e.why ≡ why = cc in
-      subst (IsStopped content images since moment disk disk' o told text remains old new refused) same
+      subst (IsStopped disks disk disk' o told text remains old new refused) same
       (stopped_of refused x remains closed e is some f.1)
 
   -- all blocks ran, and there was no memory to show the log
   pub lost_all : (x : Store) (refused : Bool) (end : ℕ) → All x refused end
-      → IsLost content images since moment disk disk' o told text old mid refused
+      → IsLost disks disk disk' o told text old mid refused
   lost_all x refused end h = record {
     blocks = h.blocks;
     part = [];
@@ -208,15 +205,15 @@ module _
     next = tt;
     written = part_whole old mid (report_text (report_of (opened_item o) h.blocks)) h.written;
     refused_is = h.refused_is;
-    keeps = still_keeps content images since moment read disk o p (point_at disk' x) from rows same (rounds_of h.blocks ++ []) false None
+    keeps = still_keeps disks read disk o p (point_at disk' x) from rows same (rounds_of h.blocks ++ []) false None
         end
-        (subst (λ (z : List Round). HasRunFirst content images since moment p (point_at disk' x) o.count (first_registry rows) z false None
+        (subst (λ (z : List Round). HasRunFirst disks p (point_at disk' x) o.count (first_registry rows) z false None
         end) (sym (append-nil (rounds_of h.blocks))) h.ran) unshut;
   }
 
   -- or a fault stopped them
   pub lost_some : (refused : Bool) (e : Stopped) → Stops refused e
-      → IsLost content images since moment disk disk' o told text old mid refused
+      → IsLost disks disk disk' o told text old mid refused
   lost_some refused e h = record {
     blocks = h.blocks;
     part = h.part;
@@ -225,23 +222,24 @@ module _
     next = h.next;
     written = h.written;
     refused_is = h.refused_is;
-    keeps = subst (λ (z : D). (c : Commit) (log : List Entry) (t : ℕ) → StoodFor content images since moment disk z o c log t
-        → StillKeeps (images z) (since z t) log (rounds_of h.blocks ++ h.part) h.cut) h.stops.disk_is
-        (still_keeps content images since moment read disk o p h.stops.at from rows same (rounds_of h.blocks ++ h.part) h.stops.fresh h.cut
+    keeps = subst (λ (z : D). (c : Commit) (log : List Entry) (t : ℕ) → StoodFor disks disk z o c log t
+        → StillKeeps (disks.images z) (disks.since z t) log (rounds_of h.blocks ++ h.part) h.cut) h.stops.disk_is
+        (still_keeps disks read disk o p h.stops.at from rows same (rounds_of h.blocks ++ h.part) h.stops.fresh h.cut
         h.stops.end h.stops.ran unshut);
   }
 
   -- ---- what is told of the outside
 
   -- the disk's content was told at first where it is in the end
-  told_some : {refused : Bool} (e : Stopped) → Stops refused e → IsSome (content disk') → IsSome (content p.disk)
-  told_some e h told = h.stops.ran.runs.told_before (subst (λ (z : D). IsSome (content z)) (sym h.stops.disk_is) told)
+  told_some : {refused : Bool} (e : Stopped) → Stops refused e → IsSome (disks.content disk') → IsSome (disks.content p.disk)
+  told_some e h told = h.stops.ran.runs.told_before (subst (λ (z : D). IsSome (disks.content z)) (sym h.stops.disk_is) told)
 
   -- and then the fault that stopped the blocks is no damage
-  pub well_some : {refused : Bool} (c : Commit) (log : List Entry) → IsOpened (content disk) (images disk) c log o → (e : Stopped)
+  pub well_some : {refused : Bool} (c : Commit) (log : List Entry) → IsOpened (disks.content disk) (disks.images disk) c log o
+      → (e : Stopped)
       → Stops refused e
-      → IsSome (content disk') → IsUndamaged e.why
+      → IsSome (disks.content disk') → IsUndamaged e.why
   well_some c log h e some told = some.stops.whole (first_past log o) (record {
-    sound = sound_first content images since moment read disk o p p from c log h (told_some e some told);
+    sound = sound_first disks read disk o p p from c log h (told_some e some told);
     told = told;
   })

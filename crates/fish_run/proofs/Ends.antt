@@ -7,6 +7,7 @@ use Rattle.std.specs.Prelude.{◌||◌, IsSome}
 use Rattle.std.proofs.lemmas.Grind.{flat_map-append}
 use Rattle.std.proofs.lemmas.List.{take_all, take_more}
 use Rattle.std.proofs.lemmas.List.Folds.{list_any-append}
+use Rattle.fish_disk.specs.declared.disk.Disk.{Ghosts as Disks}
 use Rattle.fish_feed.specs.Works.{Pairs}
 use Rattle.fish_lanes.specs.Ending.{HasEnd}
 use Rattle.fish_lanes.specs.Registering.{Registry}
@@ -95,31 +96,27 @@ module _ (told : Option Files) (text : List script.Block) (i : ℕ) (less : i �
   next_of blocks are s at (a ∷ rounds) h = (s, ap (slice_get text) (many_are blocks are) ∙ at, h)
 
 module _
-    {D : Type 0}
-    (content : D → Option (List ℕ))
-    (images : D → List ℕ → Type 0)
-    (since : D → ℕ → List ℕ → Type 0)
-    (moment : D → ℕ)
+    {D : Type 0} (disks : Disks D)
     (from : ℕ) (r : Registry) (begin : Item) where
   -- none ran yet, and the first item was written
   pub writes_first : (p : Point D) (told : Option Files) (a b : Option (List ℕ)) (refused : Bool)
-      → HasRounds content images since moment p p from r [] false from r → Gained a b (report_text (begin ∷ [])) → refused ≡ false
-      → WritesBlocks content images since moment p p from r begin told [] from r a b refused
+      → HasRounds disks p p from r [] false from r → Gained a b (report_text (begin ∷ [])) → refused ≡ false
+      → WritesBlocks disks p p from r begin told [] from r a b refused
   writes_first p told a b refused none written accepted =
       record { blocks = []; are = tt; ran = none; renewed = tt; written = written; refused_is = accepted }
 
   module _ (p m q : Point D) (mid : ℕ) (s : Registry) (old new : Option Files) (still : SameFiles old new) (a b c : Option (List ℕ)) where
     -- one more ran, and was written
     pub writes_more : (text : List script.Block) (x : script.Block) (to : ℕ) (t : Registry) (before now : Bool) (y : Block)
-        → WritesBlocks content images since moment p m from r begin old text mid s a b before → IsBlockOf new x y
-        → HasRounds content images since moment m q mid s y.rounds false to t → AreRenewed y.rounds false
+        → WritesBlocks disks p m from r begin old text mid s a b before → IsBlockOf new x y
+        → HasRounds disks m q mid s y.rounds false to t → AreRenewed y.rounds false
         → Gained b c (report_text (block_items y)) → now ≡ before || said_refused (block_said y.rounds)
-        → WritesBlocks content images since moment p q from r begin new (text ++ x ∷ []) to t a c now
+        → WritesBlocks disks p q from r begin new (text ++ x ∷ []) to t a c now
     writes_more text x to t before now y h is ran renewed written refused = record {
       blocks = h.blocks ++ y ∷ [];
       are = pairs_push (IsBlockOf new) text h.blocks x y (blocks_later old new still text h.blocks h.are) is;
-      ran = subst (λ (z : List Round). HasRounds content images since moment p q from r z false to t) (sym (rounds_push h.blocks y))
-          (rounds_both content images since moment p m q from mid to r s t (rounds_of h.blocks) y.rounds h.ran false ran);
+      ran = subst (λ (z : List Round). HasRounds disks p q from r z false to t) (sym (rounds_push h.blocks y))
+          (rounds_both disks p m q from mid to r s t (rounds_of h.blocks) y.rounds h.ran false ran);
       renewed = subst (λ (z : List Round). AreRenewed z false) (sym (rounds_push h.blocks y))
           (renewed_join (rounds_of h.blocks) y.rounds false h.renewed
           renewed);
@@ -130,9 +127,9 @@ module _
 
     -- a fault came after them
     stops_after : (disk : D) (es rounds : List Round) (cut : Option Round) (e : Stopped)
-        → HasRounds content images since moment p m from r es false mid s
-        → StopsRounds content images since moment m disk mid s rounds cut e
-        → StopsRounds content images since moment p disk from r (es ++ rounds) cut e
+        → HasRounds disks p m from r es false mid s
+        → StopsRounds disks m disk mid s rounds cut e
+        → StopsRounds disks p disk from r (es ++ rounds) cut e
     stops_after disk es rounds cut e h stop = record {
       at = stop.at;
       disk_is = stop.disk_is;
@@ -141,20 +138,20 @@ module _
       fresh = stop.fresh;
       end = stop.end;
       cut_by = stop.cut_by;
-      ran = rounds_first content images since moment p m stop.at from mid stop.end r s s es rounds h stop.fresh cut stop.ran;
+      ran = rounds_first disks p m stop.at from mid stop.end r s s es rounds h stop.fresh cut stop.ran;
       whole = λ past sound.
-          let n = behind_next content images since moment p m _ (content disk) h.runs
-          (λ told. stop.ran.runs.told_before (subst (λ (z : D). IsSome (content z)) (sym stop.disk_is) told)) past sound in
+          let n = behind_next disks p m _ (disks.content disk) h.runs
+          (λ told. stop.ran.runs.told_before (subst (λ (z : D). IsSome (disks.content z)) (sym stop.disk_is) told)) past sound in
           stop.whole n.0 n.1;
     }
 
     -- so the run stopped, in the block after those that were written or after it
     pub stops_more : (text : List script.Block) (i : ℕ) (x : script.Block) (refused now : Bool) (disk : D) (rounds : List Round)
         (cut : Option Round) (e : Stopped) → i < length text → x ≡ get_or text i x
-        → WritesBlocks content images since moment p m from r begin old (take i text) mid s a b refused
-        → StopsRounds content images since moment m disk mid s rounds cut e
+        → WritesBlocks disks p m from r begin old (take i text) mid s a b refused
+        → StopsRounds disks m disk mid s rounds cut e
         → AreRenewed (with_cut rounds cut) true → HowStopped new x b c refused now rounds cut e
-        → RunsSome content images since moment p disk from r begin new text a c now e
+        → RunsSome disks p disk from r begin new text a c now e
     stops_more text i x refused now disk rounds cut e less is h stop renewed how = ⊎_elim not_done was_done how
       where
         blocks : List Block
@@ -167,9 +164,9 @@ module _
         at = get_at text i x less is
 
         Goal : Type 0
-        Goal = RunsSome content images since moment p disk from r begin new text a c now e
+        Goal = RunsSome disks p disk from r begin new text a c now e
 
-        stopped : StopsRounds content images since moment p disk from r (rounds_of blocks ++ rounds) cut e
+        stopped : StopsRounds disks p disk from r (rounds_of blocks ++ rounds) cut e
         stopped = stops_after disk (rounds_of blocks) rounds cut e h.ran stop
 
         all_renewed : AreRenewed (with_cut (rounds_of blocks ++ rounds) cut) true
@@ -216,8 +213,8 @@ module _
               cut = None;
               are = are_first new text (i + 1) (omega (less, arith)) (blocks ++ m.0 ∷ []) all;
               next = tt;
-              stops = subst (λ (z : List Round). StopsRounds content images since moment p disk from r z None e) same
-                  (subst (λ (z : Option Round). StopsRounds content images since moment p disk from r (rounds_of blocks ++ rounds) z e)
+              stops = subst (λ (z : List Round). StopsRounds disks p disk from r z None e) same
+                  (subst (λ (z : Option Round). StopsRounds disks p disk from r (rounds_of blocks ++ rounds) z e)
                   m.3 stopped);
               renewed = subst (λ (z : List Round). AreRenewed z true) same
                   (subst (λ (z : Option Round). AreRenewed (with_cut (rounds_of blocks ++ rounds) z) true) m.3
@@ -233,10 +230,10 @@ module _
   -- they were written
   pub runs_all : (p q : Point D) (told : Option Files) (text : List script.Block) (i to : ℕ) (t : Registry) (a b : Option (List ℕ))
       (refused : Bool) → length text ≡ i → HasEnd q.view to
-      → WritesBlocks content images since moment p q from r begin told (take i text) to t a b refused
-      → ((rounds : List Round) → HasRounds content images since moment p q from r rounds false to t
-      → HasRunFirst content images since moment p q from r rounds false None to)
-      → RunsAll content images since moment p q from r begin told text a b refused to
+      → WritesBlocks disks p q from r begin told (take i text) to t a b refused
+      → ((rounds : List Round) → HasRounds disks p q from r rounds false to t
+      → HasRunFirst disks p q from r rounds false None to)
+      → RunsAll disks p q from r begin told text a b refused to
   runs_all p q told text i to t a b refused many ends h end = record {
     blocks = h.blocks;
     all = subst (λ (z : List script.Block). Pairs (IsBlockOf told) z h.blocks) (take_all i text (omega (many, arith))) h.are;
@@ -248,13 +245,13 @@ module _
 
   -- and the store went on in its table
   pub all_later : (p m q : Point D) (told : Option Files) (text : List script.Block) (a b : Option (List ℕ)) (refused : Bool) (to : ℕ)
-      → RunsAll content images since moment p m from r begin told text a b refused to
-      → Runs content images since moment m q (λ w. Unit {0}) → Learns m.view q.view → HasEnd q.view to → q.shape ≡ m.shape
-      → RunsAll content images since moment p q from r begin told text a b refused to
+      → RunsAll disks p m from r begin told text a b refused to
+      → Runs disks m q (λ w. Unit {0}) → Learns m.view q.view → HasEnd q.view to → q.shape ≡ m.shape
+      → RunsAll disks p q from r begin told text a b refused to
   all_later p m q told text a b refused to h runs learns ends shape = record {
     blocks = h.blocks;
     all = h.all;
-    ran = first_on content images since moment p m q from to r (rounds_of h.blocks) false None h.ran runs learns ends shape;
+    ran = first_on disks p m q from to r (rounds_of h.blocks) false None h.ran runs learns ends shape;
     renewed = h.renewed;
     written = h.written;
     refused_is = h.refused_is;
@@ -262,16 +259,16 @@ module _
 
   -- a fault came after all of them
   pub all_stopped : (p q : Point D) (disk : D) (told : Option Files) (text : List script.Block) (a b : Option (List ℕ))
-      (refused : Bool) (to : ℕ) (e : Stopped) (h : RunsAll content images since moment p q from r begin told text a b refused to)
-      → StopsRounds content images since moment p disk from r (rounds_of h.blocks) None e → e.why ≢ fault.Input
-      → RunsSome content images since moment p disk from r begin told text a b refused e
+      (refused : Bool) (to : ℕ) (e : Stopped) (h : RunsAll disks p q from r begin told text a b refused to)
+      → StopsRounds disks p disk from r (rounds_of h.blocks) None e → e.why ≢ fault.Input
+      → RunsSome disks p disk from r begin told text a b refused e
   all_stopped p q disk told text a b refused to e h stop other = record {
     blocks = h.blocks;
     part = [];
     cut = None;
     are = all_first told text h.blocks h.all;
     next = tt;
-    stops = subst (λ (z : List Round). StopsRounds content images since moment p disk from r z None e)
+    stops = subst (λ (z : List Round). StopsRounds disks p disk from r z None e)
         (sym (append-nil (rounds_of h.blocks))) stop;
     renewed = subst (λ (z : List Round). AreRenewed z true) (sym (append-nil (rounds_of h.blocks)))
         (renewed_any (rounds_of h.blocks) true h.renewed);
@@ -282,9 +279,9 @@ module _
 
   -- nothing ran, since the first item couldn't be written
   pub stops_first : (p : Point D) (disk : D) (told : Option Files) (text : List script.Block) (a b : Option (List ℕ)) (refused : Bool)
-      (e : Stopped) → StopsRounds content images since moment p disk from r [] None e → e.why ≢ fault.Input
+      (e : Stopped) → StopsRounds disks p disk from r [] None e → e.why ≢ fault.Input
       → GainedPart a b (report_text (begin ∷ [])) → refused ≡ false
-      → RunsSome content images since moment p disk from r begin told text a b refused e
+      → RunsSome disks p disk from r begin told text a b refused e
   stops_first p disk told text a b refused e stop other part accepted = record {
     blocks = [];
     part = [];

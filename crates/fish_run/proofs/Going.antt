@@ -10,6 +10,7 @@ use Rattle.fish_catalog.specs.Listing.{listed_of}
 use Rattle.fish_catalog.specs.declared.commit.Commit.{Commit}
 use Rattle.fish_catalog.specs.declared.entry.Entry.{Entry}
 use Rattle.fish_catalog.specs.declared.row.CatRow.{CatRow}
+use Rattle.fish_disk.specs.declared.disk.Disk.{Ghosts as Disks}
 use Rattle.fish_flush.specs.Carrying.{Carries, HasSettled, Reads}
 use Rattle.fish_flush.specs.Rows.{HoldsRows}
 use Rattle.fish_ingest.specs.Ingestion.{CanStart}
@@ -70,8 +71,8 @@ none_waits k r knows = by r.waiting refl
         let waits = subst (λ (z : Option Waiting). Awaits (first_view k) z) is knows.awaits in
         absurd (let bad : None ≡ Some waits.round = waits.waits in cc)
 
-module _ {D : Type 0} (content : D → Option (List ℕ)) (images : D → List ℕ → Type 0) (disk : D) (c : Commit) (log : List Entry) (o : Opened)
-    (h : IsOpened (content disk) (images disk) c log o) where
+module _ {D : Type 0} (disks : Disks D) (disk : D) (c : Commit) (log : List Entry) (o : Opened)
+    (h : IsOpened (disks.content disk) (disks.images disk) c log o) where
   -- the line fits its word
   few_lines : o.log.key.line < 68719476736
   few_lines =
@@ -90,8 +91,8 @@ module _ {D : Type 0} (content : D → Option (List ℕ)) (images : D → List �
 
   -- the store may go on where its table begins
   pub new_store : (s : Store) → s.log ≡ o.log → s.pass ≡ o.pass → KnowsFirst s.registrar → s.registrar.catalog ≡ o.catalog
-      → s.file.flusher ≡ o.flusher → s.file.cold ≡ o.cold → IsNewStore images disk s
-  new_store s log_is pass_is first rows flusher_is cold_is = subst (IsNewStore images disk) (λ i. same i) (record {
+      → s.file.flusher ≡ o.flusher → s.file.cold ≡ o.cold → IsNewStore disks.images disk s
+  new_store s log_is pass_is first rows flusher_is cold_is = subst (IsNewStore disks.images disk) (λ i. same i) (record {
     go = record {
       can = record {
         of = h.pass;
@@ -103,7 +104,7 @@ module _ {D : Type 0} (content : D → Option (List ℕ)) (images : D → List �
         may = (
           c,
           log,
-          subst (λ (l : List CatRow). Carries (images disk) o.flusher (view o.pass) o.log.shape l c log)
+          subst (λ (l : List CatRow). Carries (disks.images disk) o.flusher (view o.pass) o.log.shape l c log)
               (sym rows) h.carries,
         );
         counted =
@@ -268,12 +269,8 @@ one_end v a b s h k = by (dec_lt a b) (dec_lt b a)
 -- ---- a new table
 
 module _
-    {D : Type 0}
-    (content : D → Option (List ℕ))
-    (images : D → List ℕ → Type 0)
-    (since : D → ℕ → List ℕ → Type 0)
-    (moment : D → ℕ)
-    (disk : D) (s t : Store) (h : HasRolled content images since moment disk s t) where
+    {D : Type 0} (disks : Disks D)
+    (disk : D) (s t : Store) (h : HasRolled disks disk s t) where
   rolled_lines : t.log.key.line < 68719476736
   rolled_lines =
       let fits = h.pass.stands.rule.key_fits in
@@ -289,7 +286,7 @@ module _
       (begun_all s.file.flusher.count s.registrar.catalog)))
 
   -- the store may go on where the new table begins
-  pub rolled_go : (from : ℕ) → s.file.flusher.count ≡ from → CanGoOn images disk t from
+  pub rolled_go : (from : ℕ) → s.file.flusher.count ≡ from → CanGoOn disks.images disk t from
   rolled_go from same = record {
     can = record {
       of = h.pass;
@@ -347,9 +344,8 @@ registry_reads s m same before now alone reads i =
 -- ---- moments
 
 -- where nothing was done the store is where it was
-pub here_self : {D : Type 0} (content : D → Option (List ℕ)) (images : D → List ℕ → Type 0) (since : D → ℕ → List ℕ → Type 0)
-    (moment : D → ℕ) (p : Point D) → GoesOnHere content images since moment p p
-here_self content images since moment p = record {
+pub here_self : {D : Type 0} (disks : Disks D) (p : Point D) → GoesOnHere disks p p
+here_self disks p = record {
   learns = learns_self p.view;
   told_before = λ told. told;
   rises = omega arith;

@@ -6,6 +6,7 @@ use Rattle.fish_catalog.specs.Clamps.{clamped}
 use Rattle.fish_catalog.specs.declared.commit.Commit.{Commit}
 use Rattle.fish_catalog.specs.declared.entry.Entry.{Entry}
 use Rattle.fish_catalog.specs.declared.row.CatRow.{CatRow}
+use Rattle.fish_disk.specs.declared.disk.Disk.{Ghosts as Disks}
 use Rattle.fish_flush.proofs.Committed.{committed_length}
 use Rattle.fish_lanes.proofs.Surely.{closed_length}
 use Rattle.fish_lanes.specs.Ending.{HasEnd}
@@ -58,32 +59,29 @@ entries_end v end remains ends closed = (let base = closed.base in let all = clo
 
 -- a store that was opened, from its first moment to one in which its pass is as it is closed
 module _
-    {D : Type 0}
-    (content : D → Option (List ℕ))
-    (images : D → List ℕ → Type 0)
-    (since : D → ℕ → List ℕ → Type 0)
-    (moment : D → ℕ)
-    (read : (d : D) (i : List ℕ) → content d ≡ Some i → images d i)
+    {D : Type 0} (disks : Disks D)
+    (read : (d : D) (i : List ℕ) → disks.content d ≡ Some i → disks.images d i)
     (disk : D) (o : Opened) (p q : Point D) (from : p ≡ opened_point disk o) where
   -- it was sound after the log for which the disk stood
-  pub sound_first : (c : Commit) (log : List Entry) → IsOpened (content disk) (images disk) c log o → IsSome (content p.disk)
-      → Sound content images p (first_past log o)
+  pub sound_first : (c : Commit) (log : List Entry) → IsOpened (disks.content disk) (disks.images disk) c log o
+      → IsSome (disks.content p.disk)
+      → Sound disks p (first_past log o)
   sound_first c log h told =
-      let before : IsSome (content disk) = subst (λ (z : Point D). IsSome (content z.disk)) from told in
-      subst (λ (z : Point D). Sound content images z (first_past log o)) (sym from)
-      (opened_sound content images disk c log o h (read disk) before)
+      let before : IsSome (disks.content disk) = subst (λ (z : Point D). IsSome (disks.content z.disk)) from told in
+      subst (λ (z : Point D). Sound disks z (first_past log o)) (sym from)
+      (opened_sound disks disk c log o h (read disk) before)
 
-  module _ (P : Whole → Type 0) (runs : Runs content images since moment p q P) (c : Commit) (log : List Entry) (t : ℕ)
-      (s : StoodFor content images since moment disk q.disk o c log t) where
-    sound : Sound content images p (first_past log o)
+  module _ (P : Whole → Type 0) (runs : Runs disks p q P) (c : Commit) (log : List Entry) (t : ℕ)
+      (s : StoodFor disks disk q.disk o c log t) where
+    sound : Sound disks p (first_past log o)
     sound = sound_first c log s.is (runs.told_before s.told)
 
     -- what was told is so of each whole that may be in the end
-    reaches : Reaches content images since moment (first_past log o) p q P
+    reaches : Reaches disks (first_past log o) p q P
     reaches = runs.reaches (first_past log o) sound s.told
 
-    early : t ≤ moment p.disk
-    early = subst (λ (z : Point D). t ≤ moment z.disk) (sym from) s.early
+    early : t ≤ disks.moment p.disk
+    early = subst (λ (z : Point D). t ≤ disks.moment z.disk) (sym from) s.early
 
     -- how many entries the log had
     size : length log ≡ c.count
@@ -93,33 +91,33 @@ module _
     many = subst (λ (z : Point D). length log ≤ z.flusher.count) (sym from)
         (let count = s.is.carries.rest.committed.count in let same = size in omega arith)
 
-    stood : (i : List ℕ) → since p.disk t i → IsImageOf (first_past log o) p.view (length log) i
-    stood = subst (λ (z : Point D). (i : List ℕ) → since z.disk t i → IsImageOf (first_past log o) z.view (length log) i) (sym from)
-        (λ i left. stands_part content images disk c log o s.is i (s.stood i left))
+    stood : (i : List ℕ) → disks.since p.disk t i → IsImageOf (first_past log o) p.view (length log) i
+    stood = subst (λ (z : Point D). (i : List ℕ) → disks.since z.disk t i → IsImageOf (first_past log o) z.view (length log) i) (sym from)
+        (λ i left. stands_part disks disk c log o s.is i (s.stood i left))
 
     -- a crash leaves what was committed
-    lost_of : LosesLog (images q.disk) (since q.disk t) log q.flusher.count
-    lost_of = run_lost content images since moment (first_past log o) p q P reaches t early runs.rises many stood
+    lost_of : LosesLog (disks.images q.disk) (disks.since q.disk t) log q.flusher.count
+    lost_of = run_lost disks (first_past log o) p q P reaches t early runs.rises many stood
 
     shown_of : (remains : Remains) → IsClosed q.view remains → q.view.lane ≡ 1 → q.view.out ≡ []
-        → IsShown (images q.disk) (since q.disk t) log q.flusher.count P remains
-    shown_of remains closed control all = run_shown content images since moment
+        → IsShown (disks.images q.disk) (disks.since q.disk t) log q.flusher.count P remains
+    shown_of remains closed control all = run_shown disks
         (first_past log o) p q P reaches t early runs.rises many stood
         remains closed control all
 
   module _ (rows : List CatRow) (same : rows ≡ o.catalog) (rounds : List Round) (fresh : Bool) (cut : Option Round) (end : ℕ)
-      (h : HasRunFirst content images since moment p q o.count (first_registry rows) rounds fresh cut end)
+      (h : HasRunFirst disks p q o.count (first_registry rows) rounds fresh cut end)
       (unshut : p.view.shut ≡ None) where
     -- all that was told is so of the whole that is shown
     pub keeps_of : (remains : Remains) (ended : Bool) → IsClosed q.view remains → (ended ≡ true → HasEnd q.view q.flusher.count)
-        → (c : Commit) (log : List Entry) (t : ℕ) → StoodFor content images since moment disk q.disk o c log t
-        → Keeps (images q.disk) (since q.disk t) c log ended rounds cut remains
+        → (c : Commit) (log : List Entry) (t : ℕ) → StoodFor disks disk q.disk o c log t
+        → Keeps (disks.images q.disk) (disks.since q.disk t) c log ended rounds cut remains
     keeps_of remains ended closed all c log t s = record {
       count = q.flusher.count;
       acknowledged = h.committed;
       shown = shown;
       all = λ is. sym (entries_end q.view q.flusher.count remains (all is) closed)
-          ∙ sym (shown_length (images q.disk) (since q.disk t) log q.flusher.count Here remains shown);
+          ∙ sym (shown_length (disks.images q.disk) (disks.since q.disk t) log q.flusher.count Here remains shown);
     }
       where
         Told : Whole → Type 0
@@ -141,13 +139,13 @@ module _
           fulls = h.fulls [] (none_full p.view.shut unshut);
         }
 
-        shown : IsShown (images q.disk) (since q.disk t) log q.flusher.count Here remains
-        shown = shown_so (images q.disk) (since q.disk t) log q.flusher.count Told Here remains so
+        shown : IsShown (disks.images q.disk) (disks.since q.disk t) log q.flusher.count Here remains
+        shown = shown_so (disks.images q.disk) (disks.since q.disk t) log q.flusher.count Told Here remains so
             (shown_of Told h.runs c log t s remains closed h.ends.alone.control h.ends.alone.all)
 
     -- and without it a crash leaves what was committed
-    pub still_keeps : (c : Commit) (log : List Entry) (t : ℕ) → StoodFor content images since moment disk q.disk o c log t
-        → StillKeeps (images q.disk) (since q.disk t) log rounds cut
+    pub still_keeps : (c : Commit) (log : List Entry) (t : ℕ) → StoodFor disks disk q.disk o c log t
+        → StillKeeps (disks.images q.disk) (disks.since q.disk t) log rounds cut
     still_keeps c log t s = record {
       count = q.flusher.count;
       acknowledged = h.committed;

@@ -2,6 +2,7 @@
 use Rattle.std.proofs.Common.{◌≡◌, ◌≢◌, ℕ, List, [], ◌∷◌, refl, sym, ap, ◌∙◌, subst, inl, inr, false, true}
 use Rattle.std.proofs.Common.{Bool, Option, Some, None}
 use Rattle.std.specs.Prelude.{IfSome, ◌||◌}
+use Rattle.fish_disk.specs.declared.disk.Disk.{Ghosts as Disks}
 use Rattle.fish_feed.specs.Works.{AreDone, AreFirstOf, Pairs}
 use Rattle.fish_lanes.specs.Ending.{HasEnd}
 use Rattle.fish_lanes.specs.Registering.{Registry, registry_of}
@@ -52,37 +53,33 @@ all_given told texts given [] all were done = elim all [ ]
 all_given told texts given (a ∷ rounds) all were done = subst (Pairs (AreDone told) texts) (sym were) done
 
 module _
-    {D : Type 0}
-    (content : D → Option (List ℕ))
-    (images : D → List ℕ → Type 0)
-    (since : D → ℕ → List ℕ → Type 0)
-    (moment : D → ℕ) where
+    {D : Type 0} (disks : Disks D) where
   -- ---- moments
 
   -- what goes on in one table tells nothing more
-  pub runs_on : (p q : Point D) → GoesOnHere content images since moment p q → Later p.view q.view
-      → Runs content images since moment p q (λ w. Unit {0})
-  runs_on p q h later = runs_step content images since moment p q (λ w. Unit {0}) h later (λ past s w may. tt)
+  pub runs_on : (p q : Point D) → GoesOnHere disks p q → Later p.view q.view
+      → Runs disks p q (λ w. Unit {0})
+  runs_on p q h later = runs_step disks p q (λ w. Unit {0}) h later (λ past s w may. tt)
 
   -- nothing ran
-  pub rounds_self : (p : Point D) (from : ℕ) (r : Registry) → HasRounds content images since moment p p from r [] false from r
-  rounds_self p from r = rounds_none content images since moment p from r (here_self content images since moment p) (later_self p.view)
+  pub rounds_self : (p : Point D) (from : ℕ) (r : Registry) → HasRounds disks p p from r [] false from r
+  rounds_self p from r = rounds_none disks p from r (here_self disks p) (later_self p.view)
 
   -- rounds ran, and none was cut
   pub first_of : (p q : Point D) (from to : ℕ) (r t : Registry) (rounds : List Round)
-      → HasRounds content images since moment p q from r rounds false to t → HasEnd q.view to
-      → HasRunFirst content images since moment p q from r rounds false None to
+      → HasRounds disks p q from r rounds false to t → HasEnd q.view to
+      → HasRunFirst disks p q from r rounds false None to
   first_of p q from to r t rounds h ends =
-      rounds_end content images since moment p q q from to r t rounds false h
-      (runs_on q q (here_self content images since moment q) (later_self q.view)) (learns_self q.view) ends refl
+      rounds_end disks p q q from to r t rounds false h
+      (runs_on q q (here_self disks q) (later_self q.view)) (learns_self q.view) ends refl
 
   -- ---- faults
 
   -- a fault that is none of a round stops the run with the store
   pub stops_with : (p : Point D) (disk : D) (s : Store) (from to : ℕ) (r : Registry) (rounds : List Round) (e : Stopped)
       → e.store ≡ Some s → CanClose s → IsUndamaged e.why
-      → HasRunFirst content images since moment p (point_at disk s) from r rounds false None to
-      → StopsRounds content images since moment p disk from r rounds None e
+      → HasRunFirst disks p (point_at disk s) from r rounds false None to
+      → StopsRounds disks p disk from r rounds None e
   stops_with p disk s from to r rounds e is close well ran = record {
     at = point_at disk s;
     disk_is = refl;
@@ -95,12 +92,12 @@ module _
     whole = λ past sound. well;
   }
 
-  module _ (disk : D) (a : Lasts) (told : Option Files) (text : script.Block) (go : CanGoOn images disk a.store a.count) where
+  module _ (disk : D) (a : Lasts) (told : Option Files) (text : script.Block) (go : CanGoOn disks.images disk a.store a.count) where
     -- a fault stopped its rounds, or came before them
     pub one_cut : (disk' : D) (given : List (List Work)) (written : Option (List ℕ)) (before : Bool) (e : Stopped)
-        (h : StopsBlock content images since moment disk a.store a.count given disk' e)
+        (h : StopsBlock disks disk a.store a.count given disk' e)
         → AreRounds told text.lanes (with_cut h.rounds h.cut)
-        → StopsOne content images since moment disk disk' a told text written written before before e
+        → StopsOne disks disk disk' a told text written written before before e
     one_cut disk' given written before e h are = record {
       rounds = h.rounds;
       cut = h.cut;
@@ -110,7 +107,7 @@ module _
     }
 
     module _ (disk' : D) (d : Ended) (given : List (List Work)) (done : Pairs (AreDone told) text.lanes given)
-        (h : EndsRounds content images since moment disk a.store a.count disk' d.store d.end d.said.items given)
+        (h : EndsRounds disks disk a.store a.count disk' d.store d.end d.said.items given)
         (old new : Option (List ℕ)) where
       block : Block
       block = record { several = text.several; rounds = h.rounds }
@@ -132,10 +129,10 @@ module _
       pub one_ended : (before now : Bool) (b : Lasts) → b ≡ record { store = d.store; count = d.end.to }
           → Gained old new (report_text (said_items text.several a.count d.end d.said.items))
           → now ≡ before || said_refused d.said.items
-          → EndsOne content images since moment disk disk' a told text old new before now b
+          → EndsOne disks disk disk' a told text old new before now b
       unfolding block
       one_ended before now b is written refused =
-          subst (EndsOne content images since moment disk disk' a told text old new before now) (sym is) (record {
+          subst (EndsOne disks disk disk' a told text old new before now) (sym is) (record {
             go = h.go;
             block = block;
             is = block_is;
@@ -149,7 +146,7 @@ module _
       pub one_unwritten : (before now : Bool) (e : Stopped) → e.store ≡ Some d.store → IsUndamaged e.why → e.why ≢ fault.Input
           → GainedPart old new (report_text (said_items text.several a.count d.end d.said.items))
           → now ≡ before || said_refused d.said.items
-          → StopsOne content images since moment disk disk' a told text old new before now e
+          → StopsOne disks disk disk' a told text old new before now e
       unfolding block
       one_unwritten before now e named_is well other part refused =
           let p = point_at disk a.store in
@@ -160,7 +157,7 @@ module _
             rounds = h.rounds;
             cut = None;
             stops = stops_with p disk' d.store a.count d.end.to r h.rounds e named_is
-                (close_of images disk' d.store d.end.to h.go) well
+                (close_of disks.images disk' d.store d.end.to h.go) well
                 (first_of p q a.count d.end.to r t h.rounds h.ran h.go.end);
             renewed = renewed_any h.rounds true h.renewed;
             how = inr (

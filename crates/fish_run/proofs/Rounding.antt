@@ -2,6 +2,7 @@
 use Rattle.std.proofs.Common.{◌≡◌, ℕ, suc, ◌+◌, ◌<◌, List, [], ◌∷◌, ◌++◌, Bool, true, false, length}
 use Rattle.std.proofs.Common.{refl, sym, ap, ◌∙◌, ◌⊎◌, subst, inl, arith, None, Option, Some, slice_get}
 use Rattle.std.specs.Prelude.{◌&&◌, IfSome}
+use Rattle.fish_disk.specs.declared.disk.Disk.{Ghosts as Disks}
 use Rattle.fish_feed.specs.Queues.{AreIdle, IsGiven, both, works_of}
 use Rattle.fish_feed.specs.Works.{Pairs, Triples}
 use Rattle.fish_lanes.specs.Blocks.{AreKept, AreLanes, EachLane, IsKept, IsNewLane}
@@ -131,24 +132,16 @@ later_self : (v : View) → Later v v
 later_self v = record { learns = learns_self v; gained = λ o m. inl m }
 
 module _
-    {D : Type 0}
-    (content : D → Option (List ℕ))
-    (images : D → List ℕ → Type 0)
-    (since : D → ℕ → List ℕ → Type 0)
-    (moment : D → ℕ) where
+    {D : Type 0} (disks : Disks D) where
   -- it may go on in a table that was renewed
-  pub renewed_go : (disk disk' : D) (m t : Store) (to : ℕ) → CanGoOn images disk m to → (fresh : Bool)
-      → IsRenewed content images since moment disk m to fresh disk' t → CanGoOn images disk' t to
+  pub renewed_go : (disk disk' : D) (m t : Store) (to : ℕ) → CanGoOn disks.images disk m to → (fresh : Bool)
+      → IsRenewed disks disk m to fresh disk' t → CanGoOn disks.images disk' t to
   renewed_go disk disk' m t to go false k =
-      subst (λ (z : D). CanGoOn images z t to) (sym k.0) (subst (λ (z : Store). CanGoOn images disk z to) (sym k.1) go)
+      subst (λ (z : D). CanGoOn disks.images z t to) (sym k.0) (subst (λ (z : Store). CanGoOn disks.images disk z to) (sym k.1) go)
   renewed_go disk disk' m t to go true k = k.go
 
 module _
-    {D : Type 0}
-    (content : D → Option (List ℕ))
-    (images : D → List ℕ → Type 0)
-    (since : D → ℕ → List ℕ → Type 0)
-    (moment : D → ℕ)
+    {D : Type 0} (disks : Disks D)
     (d : D) (s : Store) (from : ℕ) where
   abbrev pub p : Point D
   p = point_at d s
@@ -157,21 +150,21 @@ module _
   r = registry_of (view s.pass) s.registrar
 
   -- where nothing was done
-  runs_self : (q : Point D) → Runs content images since moment q q (λ w. Unit {0})
-  runs_self q = runs_step content images since moment q q (λ w. Unit {0}) (here_self content images since moment q)
+  runs_self : (q : Point D) → Runs disks q q (λ w. Unit {0})
+  runs_self q = runs_step disks q q (λ w. Unit {0}) (here_self disks q)
       (later_self q.view) (λ past sound w may. tt)
 
   -- ---- before the first round
 
-  none_ran : HasRounds content images since moment p p from r [] false from r
-  none_ran = rounds_none content images since moment p from r (here_self content images since moment p) (later_self (view s.pass))
+  none_ran : HasRounds disks p p from r [] false from r
+  none_ran = rounds_none disks p from r (here_self disks p) (later_self (view s.pass))
 
   pub goes_first : (lanes : List Lane) → AreLanes lanes → AreIdle lanes → (a : RoundStart) → a.store ≡ s → a.from ≡ from → a.fresh ≡ false
       → a.bound ≡ None → (said : List Said) → said ≡ nothing_said lanes
-      → GoesIn content images since moment d s from d a lanes said (nones lanes)
+      → GoesIn disks d s from d a lanes said (nones lanes)
   goes_first lanes are idle a store_is from_is fresh_is bound_is said said_is = record {
     rounds = [];
-    ran = subst (λ (z : RoundStart). HasRounds content images since moment p (point_at d z.store) from r [] z.fresh z.from
+    ran = subst (λ (z : RoundStart). HasRounds disks p (point_at d z.store) from r [] z.fresh z.from
         (registry_of (view z.store.pass) z.store.registrar)) (λ i. same i) none_ran;
     renewed = tt;
     follow = tt;
@@ -192,9 +185,9 @@ module _
   -- ---- what lanes are given for a round
 
   module _ (disk : D) (a : RoundStart) (lanes : List Lane) (said : List Said) (given : List (List Work))
-      (g : GoesIn content images since moment d s from disk a lanes said given) where
+      (g : GoesIn disks d s from disk a lanes said given) where
     -- nothing
-    pub ready_none : IsReady content images since moment d s from disk a lanes said (nones lanes) given
+    pub ready_none : IsReady disks d s from disk a lanes said (nones lanes) given
     ready_none = record {
       rounds = g.rounds;
       ran = g.ran;
@@ -209,7 +202,7 @@ module _
 
     -- statements, where they have none
     pub ready_given : (lanes' : List Lane) → Pairs IsGiven lanes lanes'
-        → IsReady content images since moment d s from disk a lanes' said (works_of lanes') (both given (works_of lanes'))
+        → IsReady disks d s from disk a lanes' said (works_of lanes') (both given (works_of lanes'))
     ready_given lanes' now_given =
         let same : length lanes' ≡ length lanes = pairs_length IsGiven lanes lanes' now_given in
         record {
@@ -226,8 +219,8 @@ module _
         }
 
     -- none could be read, or memory ran out
-    pub stops_unread : (why : RunFault) → IsUndamaged why → CanGoOn images disk a.store a.from
-        → StopsBlock content images since moment d s from given disk (record { store = Some a.store; why = why })
+    pub stops_unread : (why : RunFault) → IsUndamaged why → CanGoOn disks.images disk a.store a.from
+        → StopsBlock disks d s from given disk (record { store = Some a.store; why = why })
     stops_unread why well go = record {
       rounds = g.rounds;
       cut = None;
@@ -236,12 +229,12 @@ module _
       stops = record {
         at = point_at disk a.store;
         disk_is = refl;
-        store = (refl, close_of images disk a.store a.from go);
+        store = (refl, close_of disks.images disk a.store a.from go);
         lost = λ none. absurd cc;
         fresh = a.fresh;
         end = a.from;
         cut_by = tt;
-        ran = rounds_end content images since moment p (point_at disk a.store) (point_at disk a.store) from a.from r
+        ran = rounds_end disks p (point_at disk a.store) (point_at disk a.store) from a.from r
             (registry_of (view a.store.pass) a.store.registrar) g.rounds a.fresh g.ran (runs_self (point_at disk a.store))
             (learns_self (view a.store.pass)) go.end refl;
         whole = λ past sound. well;
@@ -251,8 +244,8 @@ module _
     }
 
   -- a fault came before it
-  pub stops_before : (e : Stopped) → e.store ≡ Some s → IsUndamaged e.why → CanGoOn images d s from
-      → (given : List (List Work)) → StopsBlock content images since moment d s from given d e
+  pub stops_before : (e : Stopped) → e.store ≡ Some s → IsUndamaged e.why → CanGoOn disks.images d s from
+      → (given : List (List Work)) → StopsBlock disks d s from given d e
   stops_before e store well go given = record {
     rounds = [];
     cut = None;
@@ -263,12 +256,12 @@ module _
       at = p;
       disk_is = refl;
       store = subst (λ (z : Option Store). IfSome z (λ x. (p ≡ point_at d x) × CanClose x)) (sym store)
-          (refl, close_of images d s from go);
+          (refl, close_of disks.images d s from go);
       lost = λ none. (let bad : Some s ≡ None = sym store ∙ none in absurd cc);
       fresh = false;
       end = from;
       cut_by = tt;
-      ran = rounds_end content images since moment p p p from from r r [] false none_ran (runs_self p)
+      ran = rounds_end disks p p p from from r r [] false none_ran (runs_self p)
           (learns_self (view s.pass)) go.end refl;
       whole = λ past sound. well;
     };
@@ -276,26 +269,26 @@ module _
   }
 
   -- its files couldn't be opened
-  pub stops_unopened : (e : Stopped) → e.store ≡ Some s → IsUndamaged e.why → CanGoOn images d s from
-      → (texts : List (List Statement)) (told : Option Files) → StopsLanes content images since moment d s from texts d told e
+  pub stops_unopened : (e : Stopped) → e.store ≡ Some s → IsUndamaged e.why → CanGoOn disks.images d s from
+      → (texts : List (List Statement)) (told : Option Files) → StopsLanes disks d s from texts d told e
   unfolding stops_before
   stops_unopened e store well go texts told =
       record { given = []; stops = stops_before e store well go []; are = tt }
 
   -- memory ran out before it
-  pub stops_none : (e : Stopped) → e.store ≡ Some s → e.why ≡ fault.Memory → CanGoOn images d s from
-      → (given : List (List Work)) → StopsBlock content images since moment d s from given d e
+  pub stops_none : (e : Stopped) → e.store ≡ Some s → e.why ≡ fault.Memory → CanGoOn disks.images d s from
+      → (given : List (List Work)) → StopsBlock disks d s from given d e
   stops_none e store why go given = stops_before e store (subst IsUndamaged (sym why) tt) go given
 
   -- ---- after a round
 
   module _ (disk : D) (a : RoundStart) (lanes : List Lane) (said : List Said) (given_now given : List (List Work))
-      (g : IsReady content images since moment d s from disk a lanes said given_now given) (are : AreLanes lanes)
+      (g : IsReady disks d s from disk a lanes said given_now given) (are : AreLanes lanes)
       (disk' : D) (m : Store) (ran : List Lane) (end : BlockEnd) (many : length ran ≡ length lanes) (kept : AreKept lanes ran)
       (log : m.log ≡ a.store.log)
-      (goes : GoesOnHere content images since moment (point_at disk a.store) (point_at disk' m))
+      (goes : GoesOnHere disks (point_at disk a.store) (point_at disk' m))
       (later : Later (view a.store.pass) (view m.pass)) (ends : HasEnd (view m.pass) end.to)
-      (leaves : Leaves (Behind content images disk a.store disk') m.file.flusher.count (view a.store.pass) (view m.pass)
+      (leaves : Leaves (Behind disks disk a.store disk') m.file.flusher.count (view a.store.pass) (view m.pass)
       a.store.registrar m.registrar a.from ran end) where
     abbrev pub before : Point D
     before = point_at disk a.store
@@ -310,7 +303,7 @@ module _
     then = registry_of (view m.pass) m.registrar
 
     abbrev pub Past : Whole → Type 0
-    Past = Behind content images disk a.store disk'
+    Past = Behind disks disk a.store disk'
 
     abbrev pub b : Round
     b = left Past m.file.flusher.count (view a.store.pass) (view m.pass) a.store.registrar m.registrar a.from ran end leaves a.fresh
@@ -339,7 +332,7 @@ module _
 
     -- a lane met a fault
     pub stops_cut : (why : RunFault) → IsFirstFault ran why → (low high : ℕ) → EachLane (λ i x. Stops Past low high x) ran → CanClose m
-        → StopsBlock content images since moment d s from given disk' (record { store = Some m; why = why })
+        → StopsBlock disks d s from given disk' (record { store = Some m; why = why })
     stops_cut why f low high stops close = record {
       rounds = g.rounds;
       cut = Some b;
@@ -354,25 +347,25 @@ module _
         fresh = a.fresh;
         end = end.to;
         cut_by = f;
-        ran = rounds_cut content images since moment p before at from a.from end.to r known then g.rounds a.fresh b g.ran goes later shape
+        ran = rounds_cut disks p before at from a.from end.to r known then g.rounds a.fresh b g.ran goes later shape
             (left_cut Past m.file.flusher.count (view a.store.pass) (view m.pass) a.store.registrar m.registrar a.from ran end leaves
             a.fresh given_now) ends;
         whole = λ past sound.
-            let n = behind_next content images since moment p before _ (content disk') g.ran.runs goes.told_before past sound in
+            let n = behind_next disks p before _ (disks.content disk') g.ran.runs goes.told_before past sound in
             lane_whole Past low high ran why stops f n.0 n.1;
       };
       input = λ is. absurd (first_no_input ran why f is);
     }
 
     module _ (whole : AreWhole ran) (close : CanClose m) where
-      all : HasRounds content images since moment p at from r (g.rounds ++ b ∷ []) false end.to then
-      all = rounds_more content images since moment p before at from a.from end.to r known then g.rounds a.fresh b g.ran goes later shape
+      all : HasRounds disks p at from r (g.rounds ++ b ∷ []) false end.to then
+      all = rounds_more disks p before at from a.from end.to r known then g.rounds a.fresh b g.ran goes later shape
           (left_whole Past m.file.flusher.count (view a.store.pass) (view m.pass) a.store.registrar m.registrar a.from ran end leaves
           a.fresh given_now whole)
 
       -- no new table could be begun
-      pub stops_roll : (disk'' : D) (e : Stopped) → StopsRoll content images since moment disk' m end.to disk'' e
-          → StopsBlock content images since moment d s from given disk'' e
+      pub stops_roll : (disk'' : D) (e : Stopped) → StopsRoll disks disk' m end.to disk'' e
+          → StopsBlock disks d s from given disk'' e
       stops_roll disk'' e k = record {
         rounds = g.rounds ++ b ∷ [];
         cut = None;
@@ -387,7 +380,7 @@ module _
           fresh = false;
           end = end.to;
           cut_by = tt;
-          ran = rounds_end content images since moment p at k.at from end.to r then (g.rounds ++ b ∷ []) false all k.runs k.learns k.end
+          ran = rounds_end disks p at k.at from end.to r then (g.rounds ++ b ∷ []) false all k.runs k.learns k.end
               k.shape;
           whole = λ past sound. commit_well e.why k.named;
         };
@@ -395,31 +388,31 @@ module _
       }
 
       module _ (fresh : Bool) (disk'' : D) (t : Store)
-          (renewed : IsRenewed content images since moment disk' m end.to fresh disk'' t)
+          (renewed : IsRenewed disks disk' m end.to fresh disk'' t)
           (above : fresh ≡ true → m.log.key.number < end.to) where
         abbrev pub q : Point D
         q = point_at disk'' t
 
-        now : HasRounds content images since moment p q from r (g.rounds ++ b ∷ []) fresh end.to (registry_of (view t.pass) t.registrar)
+        now : HasRounds disks p q from r (g.rounds ++ b ∷ []) fresh end.to (registry_of (view t.pass) t.registrar)
         now = by fresh above renewed
           where
-            higher : m.log.key.number < end.to → RollsOn content images since moment disk' m end.to disk'' t
+            higher : m.log.key.number < end.to → RollsOn disks disk' m end.to disk'' t
                 → at.view.about.number < q.view.about.number
             higher less k = subst (λ (n : ℕ). at.view.about.number < n) (sym (ap (λ (z : Key). z.number) k.go.can.of.about ∙ k.number))
                 (subst (λ (z : Key). z.number < end.to) (sym close.of.about) less)
 
-            by : (f : Bool) → (f ≡ true → m.log.key.number < end.to) → IsRenewed content images since moment disk' m end.to f disk'' t
-                → HasRounds content images since moment p q from r (g.rounds ++ b ∷ []) f end.to (registry_of (view t.pass) t.registrar)
-            by false less k = subst (λ (z : D). HasRounds content images since moment p (point_at z t) from r (g.rounds ++ b ∷ []) false
+            by : (f : Bool) → (f ≡ true → m.log.key.number < end.to) → IsRenewed disks disk' m end.to f disk'' t
+                → HasRounds disks p q from r (g.rounds ++ b ∷ []) f end.to (registry_of (view t.pass) t.registrar)
+            by false less k = subst (λ (z : D). HasRounds disks p (point_at z t) from r (g.rounds ++ b ∷ []) false
                 end.to (registry_of (view t.pass) t.registrar)) (sym k.0)
-                (subst (λ (z : Store). HasRounds content images since moment p (point_at disk' z) from r (g.rounds ++ b ∷ []) false end.to
+                (subst (λ (z : Store). HasRounds disks p (point_at disk' z) from r (g.rounds ++ b ∷ []) false end.to
                 (registry_of (view z.pass) z.registrar)) (sym k.1) all)
-            by true less k = rounds_rolled content images since moment p at q from end.to r then (g.rounds ++ b ∷ [])
+            by true less k = rounds_rolled disks p at q from end.to r then (g.rounds ++ b ∷ [])
                 (registry_of (view t.pass) t.registrar) all k.runs k.registry k.unshut k.shape (higher (less refl) k)
 
         -- memory ran out after it
-        pub stops_then : (e : Stopped) → e.store ≡ Some t → e.why ≡ fault.Memory → CanGoOn images disk'' t end.to
-            → StopsBlock content images since moment d s from given disk'' e
+        pub stops_then : (e : Stopped) → e.store ≡ Some t → e.why ≡ fault.Memory → CanGoOn disks.images disk'' t end.to
+            → StopsBlock disks d s from given disk'' e
         stops_then e store why go = record {
           rounds = g.rounds ++ b ∷ [];
           cut = None;
@@ -430,12 +423,12 @@ module _
             at = q;
             disk_is = refl;
             store = subst (λ (z : Option Store). IfSome z (λ x. (q ≡ point_at disk'' x) × CanClose x)) (sym store)
-                (refl, close_of images disk'' t end.to go);
+                (refl, close_of disks.images disk'' t end.to go);
             lost = λ none. why;
             fresh = fresh;
             end = end.to;
             cut_by = tt;
-            ran = rounds_end content images since moment p q q from end.to r (registry_of (view t.pass) t.registrar) (g.rounds ++ b ∷ [])
+            ran = rounds_end disks p q q from end.to r (registry_of (view t.pass) t.registrar) (g.rounds ++ b ∷ [])
                 fresh now (runs_self q) (learns_self (view t.pass)) go.end refl;
             whole = λ past sound. subst IsUndamaged (sym why) tt;
           };
@@ -450,7 +443,7 @@ module _
           renews = renewed_push g.rounds b fresh g.renewed asked
 
           -- the lanes go on
-          pub goes_more : GoesIn content images since moment d s from disk''
+          pub goes_more : GoesIn disks d s from disk''
               (record { store = t; from = end.to; fresh = fresh; bound = end.bound }) lanes' said' given
           goes_more = record {
             rounds = g.rounds ++ b ∷ [];
@@ -469,8 +462,8 @@ module _
           }
 
           -- or came to their ends
-          pub ends_rounds : fresh ≡ false → LeaveNone ran → CanGoOn images disk'' t end.to
-              → EndsRounds content images since moment d s from disk'' t end said' given
+          pub ends_rounds : fresh ≡ false → LeaveNone ran → CanGoOn disks.images disk'' t end.to
+              → EndsRounds disks d s from disk'' t end said' given
           ends_rounds old none go = record {
             go = go;
             rounds = g.rounds ++ b ∷ [];
@@ -478,7 +471,7 @@ module _
             follow = done;
             were = were;
             all = all_push g.rounds b none;
-            ran = subst (λ (f : Bool). HasRounds content images since moment p q from r (g.rounds ++ b ∷ []) f end.to
+            ran = subst (λ (f : Bool). HasRounds disks p q from r (g.rounds ++ b ∷ []) f end.to
                 (registry_of (view t.pass) t.registrar)) old now;
             first = g.begins b refl;
             last = end_push g.rounds b;

@@ -5,6 +5,7 @@ use Rattle.std.proofs.Common.{◌&&◌}
 use Rattle.std.proofs.Math.Decide.{dec_lt}
 use Rattle.std.proofs.lemmas.Bool.{lt-ltb, ltb-true}
 use Rattle.std.specs.Prelude.{nat_lt}
+use Rattle.fish_disk.specs.declared.disk.Disk.{Ghosts as Disks}
 use Rattle.fish_feed.specs.Queues.{AreIdle}
 use Rattle.fish_feed.specs.Works.{Pairs, Triples}
 use Rattle.fish_lanes.proofs.Lists.{some_once}
@@ -213,15 +214,11 @@ fewer_shut s t lanes log back goes some =
 
 -- so it is from round to round, where a new table is begun only if the log ends above the number at which this one begins
 module _
-    {D : Type 0}
-    (content : D → Option (List ℕ))
-    (images : D → List ℕ → Type 0)
-    (since : D → ℕ → List ℕ → Type 0)
-    (moment : D → ℕ)
+    {D : Type 0} (disks : Disks D)
     (disk disk' : D) (s m t : Store) (from to : ℕ) (lanes : List Lane) (log : m.log ≡ s.log) (base : from ≡ m.log.key.number)
     (fits : to < 4294967296) (back : HandsBack (view s.pass) (view m.pass) lanes) (goes : WasShut (view s.pass) → LeaveNone lanes) where
   fewer_by : (some : Bool) → nat_lt from to ≡ some → (some ≡ false → LeaveNone lanes → ⊥)
-      → IsRenewed content images since moment disk m to some disk' t → tables_left t < tables_left s
+      → IsRenewed disks disk m to some disk' t → tables_left t < tables_left s
   fewer_by true more left k =
       let above : from < to = ltb-true from to more in
       let same : m.log.key.number ≡ s.log.key.number = ap (λ (l : Log). l.key.number) log in
@@ -231,7 +228,7 @@ module _
       (fewer_shut s m lanes log back goes (left refl))
 
   pub fewer_tables : (more : Bool) → (more ≡ true → nat_lt from to ≡ false → LeaveNone lanes → ⊥)
-      → IsRenewed content images since moment disk m to (more && nat_lt from to) disk' t → more ≡ true → tables_left t < tables_left s
+      → IsRenewed disks disk m to (more && nat_lt from to) disk' t → more ≡ true → tables_left t < tables_left s
   fewer_tables false left k is = absurd cc
   fewer_tables true left k is = fewer_by (nat_lt from to) refl (left refl) k
 

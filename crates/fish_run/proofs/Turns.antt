@@ -2,6 +2,7 @@
 use Rattle.std.proofs.Common.{◌≡◌, ℕ, ◌<◌, ◌≤◌, List, [], ◌∷◌, ◌++◌, refl, sym, ap, ◌∙◌, subst, inl, inr, ⊎_elim}
 use Rattle.std.proofs.Common.{Bool, None, Option, Some, false, true, append_assoc}
 use Rattle.std.specs.Prelude.{IsSome}
+use Rattle.fish_disk.specs.declared.disk.Disk.{Ghosts as Disks}
 use Rattle.fish_lanes.specs.Ending.{HasEnd}
 use Rattle.fish_lanes.specs.Outcome.{IsFullIn}
 use Rattle.fish_lanes.specs.Registering.{Registry}
@@ -120,17 +121,13 @@ acknowledged_later : (count more : ℕ) (rounds : List Round) → count ≤ more
 acknowledged_later count more rounds rises h b among = committed_later count more (first_items b.lanes) rises (h b among)
 
 module _
-    {D : Type 0}
-    (content : D → Option (List ℕ))
-    (images : D → List ℕ → Type 0)
-    (since : D → ℕ → List ℕ → Type 0)
-    (moment : D → ℕ) where
+    {D : Type 0} (disks : Disks D) where
   -- ---- moments
 
   -- what goes on in one table, and what is told after every past
-  pub runs_step : (p q : Point D) (P : Whole → Type 0) → GoesOnHere content images since moment p q → Later p.view q.view
-      → ((past : Whole) → IsSoundBehind content images p (content q.disk) past → WillHold past q.view P)
-      → Runs content images since moment p q P
+  pub runs_step : (p q : Point D) (P : Whole → Type 0) → GoesOnHere disks p q → Later p.view q.view
+      → ((past : Whole) → IsSoundBehind disks p (disks.content q.disk) past → WillHold past q.view P)
+      → Runs disks p q P
   runs_step p q P h later told = record {
     told_before = h.told_before;
     rises = h.rises;
@@ -144,14 +141,14 @@ module _
   }
 
   -- the moment itself
-  pub runs_self : (p : Point D) (P : Whole → Type 0) → GoesOnHere content images since moment p p → Later p.view p.view
-      → ((w : Whole) → P w) → Runs content images since moment p p P
+  pub runs_self : (p : Point D) (P : Whole → Type 0) → GoesOnHere disks p p → Later p.view p.view
+      → ((w : Whole) → P w) → Runs disks p p P
   runs_self p P h later all = runs_step p p P h later (λ past s w may. all w)
 
   -- after a past it is sound at a later moment too, after another
-  pub behind_next : (p m : Point D) (P : Whole → Type 0) (later : Option (List ℕ)) → Runs content images since moment p m P
-      → (IsSome later → IsSome (content m.disk)) → (past : Whole) → IsSoundBehind content images p later past
-      → (next : Whole) × IsSoundBehind content images m later next
+  pub behind_next : (p m : Point D) (P : Whole → Type 0) (later : Option (List ℕ)) → Runs disks p m P
+      → (IsSome later → IsSome (disks.content m.disk)) → (past : Whole) → IsSoundBehind disks p later past
+      → (next : Whole) × IsSoundBehind disks m later next
   behind_next p m P later a told past s =
       let r = a.reaches past s.sound (told s.told) in
       (r.next, record { sound = r.sound; told = s.told })
@@ -159,8 +156,8 @@ module _
   -- ---- rounds
 
   -- none ran
-  pub rounds_none : (p : Point D) (from : ℕ) (r : Registry) → GoesOnHere content images since moment p p → Later p.view p.view
-      → HasRounds content images since moment p p from r [] false from r
+  pub rounds_none : (p : Point D) (from : ℕ) (r : Registry) → GoesOnHere disks p p → Later p.view p.view
+      → HasRounds disks p p from r [] false from r
   rounds_none p from r h later = record {
     runs = runs_self p (λ w. SaysRounds w from r [] from) h later (λ w. refl);
     after = refl;
@@ -173,7 +170,7 @@ module _
   }
 
   module _ (p m q : Point D) (from mid to : ℕ) (r s t : Registry) (rounds : List Round) (fresh : Bool) (b : Round)
-      (h : HasRounds content images since moment p m from r rounds fresh mid s) (goes : GoesOnHere content images since moment m q)
+      (h : HasRounds disks p m from r rounds fresh mid s) (goes : GoesOnHere disks m q)
       (later : Later m.view q.view) (shape : q.shape ≡ m.shape) where
     -- one more tells of what it began with
     began : b.fresh ≡ fresh → b.span.from ≡ mid → s ≡ begun_for b (after_rounds r rounds)
@@ -184,10 +181,10 @@ module _
     acknowledged = acknowledged_later m.flusher.count q.flusher.count rounds goes.rises h.committed
 
     -- one more ran
-    pub rounds_more : HasRunOne (IsSoundBehind content images m (content q.disk)) q.flusher.count fresh m.view.shut q.view s t mid to b
-        → HasRounds content images since moment p q from r (rounds ++ b ∷ []) false to t
+    pub rounds_more : HasRunOne (IsSoundBehind disks m (disks.content q.disk)) q.flusher.count fresh m.view.shut q.view s t mid to b
+        → HasRounds disks p q from r (rounds ++ b ∷ []) false to t
     rounds_more one = record {
-      runs = runs_both content images since moment p m q (λ w. SaysRounds w from r rounds mid) (λ w. SaysOne w mid s b)
+      runs = runs_both disks p m q (λ w. SaysRounds w from r rounds mid) (λ w. SaysOne w mid s b)
           (λ w. SaysRounds w from r (rounds ++ b ∷ []) to)
           (λ w before now. subst (SaysRounds w from r (rounds ++ b ∷ [])) one.ends
           (says_push w from mid r rounds b one.begins before
@@ -197,7 +194,7 @@ module _
       committed = committed_more q.flusher.count rounds b acknowledged one.committed;
       fulls = λ before full. since_push before rounds b (h.fulls before full) (found before full);
       full = λ before full. subst (λ (z : List Round). HasFoundFull z q.view.shut) (sym (last_push before rounds b))
-          (full_push (IsSoundBehind content images m (content q.disk)) q.flusher.count fresh m.view.shut q.view s t mid to
+          (full_push (IsSoundBehind disks m (disks.content q.disk)) q.flusher.count fresh m.view.shut q.view s t mid to
           (in_table b.fresh (last_table before rounds)) b (table before full) one);
       marks = λ before marked. subst (AreMarked q.view) (sym (last_push before rounds b))
           (marks_more q.view (in_table b.fresh (last_table before rounds)) b
@@ -219,10 +216,10 @@ module _
             subst (HasFoundFull (in_table b.fresh (last_table before rounds))) (sym one.full_is) (table before full)
 
     -- and one more was cut
-    pub rounds_cut : HasCutOne (IsSoundBehind content images m (content q.disk)) q.flusher.count fresh m.view.shut q.view s mid to b
-        → HasEnd q.view to → HasRunFirst content images since moment p q from r rounds fresh (Some b) to
+    pub rounds_cut : HasCutOne (IsSoundBehind disks m (disks.content q.disk)) q.flusher.count fresh m.view.shut q.view s mid to b
+        → HasEnd q.view to → HasRunFirst disks p q from r rounds fresh (Some b) to
     rounds_cut one ends = record {
-      runs = runs_both content images since moment p m q (λ w. SaysRounds w from r rounds mid) (λ w. SaysCut w mid s b)
+      runs = runs_both disks p m q (λ w. SaysRounds w from r rounds mid) (λ w. SaysCut w mid s b)
           (λ w. SaysFirst w from r rounds (Some b) to)
           (λ w before now. record {
             to = mid;
@@ -246,12 +243,12 @@ module _
 
   module _ (p m q : Point D) (from mid : ℕ) (r s : Registry) (rounds : List Round) where
     -- a new table was begun after them
-    pub rounds_rolled : (t : Registry) → HasRounds content images since moment p m from r rounds false mid s
-        → Runs content images since moment m q (λ w. Unit {0}) → t ≡ begun true mid s → q.view.shut ≡ None
+    pub rounds_rolled : (t : Registry) → HasRounds disks p m from r rounds false mid s
+        → Runs disks m q (λ w. Unit {0}) → t ≡ begun true mid s → q.view.shut ≡ None
         → q.shape ≡ m.shape → m.view.about.number < q.view.about.number
-        → HasRounds content images since moment p q from r rounds true mid t
+        → HasRounds disks p q from r rounds true mid t
     rounds_rolled t h runs is unshut shape higher = record {
-      runs = runs_both content images since moment p m q (λ w. SaysRounds w from r rounds mid) (λ w. Unit {0})
+      runs = runs_both disks p m q (λ w. SaysRounds w from r rounds mid) (λ w. Unit {0})
           (λ w. SaysRounds w from r rounds mid) (λ w before now. before) h.runs runs;
       after = is ∙ ap (begun true mid) h.after;
       committed = acknowledged_later m.flusher.count q.flusher.count rounds runs.rises h.committed;
@@ -263,11 +260,11 @@ module _
     }
 
     -- they ended the run, which goes on in the same table at most
-    pub rounds_end : (fresh : Bool) → HasRounds content images since moment p m from r rounds fresh mid s
-        → Runs content images since moment m q (λ w. Unit {0}) → Learns m.view q.view → HasEnd q.view mid → q.shape ≡ m.shape
-        → HasRunFirst content images since moment p q from r rounds fresh None mid
+    pub rounds_end : (fresh : Bool) → HasRounds disks p m from r rounds fresh mid s
+        → Runs disks m q (λ w. Unit {0}) → Learns m.view q.view → HasEnd q.view mid → q.shape ≡ m.shape
+        → HasRunFirst disks p q from r rounds fresh None mid
     rounds_end fresh h runs learns ends shape = record {
-      runs = runs_both content images since moment p m q (λ w. SaysRounds w from r rounds mid) (λ w. Unit {0})
+      runs = runs_both disks p m q (λ w. SaysRounds w from r rounds mid) (λ w. Unit {0})
           (λ w. SaysFirst w from r rounds None mid) (λ w before now. record { to = mid; whole = before; rest = refl }) h.runs runs;
       committed = acknowledged_later m.flusher.count q.flusher.count rounds runs.rises h.committed;
       fulls = h.fulls;
@@ -279,11 +276,11 @@ module _
 
   -- what the first ones tell they tell later, where the store goes on in the same table at most
   pub first_on : (p m q : Point D) (from to : ℕ) (r : Registry) (rounds : List Round) (fresh : Bool) (cut : Option Round)
-      → HasRunFirst content images since moment p m from r rounds fresh cut to → Runs content images since moment m q (λ w. Unit {0})
+      → HasRunFirst disks p m from r rounds fresh cut to → Runs disks m q (λ w. Unit {0})
       → Learns m.view q.view → HasEnd q.view to → q.shape ≡ m.shape
-      → HasRunFirst content images since moment p q from r rounds fresh cut to
+      → HasRunFirst disks p q from r rounds fresh cut to
   first_on p m q from to r rounds fresh cut h runs learns ends shape = record {
-    runs = runs_both content images since moment p m q (λ w. SaysFirst w from r rounds cut to) (λ w. Unit {0})
+    runs = runs_both disks p m q (λ w. SaysFirst w from r rounds cut to) (λ w. Unit {0})
         (λ w. SaysFirst w from r rounds cut to) (λ w before now. before) h.runs runs;
     committed = acknowledged_later m.flusher.count q.flusher.count (with_cut rounds cut) runs.rises h.committed;
     fulls = h.fulls;
@@ -294,12 +291,12 @@ module _
   }
 
   module _ (p m q : Point D) (from mid to : ℕ) (r s t : Registry) (rounds more : List Round)
-      (h : HasRounds content images since moment p m from r rounds false mid s) where
+      (h : HasRounds disks p m from r rounds false mid s) where
     -- other rounds after them
-    pub rounds_both : (fresh : Bool) → HasRounds content images since moment m q mid s more fresh to t
-        → HasRounds content images since moment p q from r (rounds ++ more) fresh to t
+    pub rounds_both : (fresh : Bool) → HasRounds disks m q mid s more fresh to t
+        → HasRounds disks p q from r (rounds ++ more) fresh to t
     rounds_both fresh k = record {
-      runs = runs_both content images since moment p m q (λ w. SaysRounds w from r rounds mid) (λ w. SaysRounds w mid s more to)
+      runs = runs_both disks p m q (λ w. SaysRounds w from r rounds mid) (λ w. SaysRounds w mid s more to)
           (λ w. SaysRounds w from r (rounds ++ more) to)
           (λ w before now. says_join w from mid to r rounds more before
           (subst (λ (z : Registry). SaysRounds w mid z more to) h.after now)) h.runs k.runs;
@@ -316,10 +313,10 @@ module _
     }
 
     -- and others, of which one was cut perhaps
-    pub rounds_first : (fresh : Bool) (cut : Option Round) → HasRunFirst content images since moment m q mid s more fresh cut to
-        → HasRunFirst content images since moment p q from r (rounds ++ more) fresh cut to
+    pub rounds_first : (fresh : Bool) (cut : Option Round) → HasRunFirst disks m q mid s more fresh cut to
+        → HasRunFirst disks p q from r (rounds ++ more) fresh cut to
     rounds_first fresh cut k = record {
-      runs = runs_both content images since moment p m q (λ w. SaysRounds w from r rounds mid) (λ w. SaysFirst w mid s more cut to)
+      runs = runs_both disks p m q (λ w. SaysRounds w from r rounds mid) (λ w. SaysFirst w mid s more cut to)
           (λ w. SaysFirst w from r (rounds ++ more) cut to)
           (λ w before now. record {
             to = now.to;

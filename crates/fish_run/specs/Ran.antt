@@ -3,6 +3,7 @@ use Rattle.std.specs.Prelude.{ℕ, ◌≡◌, ◌+◌, ◌≤◌, List, [], ◌�
 use Rattle.fish_catalog.specs.Clamps.{clamped}
 use Rattle.fish_catalog.specs.declared.commit.Commit.{Commit}
 use Rattle.fish_catalog.specs.declared.entry.Entry.{Entry}
+use Rattle.fish_disk.specs.declared.disk.Disk.{Ghosts as Disks}
 use Rattle.fish_feed.specs.Works.{AreDone, Pairs}
 use Rattle.fish_image.specs.Stands.{Stands}
 use Rattle.fish_outside.specs.Content.{Files, Gained, GainedPart}
@@ -42,16 +43,12 @@ AreNextOf told text many (a ∷ rounds) = (s : script.Block) × (slice_get text 
 
 -- the store was opened of a disk that stood for this log by this commit, since the moment a crash had left nothing else, and the content
 -- of the disk is told in the end
-pub record StoodFor {D : Type 0}
-    (content : D → Option (List ℕ))
-    (images : D → List ℕ → Type 0)
-    (since : D → ℕ → List ℕ → Type 0)
-    (moment : D → ℕ)
-    (disk disk' : D) (o : Opened) (c : Commit) (log : List Entry) (t : ℕ) : Type 0 where
-  pub is : IsOpened (content disk) (images disk) c log o
-  pub early : t ≤ moment disk
-  pub stood : (i : List ℕ) → since disk t i → Stands c i log
-  pub told : IsSome (content disk')
+pub record StoodFor {D : Type 0} (disks : Disks D) (disk disk' : D) (o : Opened) (c : Commit) (log : List Entry) (t : ℕ)
+    : Type 0 where
+  pub is : IsOpened (disks.content disk) (disks.images disk) c log o
+  pub early : t ≤ disks.moment disk
+  pub stood : (i : List ℕ) → disks.since disk t i → Stands c i log
+  pub told : IsSome (disks.content disk')
 
 -- all that is told is so of a whole log that begins with the one for which the disk stood, and ends with what is left; what a crash
 -- leaves now is a part of it that has the last commit's entries, and no checkpoint that was told has more, and all of it where the run
@@ -83,21 +80,16 @@ entries_of remains = remains.base + length remains.log
 -- a run that came to its end: each block of the script ran; where a round found the table full, a new one was begun after it, but near
 -- the limits of a log; the text of their items, and that the log was closed, was written; refusals of a full log agree, what is left is
 -- that of a closed log, and it has its buckets; and the disk keeps all of the log
-pub record IsWhole {D : Type 0}
-    (content : D → Option (List ℕ))
-    (images : D → List ℕ → Type 0)
-    (since : D → ℕ → List ℕ → Type 0)
-    (moment : D → ℕ)
-    (disk disk' : D) (o : Opened) (told : Option Files) (text : List script.Block) (remains : Remains) (old new : Option (List ℕ))
-    (refused : Bool) : Type 0 where
+pub record IsWhole {D : Type 0} (disks : Disks D) (disk disk' : D) (o : Opened) (told : Option Files)
+    (text : List script.Block) (remains : Remains) (old new : Option (List ℕ)) (refused : Bool) : Type 0 where
   pub blocks : List Block
   pub are : Pairs (IsBlockOf told) text blocks
   pub renewed : AreRenewed (rounds_of blocks) false
   pub last : LastTable o remains false (rounds_of blocks) None
   pub written : Gained old new (report_text (whole_report (opened_item o) blocks (entries_of remains)))
   pub refused_is : refused ≡ are_refused blocks
-  pub keeps : (c : Commit) (log : List Entry) (t : ℕ) → StoodFor content images since moment disk disk' o c log t
-      → Keeps (images disk') (since disk' t) c log true (rounds_of blocks) None remains
+  pub keeps : (c : Commit) (log : List Entry) (t : ℕ) → StoodFor disks disk disk' o c log t
+      → Keeps (disks.images disk') (disks.since disk' t) c log true (rounds_of blocks) None remains
 
 -- a first part was written of the report of blocks; or, where the run had come to its end, and they are the whole script, of one that
 -- goes on with that
@@ -109,13 +101,9 @@ WritesPart true first told text count old new blocks =
 -- a run that a fault stopped: the first blocks ran, and perhaps the first rounds of one more, in the last of which a lane stopped at the
 -- fault, but for one of a file that couldn't be read; what is left is that of a closed log; a first part of the report was written,
 -- without the cut block, and all of it where it was a file; refusals are those of the blocks; and the disk keeps what was committed
-pub record IsStopped {D : Type 0}
-    (content : D → Option (List ℕ))
-    (images : D → List ℕ → Type 0)
-    (since : D → ℕ → List ℕ → Type 0)
-    (moment : D → ℕ)
-    (disk disk' : D) (o : Opened) (told : Option Files) (text : List script.Block) (remains : Remains) (old new : Option (List ℕ))
-    (refused : Bool) (why : RunFault) : Type 0 where
+pub record IsStopped {D : Type 0} (disks : Disks D) (disk disk' : D) (o : Opened) (told : Option Files)
+    (text : List script.Block) (remains : Remains) (old new : Option (List ℕ)) (refused : Bool) (why : RunFault)
+    : Type 0 where
   pub blocks : List Block
   pub part : List Round
   pub cut : Option Round
@@ -129,18 +117,13 @@ pub record IsStopped {D : Type 0}
   pub written : WritesPart ended (opened_item o) told text (entries_of remains) old new blocks
   pub refused_is : refused ≡ are_refused blocks
   pub input : why ≡ fault.Input → (cut ≡ None) × Gained old new (report_text (report_of (opened_item o) blocks))
-  pub keeps : (c : Commit) (log : List Entry) (t : ℕ) → StoodFor content images since moment disk disk' o c log t
-      → Keeps (images disk') (since disk' t) c log ended (rounds_of blocks ++ part) cut remains
+  pub keeps : (c : Commit) (log : List Entry) (t : ℕ) → StoodFor disks disk disk' o c log t
+      → Keeps (disks.images disk') (disks.since disk' t) c log ended (rounds_of blocks ++ part) cut remains
 
 -- a run whose log couldn't be shown, since memory ran out: the first blocks ran, and perhaps one more, which was cut; a first part of the
 -- report of the blocks was written; and the disk keeps what was committed
-pub record IsLost {D : Type 0}
-    (content : D → Option (List ℕ))
-    (images : D → List ℕ → Type 0)
-    (since : D → ℕ → List ℕ → Type 0)
-    (moment : D → ℕ)
-    (disk disk' : D) (o : Opened) (told : Option Files) (text : List script.Block) (old new : Option (List ℕ))
-    (refused : Bool) : Type 0 where
+pub record IsLost {D : Type 0} (disks : Disks D) (disk disk' : D) (o : Opened) (told : Option Files)
+    (text : List script.Block) (old new : Option (List ℕ)) (refused : Bool) : Type 0 where
   pub blocks : List Block
   pub part : List Round
   pub cut : Option Round
@@ -148,5 +131,5 @@ pub record IsLost {D : Type 0}
   pub next : AreNextOf told text (length blocks) (with_cut part cut)
   pub written : GainedPart old new (report_text (report_of (opened_item o) blocks))
   pub refused_is : refused ≡ are_refused blocks
-  pub keeps : (c : Commit) (log : List Entry) (t : ℕ) → StoodFor content images since moment disk disk' o c log t
-      → StillKeeps (images disk') (since disk' t) log (rounds_of blocks ++ part) cut
+  pub keeps : (c : Commit) (log : List Entry) (t : ℕ) → StoodFor disks disk disk' o c log t
+      → StillKeeps (disks.images disk') (disks.since disk' t) log (rounds_of blocks ++ part) cut

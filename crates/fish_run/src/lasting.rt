@@ -37,8 +37,7 @@ pub(crate) fn commit<D: Disk>(
     ensures registrar { store.new.registrar ≡ store.old.registrar }
     ensures close { CanClose store.new }
     ensures later { Later (view store.old.pass) (view store.new.pass) }
-    ensures goes { GoesOnHere D.content D.images D.since D.moment (point_at disk.old store.old) (point_at disk.new
-        store.new) }
+    ensures goes { GoesOnHere D.Disk (point_at disk.old store.old) (point_at disk.new store.new) }
     ensures end { (to : ℕ) → HasEnd (view store.old.pass) to → HasEnd (view store.new.pass) to }
     ensures all { OnOk result (HasEnd (view store.new.pass) store.new.file.flusher.count) }
     ensures reads { Reads (view store.old.pass) (view store.new.pass) }
@@ -62,8 +61,8 @@ pub(crate) fn roll_on<D: Disk>(
     disk: &mut D,
 ) -> Result<Store, Stopped>
     requires go { CanGoOn D.images disk.old store from }
-    ensures rolled { IfOk result (RollsOn D.content D.images D.since D.moment disk.old store from disk.new) }
-    ensures stopped { IfErr result (StopsRoll D.content D.images D.since D.moment disk.old store from disk.new) }
+    ensures rolled { IfOk result (RollsOn D.Disk disk.old store from disk.new) }
+    ensures stopped { IfErr result (StopsRoll D.Disk disk.old store from disk.new) }
     ensures rises { D.faults disk.old ≤ D.faults disk.new }
     ensures disk { IfErr result (λ s. s.why ≡ RunFault.Disk → Rose (D.faults disk.old) (D.faults disk.new)) }
 {

@@ -48,10 +48,8 @@ where
     requires few { length texts.now ≤ 16 }
     requires runnable { AllRunnable texts.now }
     requires free { AllFree texts.now }
-    ensures ended { IfOk result (EndsLanes D.content D.images D.since D.moment disk.old store from texts.now disk.new
-        (H.files host.new)) }
-    ensures stopped { IfErr result (StopsLanes D.content D.images D.since D.moment disk.old store from texts.now disk.new
-        (H.files host.new)) }
+    ensures ended { IfOk result (EndsLanes D.Disk disk.old store from texts.now disk.new (H.files host.new)) }
+    ensures stopped { IfErr result (StopsLanes D.Disk disk.old store from texts.now disk.new (H.files host.new)) }
     ensures content { SameFiles (H.files host.old) (H.files host.new) }
     ensures inner { IfErr result (λ s. s.why ≢ RunFault.Output) }
     ensures later { H.faults host.old ≤ H.faults host.new }
@@ -100,10 +98,10 @@ where
     requires some { 1 ≤ length queues.old }
     requires few { length queues.old ≤ 16 }
     requires fit { AreFit H.Feed.faults true queues.old }
-    ensures ended { IfOk result (EndsBlock D.content D.images D.since D.moment disk.old store from H.Feed.left
-        (H.files host.old) queues.old disk.new (H.files host.new)) }
-    ensures stopped { IfErr result (StopsParts D.content D.images D.since D.moment disk.old store from H.Feed.left
-        (H.files host.old) queues.old disk.new (H.files host.new) queues.new) }
+    ensures ended { IfOk result (EndsBlock D.Disk disk.old store from H.Feed.left (H.files host.old) queues.old disk.new
+        (H.files host.new)) }
+    ensures stopped { IfErr result (StopsParts D.Disk disk.old store from H.Feed.left (H.files host.old) queues.old
+        disk.new (H.files host.new) queues.new) }
     ensures content { SameFiles (H.files host.old) (H.files host.new) }
     ensures inner { IfErr result (λ s. s.why ≢ RunFault.Output) }
     ensures later { H.faults host.old ≤ H.faults host.new }
@@ -163,10 +161,10 @@ where
     requires many { length lanes.old ≡ length queues.old }
     requires said { said.old ≡ nothing_said lanes.old }
     requires fit { AreFit H.Feed.faults true queues.old }
-    ensures ended { IfOk result (λ t. EndsParts D.content D.images D.since D.moment disk.old store from H.Feed.left
-        (H.files host.old) queues.old disk.new (H.files host.new) t.next.store t.end said.new) }
-    ensures stopped { IfErr result (StopsParts D.content D.images D.since D.moment disk.old store from H.Feed.left
-        (H.files host.old) queues.old disk.new (H.files host.new) queues.new) }
+    ensures ended { IfOk result (λ t. EndsParts D.Disk disk.old store from H.Feed.left (H.files host.old) queues.old
+        disk.new (H.files host.new) t.next.store t.end said.new) }
+    ensures stopped { IfErr result (StopsParts D.Disk disk.old store from H.Feed.left (H.files host.old) queues.old
+        disk.new (H.files host.new) queues.new) }
     ensures content { SameFiles (H.files host.old) (H.files host.new) }
     ensures inner { IfErr result (λ s. s.why ≢ RunFault.Output) }
     ensures later { H.faults host.old ≤ H.faults host.new }

@@ -69,9 +69,8 @@ pub(crate) fn run_turns<R: Threads + Sync, D: Disk + Send, G: Gate + Sync>(
     requires go { CanGoOn D.images disk.old start.store start.from }
     requires lanes { AreLanes lanes.old }
     requires many { length lanes.old ≡ length said.old }
-    ensures on { IfOk result (TurnsAll D.content D.images D.since D.moment disk.old start lanes.old said.old disk.new
-        lanes.new said.new) }
-    ensures stopped { IfErr result (StopsTurn D.content D.images D.since D.moment disk.old start lanes.old said.old disk.new) }
+    ensures on { IfOk result (TurnsAll D.Disk disk.old start lanes.old said.old disk.new lanes.new said.new) }
+    ensures stopped { IfErr result (StopsTurn D.Disk disk.old start lanes.old said.old disk.new) }
     ensures inner { IfErr result (λ s. (s.why ≢ RunFault.Input) × (s.why ≢ RunFault.Output)) }
     ensures rises { D.faults disk.old ≤ D.faults disk.new }
     ensures disk { IfErr result (λ s. s.why ≡ RunFault.Disk → Rose (D.faults disk.old) (D.faults disk.new)) }
@@ -101,9 +100,8 @@ fn run_turn<R: Threads + Sync, D: Disk + Send, G: Gate + Sync>(
     requires go { CanGoOn D.images disk.old start.store start.from }
     requires lanes { AreLanes lanes.old }
     requires many { length lanes.old ≡ length said.old }
-    ensures on { IfOk result (TurnsOn D.content D.images D.since D.moment disk.old start lanes.old said.old disk.new
-        lanes.new said.new) }
-    ensures stopped { IfErr result (StopsTurn D.content D.images D.since D.moment disk.old start lanes.old said.old disk.new) }
+    ensures on { IfOk result (TurnsOn D.Disk disk.old start lanes.old said.old disk.new lanes.new said.new) }
+    ensures stopped { IfErr result (StopsTurn D.Disk disk.old start lanes.old said.old disk.new) }
     ensures inner { IfErr result (λ s. (s.why ≢ RunFault.Input) × (s.why ≢ RunFault.Output)) }
     ensures rises { D.faults disk.old ≤ D.faults disk.new }
     ensures disk { IfErr result (λ s. s.why ≡ RunFault.Disk → Rose (D.faults disk.old) (D.faults disk.new)) }
@@ -158,8 +156,8 @@ fn renew<D: Disk>(
     disk: &mut D,
 ) -> Result<Store, Stopped>
     requires go { CanGoOn D.images disk.old store from }
-    ensures next { IfOk result (IsRenewed D.content D.images D.since D.moment disk.old store from fresh disk.new) }
-    ensures stopped { IfErr result (StopsRoll D.content D.images D.since D.moment disk.old store from disk.new) }
+    ensures next { IfOk result (IsRenewed D.Disk disk.old store from fresh disk.new) }
+    ensures stopped { IfErr result (StopsRoll D.Disk disk.old store from disk.new) }
     ensures rises { D.faults disk.old ≤ D.faults disk.new }
     ensures disk { IfErr result (λ s. s.why ≡ RunFault.Disk → Rose (D.faults disk.old) (D.faults disk.new)) }
 {
@@ -193,12 +191,12 @@ fn run_round<R: Threads + Sync, D: Disk + Send, G: Gate + Sync>(
 ) -> BlockEnd
     requires go { CanGoOn D.images disk.old store.old from }
     requires lanes { AreLanes lanes.old }
-    ensures store { LeavesStore D.content D.images D.since D.moment disk.old store.old disk.new store.new lanes.new result }
-    ensures lanes { LeavesLanes (Behind D.content D.images disk.old store.old disk.new) (D.faults disk.old)
-        (D.faults disk.new) (view store.old.pass) (view store.new.pass) lanes.old lanes.new }
+    ensures store { LeavesStore D.Disk disk.old store.old disk.new store.new lanes.new result }
+    ensures lanes { LeavesLanes (Behind D.Disk disk.old store.old disk.new) (D.faults disk.old) (D.faults disk.new)
+        (view store.old.pass) (view store.new.pass) lanes.old lanes.new }
     ensures close { CanClose store.new }
     ensures go { AreWhole lanes.new → CanGoOn D.images disk.new store.new result.to }
-    ensures leaves { Leaves (Behind D.content D.images disk.old store.old disk.new) store.new.file.flusher.count
+    ensures leaves { Leaves (Behind D.Disk disk.old store.old disk.new) store.new.file.flusher.count
         (view store.old.pass) (view store.new.pass) store.old.registrar store.new.registrar from lanes.new result }
     ensures rises { D.faults disk.old ≤ D.faults disk.new }
 {

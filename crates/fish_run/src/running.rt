@@ -85,15 +85,13 @@ where
     requires opened { (c : Commit) × (log : List Entry)
         × IsOpened (D.content disk.old) (D.images disk.old) c log opened }
     requires script { CanRun script.now }
-    ensures whole { result.fault ≡ None → (r : Remains) × (result.remains ≡ Some r)
-        × IsWhole D.content D.images D.since D.moment disk.old disk.new opened (H.files host.new) script.now r
-        (W.written out.old) (W.written out.new) result.refused }
+    ensures whole { result.fault ≡ None → (r : Remains) × (result.remains ≡ Some r) × IsWhole D.Disk disk.old disk.new
+        opened (H.files host.new) script.now r (W.written out.old) (W.written out.new) result.refused }
     ensures stopped { (why : Why) → result.fault ≡ Some why → (r : Remains) → result.remains ≡ Some r
-        → IsStopped D.content D.images D.since D.moment disk.old disk.new opened (H.files host.new) script.now r
-        (W.written out.old) (W.written out.new) result.refused why }
-    ensures lost { result.remains ≡ None → (result.fault ≡ Some RunFault.Memory)
-        × IsLost D.content D.images D.since D.moment disk.old disk.new opened (H.files host.new) script.now
-        (W.written out.old) (W.written out.new) result.refused }
+        → IsStopped D.Disk disk.old disk.new opened (H.files host.new) script.now r (W.written out.old)
+        (W.written out.new) result.refused why }
+    ensures lost { result.remains ≡ None → (result.fault ≡ Some RunFault.Memory) × IsLost D.Disk disk.old disk.new
+        opened (H.files host.new) script.now (W.written out.old) (W.written out.new) result.refused }
     ensures content { SameFiles (H.files host.old) (H.files host.new) }
     ensures before { IsSome (D.content disk.new) → IsSome (D.content disk.old) }
     ensures input { result.fault ≡ Some RunFault.Input → Rose (H.faults host.old) (H.faults host.new) }
@@ -216,11 +214,10 @@ where
     requires count { count ≡ store.log.key.number }
     requires script { CanRun script.now }
     requires accepted { refused.old ≡ false }
-    ensures all { IfOk result (EndsRun D.content D.images D.since D.moment disk.old disk.new store count
-        (first_item made count) (H.files host.new) script.now (W.written out.old) (W.written out.new) refused.new
-        true) }
-    ensures some { IfErr result (StopsRun D.content D.images D.since D.moment disk.old disk.new store count
-        (first_item made count) (H.files host.new) script.now (W.written out.old) (W.written out.new) refused.new) }
+    ensures all { IfOk result (EndsRun D.Disk disk.old disk.new store count (first_item made count) (H.files host.new)
+        script.now (W.written out.old) (W.written out.new) refused.new true) }
+    ensures some { IfErr result (StopsRun D.Disk disk.old disk.new store count (first_item made count)
+        (H.files host.new) script.now (W.written out.old) (W.written out.new) refused.new) }
     ensures content { SameFiles (H.files host.old) (H.files host.new) }
     ensures later { AreLater (counts_of H.faults W.faults D.faults host.old out.old disk.old)
         (counts_of H.faults W.faults D.faults host.new out.new disk.new) }
@@ -260,11 +257,10 @@ where
     requires count { count ≡ store.log.key.number }
     requires script { CanRun script.now }
     requires accepted { refused.old ≡ false }
-    ensures all { IfOk result (EndsRun D.content D.images D.since D.moment disk.old disk.new store count
-        (first_item made count) (H.files host.new) script.now (W.written out.old) (W.written out.new) refused.new
-        false) }
-    ensures some { IfErr result (StopsRun D.content D.images D.since D.moment disk.old disk.new store count
-        (first_item made count) (H.files host.new) script.now (W.written out.old) (W.written out.new) refused.new) }
+    ensures all { IfOk result (EndsRun D.Disk disk.old disk.new store count (first_item made count) (H.files host.new)
+        script.now (W.written out.old) (W.written out.new) refused.new false) }
+    ensures some { IfErr result (StopsRun D.Disk disk.old disk.new store count (first_item made count)
+        (H.files host.new) script.now (W.written out.old) (W.written out.new) refused.new) }
     ensures content { SameFiles (H.files host.old) (H.files host.new) }
     ensures later { AreLater (counts_of H.faults W.faults D.faults host.old out.old disk.old)
         (counts_of H.faults W.faults D.faults host.new out.new disk.new) }
@@ -309,10 +305,10 @@ where
     H::Feed: Drop,
     requires go { CanGoOn D.images disk.old lasts.store lasts.count }
     requires block { IsRunnableBlock block.now }
-    ensures ended { IfOk result (EndsOne D.content D.images D.since D.moment disk.old disk.new lasts (H.files host.new)
-        block.now (W.written out.old) (W.written out.new) refused.old refused.new) }
-    ensures stopped { IfErr result (StopsOne D.content D.images D.since D.moment disk.old disk.new lasts
-        (H.files host.new) block.now (W.written out.old) (W.written out.new) refused.old refused.new) }
+    ensures ended { IfOk result (EndsOne D.Disk disk.old disk.new lasts (H.files host.new) block.now (W.written out.old)
+        (W.written out.new) refused.old refused.new) }
+    ensures stopped { IfErr result (StopsOne D.Disk disk.old disk.new lasts (H.files host.new) block.now
+        (W.written out.old) (W.written out.new) refused.old refused.new) }
     ensures content { SameFiles (H.files host.old) (H.files host.new) }
     ensures later { AreLater (counts_of H.faults W.faults D.faults host.old out.old disk.old)
         (counts_of H.faults W.faults D.faults host.new out.new disk.new) }

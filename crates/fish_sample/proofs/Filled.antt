@@ -1,12 +1,13 @@
 -- The blocks of a sample, one after the other.
 use Rattle.std.proofs.Common.{◌≡◌, ℕ, ◌+◌, ◌-◌, ◌^◌, ◌<◌, zero, suc, List, [], ◌∷◌, ◌++◌, length, map, refl, sym, ap, ◌∙◌, subst}
 use Rattle.std.proofs.Common.{arith}
-use Rattle.std.proofs.Common.{Bool, true, Option, Some, slice_get}
+use Rattle.std.proofs.Common.{Bool, true, Some, slice_get}
 use Rattle.std.specs.Prelude.{codes}
 use Rattle.std.specs.List.{AllByRecursion, list_all}
 use Rattle.fish_catalog.specs.Listing.{listed_of}
 use Rattle.fish_catalog.specs.declared.entry.Entry.{Entry}
 use Rattle.fish_catalog.specs.declared.row.CatRow.{CatRow}
+use Rattle.fish_disk.specs.declared.disk.Disk.{Ghosts as Disks}
 use Rattle.fish_lang.specs.Canonical.{definition_text}
 use Rattle.fish_lanes.proofs.Lists.{get_some, some_once}
 use Rattle.fish_lanes.proofs.Surely.{closed_length}
@@ -56,8 +57,8 @@ one_lane x [] many = absurd (omega (many, arith))
 one_lane x (y ∷ []) many = (y, refl)
 one_lane x (y ∷ z ∷ new) many = absurd (omega (many, arith))
 
-module _ {D : Type 0} (content : D → Option (List ℕ)) (images : D → List ℕ → Type 0) (disk disk' : D) (s t : Store) (from to : ℕ)
-    (x : Lane) (new : List Lane) (h : HasRun content images disk s from (x ∷ []) disk' t to new) where
+module _ {D : Type 0} (disks : Disks D) (disk disk' : D) (s t : Store) (from to : ℕ)
+    (x : Lane) (new : List Lane) (h : HasRun disks disk s from (x ∷ []) disk' t to new) where
   abbrev last : Lane
   last = (one_lane x new h.many).0
 
@@ -119,7 +120,7 @@ module _ {D : Type 0} (content : D → Option (List ℕ)) (images : D → List �
             ∷ (codes "band", definition_text (gs.band_is i)) ∷ []);
       }
 
-  pub has_defined : AreDefining x.works → list_all is_registered last.items ≡ true → HasDefined content images disk s from disk' t to
+  pub has_defined : AreDefining x.works → list_all is_registered last.items ≡ true → HasDefined disks disk s from disk' t to
   has_defined d all = record {
     between = h.between;
     goes = h.goes;
@@ -191,13 +192,13 @@ module _ {D : Type 0} (content : D → Option (List ℕ)) (images : D → List �
   )
 
   -- the definitions in each whole are those of the registrar
-  whole_rows : (begun : IsBetween images disk s from) (past : Whole) (w : Whole) → MayEnd past (view t.pass) w
+  whole_rows : (begun : IsBetween disks.images disk s from) (past : Whole) (w : Whole) → MayEnd past (view t.pass) w
       → w.rows (registry_of (view s.pass) s.registrar).version ≡ map listed_of s.registrar.catalog
   whole_rows begun past w may =
       sure_rows past (view s.pass) (registry_of (view s.pass) s.registrar).version (map listed_of s.registrar.catalog) begun.known w
       (may_hold past (view s.pass) w (narrows_later past (view s.pass) (view t.pass) h.goes.later w may))
 
-  counted_text : (number : ℕ) (begun : IsBetween images disk s from) (past : Whole) (w : Whole) → MayEnd past (view t.pass) w
+  counted_text : (number : ℕ) (begun : IsBetween disks.images disk s from) (past : Whole) (w : Whole) → MayEnd past (view t.pass) w
       → SaysBlock w span new → x.works ≡ all_scans → list_all is_scanned last.items ≡ true → (d : Definitions) → AreDefined d
       → AreRows d s.registrar.catalog → AreSelected number from w → items_text number last.items ≡ summary_text d number
   counted_text number begun past w may tells scans all d defined are selected =
@@ -211,9 +212,9 @@ module _ {D : Type 0} (content : D → Option (List ℕ)) (images : D → List �
       (rows_of_lane w.log from to 1) (all_asked d) last.items from (to + 16) refl works many all (h.so last last_at)
       (all_mean d defined s.registrar.catalog are))
 
-  pub has_counted : (number : ℕ) (text : List ℕ) → IsBetween images disk s from → x.works ≡ all_scans
+  pub has_counted : (number : ℕ) (text : List ℕ) → IsBetween disks.images disk s from → x.works ≡ all_scans
       → list_all is_scanned last.items ≡ true → text ≡ items_text number last.items
-      → HasCounted content images number disk s from disk' t text
+      → HasCounted disks number disk s from disk' t text
   has_counted number text begun scans all is = record {
     to = to;
     between = h.between;
@@ -230,36 +231,36 @@ module _ {D : Type 0} (content : D → Option (List ℕ)) (images : D → List �
 
 -- ---- the lane that registers, and the one that scans
 
-module _ {D : Type 0} (content : D → Option (List ℕ)) (images : D → List ℕ → Type 0) (disk disk' : D) (s t : Store) (from to : ℕ)
+module _ {D : Type 0} (disks : Disks D) (disk disk' : D) (s t : Store) (from to : ℕ)
     (old new : List Lane) where
   -- the lane that was read is the last one
-  read_last : (x : Lane) (h : HasRun content images disk s from (x ∷ []) disk' t to new) (y : Lane) → y ≡ get_or new 0 y
+  read_last : (x : Lane) (h : HasRun disks disk s from (x ∷ []) disk' t to new) (y : Lane) → y ≡ get_or new 0 y
       → y ≡ (one_lane x new h.many).0
   read_last x h y at = at ∙ ap (λ (z : List Lane). get_or z 0 y) (one_lane x new h.many).1
 
-  pub defined_of : HasRun content images disk s from old disk' t to new → (x : Lane) × (old ≡ x ∷ []) × IsDefiningLane x → (y : Lane)
-      → y ≡ get_or new 0 y → list_all is_registered y.items ≡ true → HasDefined content images disk s from disk' t to
+  pub defined_of : HasRun disks disk s from old disk' t to new → (x : Lane) × (old ≡ x ∷ []) × IsDefiningLane x → (y : Lane)
+      → y ≡ get_or new 0 y → list_all is_registered y.items ≡ true → HasDefined disks disk s from disk' t to
   defined_of h (x, is, lane) y at all =
-      let run : HasRun content images disk s from (x ∷ []) disk' t to new
-      = subst (λ (z : List Lane). HasRun content images disk s from z disk' t to new) is h in
-      has_defined content images disk disk' s t from to x new run lane.works
+      let run : HasRun disks disk s from (x ∷ []) disk' t to new
+      = subst (λ (z : List Lane). HasRun disks disk s from z disk' t to new) is h in
+      has_defined disks disk disk' s t from to x new run lane.works
       (subst (λ (z : Lane). list_all is_registered z.items ≡ true) (read_last x run y at) all)
 
-  counted_one : (number : ℕ) → IsBetween images disk s from → HasRun content images disk s from old disk' t to new
+  counted_one : (number : ℕ) → IsBetween disks.images disk s from → HasRun disks disk s from old disk' t to new
       → (x : Lane) × (old ≡ x ∷ []) × IsScanningLane x → (y : Lane) → y ≡ get_or new 0 y → list_all is_scanned y.items ≡ true
-      → (text : List ℕ) → text ≡ items_text number y.items → HasCounted content images number disk s from disk' t text
+      → (text : List ℕ) → text ≡ items_text number y.items → HasCounted disks number disk s from disk' t text
   counted_one number begun h (x, is, lane) y at all text text_is =
-      let run : HasRun content images disk s from (x ∷ []) disk' t to new
-      = subst (λ (z : List Lane). HasRun content images disk s from z disk' t to new) is h in
+      let run : HasRun disks disk s from (x ∷ []) disk' t to new
+      = subst (λ (z : List Lane). HasRun disks disk s from z disk' t to new) is h in
       let same = read_last x run y at in
-      has_counted content images disk disk' s t from to x new run number text begun lane.works
+      has_counted disks disk disk' s t from to x new run number text begun lane.works
       (subst (λ (z : Lane). list_all is_scanned z.items ≡ true) same all)
       (text_is ∙ ap (λ (z : Lane). items_text number z.items) same)
 
-  pub counted_of : {E : Type 0} (number : ℕ) → IsBetween images disk s from → HasRun content images disk s from old disk' t to new
+  pub counted_of : {E : Type 0} (number : ℕ) → IsBetween disks.images disk s from → HasRun disks disk s from old disk' t to new
       → (x : Lane) × (old ≡ x ∷ []) × IsScanningLane x → (y : Lane) → y ≡ get_or new 0 y → list_all is_scanned y.items ≡ true
       → (r : Result (List ℕ) E) → IfOk r (λ text. text ≡ items_text number y.items)
-      → IfOk r (HasCounted content images number disk s from disk' t)
+      → IfOk r (HasCounted disks number disk s from disk' t)
   counted_of number begun h lane y at all (Ok text) is = counted_one number begun h lane y at all text is
   counted_of number begun h lane y at all (Err e) is = is
 
@@ -271,8 +272,8 @@ list_at p [] h i x at = absurd cc
 list_at p (y ∷ lanes) h zero x at = subst (λ (z : Lane). p z ≡ true) (some_once y x at) (and_both (p y) (list_all p lanes) h).0
 list_at p (y ∷ lanes) h (suc i) x at = list_at p lanes (and_both (p y) (list_all p lanes) h).1 i x at
 
-module _ {D : Type 0} (content : D → Option (List ℕ)) (images : D → List ℕ → Type 0) (disk disk' : D) (s t : Store) (from to : ℕ)
-    (old new : List Lane) (h : HasRun content images disk s from old disk' t to new) (number : ℕ) (few : number < 2 ^ 32)
+module _ {D : Type 0} (disks : Disks D) (disk disk' : D) (s t : Store) (from to : ℕ)
+    (old new : List Lane) (h : HasRun disks disk s from old disk' t to new) (number : ℕ) (few : number < 2 ^ 32)
     (lanes : AreShareLanes number 4 old) (all : list_all is_all_stored new ≡ true) where
   four : length new ≡ 4
   four = h.many ∙ lanes.many
@@ -309,7 +310,7 @@ module _ {D : Type 0} (content : D → Option (List ℕ)) (images : D → List �
         (rows_at w tells i (omega (some, less, arith)));
   }
 
-  pub has_stored : HasStored content images number disk s from disk' t to
+  pub has_stored : HasStored disks number disk s from disk' t to
   has_stored = record {
     between = h.between;
     goes = h.goes;
@@ -322,18 +323,18 @@ module _ {D : Type 0} (content : D → Option (List ℕ)) (images : D → List �
 
 -- ---- all three
 
-module _ {D : Type 0} (content : D → Option (List ℕ)) (images : D → List ℕ → Type 0) where
-  goes_both : (a b c : D) (s m t : Store) → Goes content images a s b m → Goes content images b m c t → Goes content images a s c t
+module _ {D : Type 0} (disks : Disks D) where
+  goes_both : (a b c : D) (s m t : Store) → Goes disks a s b m → Goes disks b m c t → Goes disks a s c t
   goes_both a b c s m t p q = record {
     later = later_both (view s.pass) (view m.pass) (view t.pass) p.later q.later;
     sound = λ past sound. q.sound past (p.sound past sound);
   }
 
-  module _ (number : ℕ) (a b c d : D) (s u v t : Store) (one two : ℕ) (text : List ℕ) (new : IsNewStore content images a s)
-      (first : HasDefined content images a s 0 b u one) (second : HasStored content images number b u one c v two)
-      (third : HasCounted content images number c v two d t text) where
+  module _ (number : ℕ) (a b c d : D) (s u v t : Store) (one two : ℕ) (text : List ℕ) (new : IsNewStore disks a s)
+      (first : HasDefined disks a s 0 b u one) (second : HasStored disks number b u one c v two)
+      (third : HasCounted disks number c v two d t text) where
     -- what is so of each whole that may be in the end
-    filled : (past : Whole) → Sound content images (point_at a s) past → (w : Whole) → MayEnd past (view t.pass) w
+    filled : (past : Whole) → Sound disks (point_at a s) past → (w : Whole) → MayEnd past (view t.pass) w
         → length w.log ≡ third.to → IsSampleLog number w.log × IsSummary number text
     filled past sound w may long =
         let sound_u = first.goes.sound past sound in
@@ -361,7 +362,7 @@ module _ {D : Type 0} (content : D → Option (List ℕ)) (images : D → List �
           },
         )
 
-    pub has_filled : HasFilled content images number a s d t text
+    pub has_filled : HasFilled disks number a s d t text
     has_filled = record {
       to = third.to;
       between = third.between;
@@ -371,8 +372,8 @@ module _ {D : Type 0} (content : D → Option (List ℕ)) (images : D → List �
 
   -- ---- the log that is closed
 
-  pub sample_of : (number : ℕ) (a d : D) (s t : Store) (text : List ℕ) (remains : Remains) → IsNewStore content images a s
-      → HasFilled content images number a s d t text → IsClosed (view t.pass) remains → remains.opened ≡ true → IsSample number text remains
+  pub sample_of : (number : ℕ) (a d : D) (s t : Store) (text : List ℕ) (remains : Remains) → IsNewStore disks a s
+      → HasFilled disks number a s d t text → IsClosed (view t.pass) remains → remains.opened ≡ true → IsSample number text remains
   sample_of number a d s t text remains new h closed opened =
       let sound = h.goes.sound new.past new.sound in
       let control = h.between.end.alone.control in
@@ -394,15 +395,15 @@ module _ {D : Type 0} (content : D → Option (List ℕ)) (images : D → List �
       }
 
   -- as far as the text could be made, and the log be closed
-  pub filled_of : {E : Type 0} (number : ℕ) (a b c d : D) (s u v t : Store) (one two : ℕ) → IsNewStore content images a s
-      → HasDefined content images a s 0 b u one → HasStored content images number b u one c v two
-      → (r : Result (List ℕ) E) → IfOk r (HasCounted content images number c v two d t) → IfOk r (HasFilled content images number a s d t)
+  pub filled_of : {E : Type 0} (number : ℕ) (a b c d : D) (s u v t : Store) (one two : ℕ) → IsNewStore disks a s
+      → HasDefined disks a s 0 b u one → HasStored disks number b u one c v two
+      → (r : Result (List ℕ) E) → IfOk r (HasCounted disks number c v two d t) → IfOk r (HasFilled disks number a s d t)
   filled_of number a b c d s u v t one two new first second (Ok text) third =
       has_filled number a b c d s u v t one two text new first second third
   filled_of number a b c d s u v t one two new first second (Err e) third = third
 
-  pub made_of : {E : Type 0} (number : ℕ) (a d : D) (s t : Store) (text : List ℕ) → IsNewStore content images a s
-      → HasFilled content images number a s d t text → (r : Result Sampled E) → IfOk r (λ m. m.text ≡ text)
+  pub made_of : {E : Type 0} (number : ℕ) (a d : D) (s t : Store) (text : List ℕ) → IsNewStore disks a s
+      → HasFilled disks number a s d t text → (r : Result Sampled E) → IfOk r (λ m. m.text ≡ text)
       → IfOk r (λ m. m.remains.opened ≡ true) → IfOk r (λ m. IsClosed (view t.pass) m.remains)
       → IfOk r (λ m. IsSample number m.text m.remains)
   made_of number a d s t text new h (Ok m) is opened closed =

@@ -5,6 +5,7 @@ use Rattle.fish_catalog.specs.Listing.{listed_of}
 use Rattle.fish_catalog.specs.declared.commit.Commit.{Commit}
 use Rattle.fish_catalog.specs.declared.entry.Entry.{Entry}
 use Rattle.fish_catalog.specs.declared.row.CatRow.{CatRow}
+use Rattle.fish_disk.specs.declared.disk.Disk.{Ghosts as Disks}
 use Rattle.fish_flush.specs.Carrying.{Carries}
 use Rattle.fish_ingest.specs.Ingestion.{CanStart}
 use Rattle.fish_lanes.specs.Registering.{KnowsRegistry, registry_of}
@@ -40,8 +41,8 @@ first_known k r rows = record {
   are = λ g read. definitions_first k g k.version (omega arith) ∙ ap (map listed_of) rows;
 }
 
-module _ {D : Type 0} (content : D → Option (List ℕ)) (images : D → List ℕ → Type 0) (disk : D) (c : Commit) (log : List Entry) (o : Opened)
-    (h : IsOpened (content disk) (images disk) c log o) where
+module _ {D : Type 0} (disks : Disks D) (disk : D) (c : Commit) (log : List Entry) (o : Opened)
+    (h : IsOpened (disks.content disk) (disks.images disk) c log o) where
   -- the line fits its word
   few_lines : o.log.key.line < 68719476736
   few_lines =
@@ -68,8 +69,8 @@ module _ {D : Type 0} (content : D → Option (List ℕ)) (images : D → List �
     }
 
     -- a block may be run where its table begins
-    between_made : IsBetween images disk s o.log.key.number
-    between_made = subst (λ (z : Store). IsBetween images disk z o.log.key.number) (λ i. same i) (record {
+    between_made : IsBetween disks.images disk s o.log.key.number
+    between_made = subst (λ (z : Store). IsBetween disks.images disk z o.log.key.number) (λ i. same i) (record {
       can = record {
         of = h.pass;
         start = subst CanStart (sym h.first) (record { live = omega arith; outside = refl });
@@ -80,7 +81,7 @@ module _ {D : Type 0} (content : D → Option (List ℕ)) (images : D → List �
         may = (
           c,
           log,
-          subst (λ (l : List CatRow). Carries (images disk) o.flusher (view o.pass) o.log.shape l c log) (sym m.rows) h.carries,
+          subst (λ (l : List CatRow). Carries (disks.images disk) o.flusher (view o.pass) o.log.shape l c log) (sym m.rows) h.carries,
         );
         counted =
             let count = h.carries.rest.committed.count in
@@ -106,43 +107,47 @@ module _ {D : Type 0} (content : D → Option (List ℕ)) (images : D → List �
     }
 
     -- nothing is in a store of an empty log, of a disk whose content is told
-    pub new_made : ((i : List ℕ) → content disk ≡ Some i → images disk i) → IsSome (content disk) → log ≡ [] → c.count ≡ 0 → c.rows ≡ []
-        → IsNewStore content images disk s
+    pub new_made : ((i : List ℕ) → disks.content disk ≡ Some i → disks.images disk i) → IsSome (disks.content disk) → log ≡ []
+        → c.count ≡ 0 → c.rows ≡ []
+        → IsNewStore disks disk s
     new_made read told nothing count rows = record {
-      between = subst (IsBetween images disk s) (h.number ∙ count) between_made;
+      between = subst (IsBetween disks.images disk s) (h.number ∙ count) between_made;
       rows = m.rows ∙ h.catalog ∙ ap (map (clamped c.count)) rows;
       past = first_past log o;
       nothing = nothing;
-      sound = subst (λ (z : Point D). Sound content images z (first_past log o)) (sym point_made)
-          (opened_sound content images disk c log o h read told);
+      sound = subst (λ (z : Point D). Sound disks z (first_past log o)) (sym point_made)
+          (opened_sound disks disk c log o h read told);
     }
 
 -- a store that was made of an empty disk is new
-made_new : {D : Type 0} (content : D → Option (List ℕ)) (images : D → List ℕ → Type 0) (before after : D)
-    → ((i : List ℕ) → content after ≡ Some i → images after i) → IsAlwaysShown content → content before ≡ Some [] → (asked : Asked)
-    → (o : Opened) → HasOpened (content before) (content after) (images after) asked o → (s : Store) → IsOfMade o s
-    → IsNewStore content images after s
-made_new content images before after read told empty asked o h s m =
-    by (content after) refl (told after) h.was
+made_new : {D : Type 0} (disks : Disks D) (before after : D)
+    → ((i : List ℕ) → disks.content after ≡ Some i → disks.images after i) → IsAlwaysShown disks.content
+    → disks.content before ≡ Some [] → (asked : Asked)
+    → (o : Opened) → HasOpened (disks.content before) (disks.content after) (disks.images after) asked o → (s : Store) → IsOfMade o s
+    → IsNewStore disks after s
+made_new disks before after read told empty asked o h s m =
+    by (disks.content after) refl (told after) h.was
   where
     of : (made : Bool) → made ≡ true → (c : Commit) (log : List Entry) (i : List ℕ) → IsOf asked made c log i
         → (log ≡ []) × (c ≡ first_commit (asked_shape asked))
     of true is c log i k = (k.2, k.1)
     of false is c log i k = absurd (false≢true is)
 
-    by : (now : Option (List ℕ)) → content after ≡ now → IsSome now
-        → IfSome now (λ x. (i : List ℕ) × (content before ≡ Some i) × IsOf asked o.made h.commit h.log i)
-        → IsNewStore content images after s
+    by : (now : Option (List ℕ)) → disks.content after ≡ now → IsSome now
+        → IfSome now (λ x. (i : List ℕ) × (disks.content before ≡ Some i) × IsOf asked o.made h.commit h.log i)
+        → IsNewStore disks after s
     by None is some was = absurd (let bad = some in cc)
     by (Some x) is some was =
         let k = of o.made m.made h.commit h.log was.0 was.2 in
-        new_made content images after h.commit h.log o h.opened s m read (told after) k.0
+        new_made disks after h.commit h.log o h.opened s m read (told after) k.0
         (ap (λ (z : Commit). z.count) k.1) (ap (λ (z : Commit). z.rows) k.1)
 
-pub new_opened : {D E : Type 0} (content : D → Option (List ℕ)) (images : D → List ℕ → Type 0) (before after : D)
-    → ((i : List ℕ) → content after ≡ Some i → images after i) → IsAlwaysShown content → content before ≡ Some [] → (asked : Asked)
-    → (o : Opened) → HasOpened (content before) (content after) (images after) asked o → (r : Result Store E) → IfOk r (IsOfMade o)
-    → IfOk r (IsNewStore content images after)
-new_opened content images before after read told empty asked o h (Ok s) m = made_new content images before after read told empty asked o
+pub new_opened : {D E : Type 0} (disks : Disks D) (before after : D)
+    → ((i : List ℕ) → disks.content after ≡ Some i → disks.images after i) → IsAlwaysShown disks.content
+    → disks.content before ≡ Some [] → (asked : Asked)
+    → (o : Opened) → HasOpened (disks.content before) (disks.content after) (disks.images after) asked o → (r : Result Store E)
+    → IfOk r (IsOfMade o)
+    → IfOk r (IsNewStore disks after)
+new_opened disks before after read told empty asked o h (Ok s) m = made_new disks before after read told empty asked o
     h s m
-new_opened content images before after read told empty asked o h (Err e) m = m
+new_opened disks before after read told empty asked o h (Err e) m = m

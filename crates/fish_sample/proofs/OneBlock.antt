@@ -4,6 +4,7 @@ use Rattle.std.proofs.Common.{true, false, Option, Some, None, append-nil, slice
 use Rattle.std.proofs.lemmas.Bool.{false≢true}
 use Rattle.std.specs.Prelude.{is_some}
 use Rattle.std.specs.List.{list_all}
+use Rattle.fish_disk.specs.declared.disk.Disk.{Ghosts as Disks}
 use Rattle.fish_lanes.proofs.Controls.{each_last}
 use Rattle.fish_lanes.proofs.Lists.{some_once}
 use Rattle.fish_lanes.specs.Blocks.{AreEnded, AreKept, EachLane, EachLanePair, HasRegistered, IsBlockSpan, control_items}
@@ -60,7 +61,7 @@ module _ (lanes : List Lane) (whole : list_all is_whole_lane lanes ≡ true) whe
   pub all_ended : AreEnded lanes → EachLane (λ i x. length (answers x.items) ≡ length x.works) lanes
   all_ended ended i x at = (ended i x at).ended.whole (whole_at lanes whole i x at).0
 
-  module _ {D : Type 0} (content : D → Option (List ℕ)) (images : D → List ℕ → Type 0) (disk : D) (s : Store) (disk' : D) (t : Store)
+  module _ {D : Type 0} (disks : Disks D) (disk : D) (s : Store) (disk' : D) (t : Store)
       (old : List Lane) (from : ℕ) (end : BlockEnd) (unbound : is_some end.bound ≡ false)
       (registered : (x : Lane) → slice_get lanes 0 ≡ Some x
       → HasRegistered (view s.pass) (view t.pass) s.registrar t.registrar x end) where
@@ -75,8 +76,8 @@ module _ (lanes : List Lane) (whole : list_all is_whole_lane lanes ≡ true) whe
 
     -- and all that the next block asks for
     pub between_after : (x : Lane) → slice_get lanes 0 ≡ Some x → CanControl t.log t.pass t.registrar
-        → (((x : Lane) → slice_get lanes 0 ≡ Some x → x.fault ≡ cause.Disk → ⊥) → MayGoOn images (point_at disk' t))
-        → IsBelow t.log.key t.file.cold → HasEnd (view t.pass) end.to → IsBetween images disk' t end.to
+        → (((x : Lane) → slice_get lanes 0 ≡ Some x → x.fault ≡ cause.Disk → ⊥) → MayGoOn disks.images (point_at disk' t))
+        → IsBelow t.log.key t.file.cold → HasEnd (view t.pass) end.to → IsBetween disks.images disk' t end.to
     between_after x at can again below ends = record {
       can = can;
       commit = again (λ y there failed.

@@ -27,8 +27,8 @@ pub(crate) fn fill<R: Threads + Sync, D: Disk + Send>(
     disk: &mut D,
 ) -> Result<Text, AllocError>
     requires content { IsAlwaysShown D.content }
-    requires new { IsNewStore D.content D.images disk.old store.old }
-    ensures { IfOk result (HasFilled D.content D.images number disk.old store.old disk.new store.new) }
+    requires new { IsNewStore D.Disk disk.old store.old }
+    ensures { IfOk result (HasFilled D.Disk number disk.old store.old disk.new store.new) }
 {
     let defined = register(rt, alloc, store, 0, disk)?;
     let stored = store_shares(rt, alloc, number, store, defined, disk)?;
@@ -45,7 +45,7 @@ fn register<R: Threads + Sync, D: Disk + Send>(
 ) -> Result<u32, AllocError>
     requires content { IsAlwaysShown D.content }
     requires between { IsBetween D.images disk.old store.old from }
-    ensures { IfOk result (HasDefined D.content D.images disk.old store.old from disk.new store.new) }
+    ensures { IfOk result (HasDefined D.Disk disk.old store.old from disk.new store.new) }
 {
     let lane = defining_lane(alloc)?;
     let mut lanes = [lane];
@@ -66,7 +66,7 @@ fn run_defining<R: Threads + Sync, D: Disk + Send>(
     requires content { IsAlwaysShown D.content }
     requires between { IsBetween D.images disk.old store.old from }
     requires lane { (x : Lane) × (lanes.old ≡ x ∷ []) × IsDefiningLane x }
-    ensures { IfOk result (HasDefined D.content D.images disk.old store.old from disk.new store.new) }
+    ensures { IfOk result (HasDefined D.Disk disk.old store.old from disk.new store.new) }
 {
     let to = run_lanes(rt, alloc, store, from, disk, lanes)?;
     if !are_registered(lanes[0].items.as_slice()) {
@@ -86,7 +86,7 @@ fn store_shares<R: Threads + Sync, D: Disk + Send>(
 ) -> Result<u32, AllocError>
     requires content { IsAlwaysShown D.content }
     requires between { IsBetween D.images disk.old store.old from }
-    ensures { IfOk result (HasStored D.content D.images number disk.old store.old from disk.new store.new) }
+    ensures { IfOk result (HasStored D.Disk number disk.old store.old from disk.new store.new) }
 {
     let mut lanes = Vec::new(alloc);
     let ran = match push_shares(alloc, number, &mut lanes) {
@@ -130,7 +130,7 @@ fn run_shares<R: Threads + Sync, D: Disk + Send>(
     requires content { IsAlwaysShown D.content }
     requires between { IsBetween D.images disk.old store.old from }
     requires lanes { AreShareLanes number 4 lanes.old }
-    ensures { IfOk result (HasStored D.content D.images number disk.old store.old from disk.new store.new) }
+    ensures { IfOk result (HasStored D.Disk number disk.old store.old from disk.new store.new) }
 {
     let to = run_lanes(rt, alloc, store, from, disk, lanes)?;
     if !are_stored(lanes) || stored_by(lanes) != number {
@@ -150,7 +150,7 @@ fn count_values<R: Threads + Sync, D: Disk + Send>(
 ) -> Result<Text, AllocError>
     requires content { IsAlwaysShown D.content }
     requires between { IsBetween D.images disk.old store.old from }
-    ensures { IfOk result (HasCounted D.content D.images number disk.old store.old from disk.new store.new) }
+    ensures { IfOk result (HasCounted D.Disk number disk.old store.old from disk.new store.new) }
 {
     let lane = scanning_lane(alloc)?;
     let mut lanes = [lane];
@@ -172,7 +172,7 @@ fn run_scanning<R: Threads + Sync, D: Disk + Send>(
     requires content { IsAlwaysShown D.content }
     requires between { IsBetween D.images disk.old store.old from }
     requires lane { (x : Lane) × (lanes.old ≡ x ∷ []) × IsScanningLane x }
-    ensures { IfOk result (HasCounted D.content D.images number disk.old store.old from disk.new store.new) }
+    ensures { IfOk result (HasCounted D.Disk number disk.old store.old from disk.new store.new) }
 {
     run_lanes(rt, alloc, store, from, disk, lanes)?;
     let items = lanes[0].items.as_slice();

@@ -23,7 +23,7 @@ const ASKED: Asked = Asked {
 pub(crate) fn make_store<D: Disk>(alloc: Global, disk: &mut D) -> Result<Store, AllocError>
     requires content { IsAlwaysShown D.content }
     requires empty { D.content disk.old ≡ Some [] }
-    ensures { IfOk result (IsNewStore D.content D.images disk.new) }
+    ensures { IfOk result (IsNewStore D.Disk disk.new) }
 {
     match open_store(alloc, ASKED, disk) {
         Ok(opened) => of_made(opened),

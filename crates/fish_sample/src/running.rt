@@ -23,8 +23,7 @@ pub(crate) fn run_lanes<R: Threads + Sync, D: Disk + Send>(
     requires content { IsAlwaysShown D.content }
     requires between { IsBetween D.images disk.old store.old from }
     requires lanes { AreLanes lanes.old }
-    ensures { IfOk result (λ to. HasRun D.content D.images disk.old store.old from lanes.old disk.new store.new to
-        lanes.new) }
+    ensures { IfOk result (λ to. HasRun D.Disk disk.old store.old from lanes.old disk.new store.new to lanes.new) }
 {
     let end = run_block(rt, alloc, store, disk, lanes, &OpenGate);
     if end.bound.is_some() || !are_whole(lanes) {

@@ -9,6 +9,7 @@ use Rattle.std.proofs.lemmas.Option.{same_Some}
 use Rattle.fish_cold.specs.declared.page.Page.{Page}
 use Rattle.fish_disk.proofs.Moments.{leaves_more, leaves_none, leaves_then}
 use Rattle.fish_disk.specs.Content.{StillReads}
+use Rattle.fish_disk.specs.declared.disk.Disk.{Ghosts as Disks}
 use Rattle.fish_rule.specs.declared.table.Base.{Base}
 use Rattle.fish_rule.specs.declared.view.Key.{Key}
 use Rattle.fish_scan.specs.Colder.{IsBelow, StaysCold}
@@ -48,19 +49,15 @@ below_on k old new base h = record {
 }
 
 module _
-    {D : Type 0}
-    (content : D → Option (List ℕ))
-    (images : D → List ℕ → Type 0)
-    (since : D → ℕ → List ℕ → Type 0)
-    (moment faults : D → ℕ) where
+    {D : Type 0} (disks : Disks D) where
   -- nothing was read
-  pub stays_none : (cold : Cold) (disk : D) → StaysCold content images since moment faults cold cold disk disk
+  pub stays_none : (cold : Cold) (disk : D) → StaysCold disks cold cold disk disk
   stays_none cold disk = record {
     base = refl;
     starts = refl;
-    kept = all (content disk) (λ (c : List ℕ). IsReadFrom c cold → IsReadFrom c cold) (λ c h. h);
-    content_is = same (content disk);
-    crash = leaves_none images since moment disk (images disk) (λ c h. h);
+    kept = all (disks.content disk) (λ (c : List ℕ). IsReadFrom c cold → IsReadFrom c cold) (λ c h. h);
+    content_is = same (disks.content disk);
+    crash = leaves_none disks.images disks.since disks.moment disk (disks.images disk) (λ c h. h);
     later = omega arith;
   }
     where
@@ -73,15 +70,15 @@ module _
       same None = tt
 
   -- one reading and then another
-  pub stays_both : (a b c : Cold) (d e f : D) → StaysCold content images since moment faults a b d e
-      → StaysCold content images since moment faults b c e f → StaysCold content images since moment faults a c d f
+  pub stays_both : (a b c : Cold) (d e f : D) → StaysCold disks a b d e
+      → StaysCold disks b c e f → StaysCold disks a c d f
   stays_both a b c d e f h g = record {
     base = g.base ∙ h.base;
     starts = g.starts ∙ h.starts;
-    kept = kept (content e) (content f) h.kept g.kept g.content_is;
-    content_is = still (content d) (content e) (content f) h.content_is g.content_is;
-    crash = leaves_then images since moment d e f (images d) h.crash
-        (leaves_more images since moment e f (images e) (images d) h.crash.now g.crash);
+    kept = kept (disks.content e) (disks.content f) h.kept g.kept g.content_is;
+    content_is = still (disks.content d) (disks.content e) (disks.content f) h.content_is g.content_is;
+    crash = leaves_then disks.images disks.since disks.moment d e f (disks.images d) h.crash
+        (leaves_more disks.images disks.since disks.moment e f (disks.images e) (disks.images d) h.crash.now g.crash);
     later = (let one = h.later in let two = g.later in omega arith);
   }
     where
@@ -96,7 +93,7 @@ module _
 
   -- what a call of the older records leaves
   pub stays_reads : {T : Type 0} (a b : Cold) (d e : D) (r : Result T ColdRefusal)
-      → ReadsAtMost content images since moment faults a b d e r → StaysCold content images since moment faults a b d e
+      → ReadsAtMost disks a b d e r → StaysCold disks a b d e
   stays_reads a b d e r h = record {
     base = h.base;
     starts = h.starts;
@@ -107,7 +104,7 @@ module _
   }
 
   pub stays_looks : {T : Type 0} (number : ℕ) (a b : Cold) (d e : D) (r : Result T ColdRefusal)
-      → Looks content images since moment faults number a b d e r → StaysCold content images since moment faults a b d e
+      → Looks disks number a b d e r → StaysCold disks a b d e
   stays_looks number a b d e r h = record {
     base = base r h.used h.refused;
     starts = starts r h.used h.refused;
@@ -130,26 +127,26 @@ module _
       starts (Err x) used refused = ap (λ (z : Cold). z.starts) refused
 
   -- at an earlier step the disk carried the table
-  abbrev pub back : {k : Key} {cold : Cold} (b c : Cold) (e f : D) → StaysCold content images since moment faults b c e f
-      → CarriesTable (content f) k cold → CarriesTable (content e) k cold
-  back b c e f g h = carried_on h (told_before (content e) (content f) h.image g.content_is h.is) refl refl h.read
+  abbrev pub back : {k : Key} {cold : Cold} (b c : Cold) (e f : D) → StaysCold disks b c e f
+      → CarriesTable (disks.content f) k cold → CarriesTable (disks.content e) k cold
+  back b c e f g h = carried_on h (told_before (disks.content e) (disks.content f) h.image g.content_is h.is) refl refl h.read
 
   -- and at a later one it carries it for the pages that are held by then
-  abbrev pub ahead : {k : Key} (a b c : Cold) (d e f : D) → StaysCold content images since moment faults a b d e
-      → StaysCold content images since moment faults b c e f → CarriesTable (content f) k a → CarriesTable (content f) k b
+  abbrev pub ahead : {k : Key} (a b c : Cold) (d e f : D) → StaysCold disks a b d e
+      → StaysCold disks b c e f → CarriesTable (disks.content f) k a → CarriesTable (disks.content f) k b
   ahead a b c d e f h g t = carried_on t t.is h.base h.starts
-      (of_told (content e) (λ c_. IsReadFrom c_ a → IsReadFrom c_ b) t.image
-      (told_before (content e) (content f) t.image g.content_is t.is) h.kept t.read)
+      (of_told (disks.content e) (λ c_. IsReadFrom c_ a → IsReadFrom c_ b) t.image
+      (told_before (disks.content e) (disks.content f) t.image g.content_is t.is) h.kept t.read)
 
   -- after all of them
-  pub carried_last : {k : Key} (a b : Cold) (d e : D) → StaysCold content images since moment faults a b d e
-      → CarriesTable (content d) k a → IfSome (content e) (λ _. CarriesTable (content e) k b)
-  carried_last {k} a b d e g h = by (content e) refl
+  pub carried_last : {k : Key} (a b : Cold) (d e : D) → StaysCold disks a b d e
+      → CarriesTable (disks.content d) k a → IfSome (disks.content e) (λ _. CarriesTable (disks.content e) k b)
+  carried_last {k} a b d e g h = by (disks.content e) refl
     where
-      by : (o : Option (List ℕ)) → content e ≡ o → IfSome o (λ _. CarriesTable (content e) k b)
+      by : (o : Option (List ℕ)) → disks.content e ≡ o → IfSome o (λ _. CarriesTable (disks.content e) k b)
       by (Some x) is =
-          let was : content d ≡ Some x = of_told (content e) (λ c. content d ≡ Some c) x is g.content_is in
+          let was : disks.content d ≡ Some x = of_told (disks.content e) (λ c. disks.content d ≡ Some c) x is g.content_is in
           let same : x ≡ h.image = same_Some x h.image (sym was ∙ h.is) in
           carried_on h (is ∙ ap Some same) g.base g.starts
-          (of_told (content e) (λ c. IsReadFrom c a → IsReadFrom c b) h.image (is ∙ ap Some same) g.kept h.read)
+          (of_told (disks.content e) (λ c. IsReadFrom c a → IsReadFrom c b) h.image (is ∙ ap Some same) g.kept h.read)
       by None is = tt

@@ -61,7 +61,7 @@ pub fn scan_with<D: Disk, P: Ledger, L: Ledger>(
     ensures pass { IsPassOf log.now pass.new }
     ensures only { OnlyScans (view pass.old) (view pass.new) }
     ensures defs { IsDefsOf (view pass.new) defs.new }
-    ensures cold { StaysCold D.content D.images D.since D.moment D.faults cold.old cold.new disk.old disk.new }
+    ensures cold { StaysCold D.Disk cold.old cold.new disk.old disk.new }
     ensures explained { IfOk result (λ a. IsExplained (view pass.old) (view pass.new) defs.new.known ask.now a.from a.to a.opens
         a.plan) }
     ensures opened { IfOk result (λ a. (n : ℕ) → Among n a.opens → (view pass.new).about.number ≤ n) }
@@ -121,7 +121,7 @@ fn read_across<D: Disk, P: Ledger, L: Ledger>(
     requires readable { AreReadable (view pass.old) (definition_of query.now.def) query.now.reach pieces.now }
     ensures pass { IsPassOf log.now pass.new }
     ensures extends { Extends (view pass.old) (view pass.new) }
-    ensures cold { StaysCold D.content D.images D.since D.moment D.faults cold.old cold.new disk.old disk.new }
+    ensures cold { StaysCold D.Disk cold.old cold.new disk.old disk.new }
     ensures read { OnOk result ((h : CarriesTable (D.content disk.new) log.now.key cold.old) → HasReadAcross h (view pass.old)
         (view pass.new) query.now pieces.now rows.old rows.new parses.old parses.new loads.old loads.new) }
 

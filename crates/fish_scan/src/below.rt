@@ -46,7 +46,7 @@ pub(crate) fn read_below<D: Disk, P: Ledger, L: Ledger>(
     requires readable { AreOlderReadable (view pass.old) (definition_of query.now.def) log.now.key.number pieces.now }
     ensures pass { IsPassOf log.now pass.new }
     ensures extends { Extends (view pass.old) (view pass.new) }
-    ensures cold { StaysCold D.content D.images D.since D.moment D.faults cold.old cold.new disk.old disk.new }
+    ensures cold { StaysCold D.Disk cold.old cold.new disk.old disk.new }
     ensures read { OnOk result ((h : CarriesTable (D.content disk.new) log.now.key cold.old) → HasReadBelow h.prior (view pass.old)
         (view pass.new) (definition_of query.now.def) query.now.value pieces.now query.now.reach.from
         (last_below log.now.key query.now.reach) rows.old rows.new parses.old parses.new loads.old loads.new) }
@@ -82,7 +82,7 @@ fn read_older_piece<D: Disk, P: Ledger, L: Ledger>(
     requires readable { IsOlderReadable (view pass.old) (definition_of query.now.def) log.now.key.number piece.now }
     ensures pass { IsPassOf log.now pass.new }
     ensures extends { Extends (view pass.old) (view pass.new) }
-    ensures cold { StaysCold D.content D.images D.since D.moment D.faults cold.old cold.new disk.old disk.new }
+    ensures cold { StaysCold D.Disk cold.old cold.new disk.old disk.new }
     ensures read { OnOk result ((h : CarriesTable (D.content disk.new) log.now.key cold.old) → HasReadPiece h.prior (view pass.old)
         (view pass.new) (definition_of query.now.def) query.now.value piece.now rows.old rows.new parses.old parses.new loads.old
         loads.new) }

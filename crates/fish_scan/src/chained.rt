@@ -54,7 +54,7 @@ pub(crate) fn read_chain<D: Disk, L: Ledger>(
     requires older { stretch.now.to ≤ log.now.key.number }
     ensures pass { IsPassOf log.now pass.new }
     ensures extends { Extends (view pass.old) (view pass.new) }
-    ensures cold { StaysCold D.content D.images D.since D.moment D.faults cold.old cold.new disk.old disk.new }
+    ensures cold { StaysCold D.Disk cold.old cold.new disk.old disk.new }
     ensures walked { OnOk result ((h : CarriesTable (D.content disk.new) log.now.key cold.old) → HasWalkedOlder h.prior (view pass.old)
         (view pass.new) (definition_of query.now.def) query.now.value id stretch.now.from stretch.now.to rows.old rows.new
         loads.old loads.new) }
@@ -113,7 +113,7 @@ fn walk_down<D: Disk, L: Ledger>(
     requires lower { head ≢ 0 → head < 4 * cold.old.base.line }
     requires some { stretch.now.from ≤ stretch.now.to }
     requires older { stretch.now.to ≤ base }
-    ensures cold { StaysCold D.content D.images D.since D.moment D.faults cold.old cold.new disk.old disk.new }
+    ensures cold { StaysCold D.Disk cold.old cold.new disk.old disk.new }
     ensures walked { OnOk result ((k : TableKey) (h : CarriesTable (D.content disk.new) k cold.old) (b : ℕ) → IsHeadOf h b head
         → b ≡ bucket_in (key_hash_of id query.now.value) k.buckets
         → IsCoveredBy h (definition_of query.now.def) id stretch.now.from stretch.now.to → HasDescended h.prior b
@@ -155,7 +155,7 @@ fn visit<D: Disk, L: Ledger>(
 ) -> Result<u32, ColdRefusal>
     requires older { node.now.number < cold.old.base.number }
     requires lower { node.now.place < 4 * cold.old.base.line }
-    ensures cold { StaysCold D.content D.images D.since D.moment D.faults cold.old cold.new disk.old disk.new }
+    ensures cold { StaysCold D.Disk cold.old cold.new disk.old disk.new }
     ensures visit { IfOk result (IsVisit node.now id query.now.value to rows.old rows.new loads.old loads.new (λ payload before now.
         (k : TableKey) (h : CarriesTable (D.content disk.new) k cold.old) (b n : ℕ) (p : BodyParts) (key : KeyPart)
         → IsKeyAt h.prior b node.now.place n p node.now.key key → IsPayloadAt p payload before now)) }
@@ -190,7 +190,7 @@ fn payload_of<D: Disk, L: Ledger>(
 ) -> Result<Text, ColdRefusal>
     requires older { node.now.number < cold.old.base.number }
     requires lower { node.now.place < 4 * cold.old.base.line }
-    ensures cold { StaysCold D.content D.images D.since D.moment D.faults cold.old cold.new disk.old disk.new }
+    ensures cold { StaysCold D.Disk cold.old cold.new disk.old disk.new }
     ensures payload { IfOk result (λ payload. (k : TableKey) (h : CarriesTable (D.content disk.new) k cold.old) (b n : ℕ)
         (p : BodyParts) (key : KeyPart) → IsKeyAt h.prior b node.now.place n p node.now.key key
         → IsPayloadAt p payload loads.old loads.new) }

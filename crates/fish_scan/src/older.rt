@@ -39,7 +39,7 @@ pub(crate) fn read_older<D: Disk, P: Ledger, L: Ledger>(
 ) -> Result<(), ColdRefusal>
     requires some { stretch.now.from ≤ stretch.now.to }
     requires older { stretch.now.to ≤ cold.old.base.number }
-    ensures cold { StaysCold D.content D.images D.since D.moment D.faults cold.old cold.new disk.old disk.new }
+    ensures cold { StaysCold D.Disk cold.old cold.new disk.old disk.new }
     ensures read { OnOk result ((k : Key) (h : CarriesTable (D.content disk.new) k cold.old) → HasReadOlder h.prior
         (definition_of query.now.def) query.now.value stretch.now.from stretch.now.to rows.old rows.new parses.old parses.new
         loads.old loads.new) }
@@ -71,7 +71,7 @@ fn read_older_at<D: Disk, P: Ledger, L: Ledger>(
     loads: &mut Steps<L>,
 ) -> Result<(), ColdRefusal>
     requires older { number < cold.old.base.number }
-    ensures cold { StaysCold D.content D.images D.since D.moment D.faults cold.old cold.new disk.old disk.new }
+    ensures cold { StaysCold D.Disk cold.old cold.new disk.old disk.new }
     ensures read { OnOk result ((k : Key) (h : CarriesTable (D.content disk.new) k cold.old) → HasReadOlder h.prior
         (definition_of query.now.def) query.now.value number (number + 1) rows.old rows.new parses.old parses.new loads.old
         loads.new) }

@@ -11,6 +11,7 @@ use Rattle.fish_cold.specs.declared.cold.Cold.{Cold}
 use Rattle.fish_disk.proofs.Moments.{leaves_more, leaves_none}
 use Rattle.fish_disk.specs.Content.{StillReads}
 use Rattle.fish_disk.specs.Crash.{LeavesOnly}
+use Rattle.fish_disk.specs.declared.disk.Disk.{Ghosts as Disks}
 use Rattle.fish_flush.proofs.Committed.{committed_length, told_both, told_later}
 use Rattle.fish_flush.proofs.Resting.{rest_stands}
 use Rattle.fish_flush.specs.Carrying.{Carries, HasCommitted, HasSettled, LeavesEither, Reads}
@@ -48,28 +49,25 @@ known_of past u log begins told = record {
 }
 
 module _
-    {D : Type 0}
-    (content : D → Option (List ℕ))
-    (images : D → List ℕ → Type 0)
-    (since : D → ℕ → List ℕ → Type 0)
-    (moment : D → ℕ)
+    {D : Type 0} (disks : Disks D)
     (p q : Point D) (reads : Reads p.view q.view) (cold : q.cold ≡ p.cold) (shape : q.shape ≡ p.shape) (rows : q.rows ≡ p.rows)
     (live : p.flusher.shut ≡ false)
-    (may : MayCommit images p)
-    (read : (d : D) (i : List ℕ) → content d ≡ Some i → images d i) (told : (d : D) (i : List ℕ) → images d i → IsSome (content d))
-    (either : (c : Commit) (old : List Entry) (h : Carries (images p.disk) p.flusher p.view p.shape p.rows c old)
-    → LeavesEither images since moment p.disk q.disk q.view p.rows c old h.rest.lines) where
+    (may : MayCommit disks.images p)
+    (read : (d : D) (i : List ℕ) → disks.content d ≡ Some i → disks.images d i) (told : (d : D) (i : List ℕ) → disks.images d i
+    → IsSome (disks.content d))
+    (either : (c : Commit) (old : List Entry) (h : Carries (disks.images p.disk) p.flusher p.view p.shape p.rows c old)
+    → LeavesEither disks.images disks.since disks.moment p.disk q.disk q.view p.rows c old h.rest.lines) where
   -- the disk was told, where it is
-  before : IsSome (content q.disk) → IsSome (content p.disk)
-  before some = by (content q.disk) refl some
+  before : IsSome (disks.content q.disk) → IsSome (disks.content p.disk)
+  before some = by (disks.content q.disk) refl some
     where
-      by : (o : Option (List ℕ)) → content q.disk ≡ o → IsSome o → IsSome (content p.disk)
+      by : (o : Option (List ℕ)) → disks.content q.disk ≡ o → IsSome o → IsSome (disks.content p.disk)
       by None is some = absurd cc
       by (Some i) is some = (let was = (either may.0 may.1 may.2).was i (read q.disk i is) in told p.disk was.0 was.1)
 
-  module _ (past : Whole) (s : Sound content images p past) where
+  module _ (past : Whole) (s : Sound disks p past) where
     -- what rests there
-    abbrev rest : Rests images p past
+    abbrev rest : Rests disks.images p past
     rest = s.rests live
 
     -- how many entries were there before the table, and how many the last commit has
@@ -109,7 +107,8 @@ module _
         (subst (λ (k : ℕ). AreKnown p.view k (drop k rest.log)) s.fits.base rest.carries.told))
 
     -- whatever a crash leaves is a part of the log that has the last commit's entries
-    either_image : (h : LeavesEither images since moment p.disk q.disk q.view p.rows rest.commit rest.log rest.carries.rest.lines)
+    either_image : (h : LeavesEither disks.images disks.since disks.moment p.disk q.disk q.view p.rows rest.commit rest.log
+        rest.carries.rest.lines)
         (i : List ℕ)
         → Stands rest.commit i rest.log ⊎ Stands h.next i (rest.log ++ h.more) → IsImageOf past q.view p.flusher.count i
     either_image h i (inl stands) = (let size = past_size in record {
@@ -128,34 +127,34 @@ module _
     }
 
     -- so it is at each moment
-    leaves_part : LeavesOnly images since moment p.disk q.disk (IsImageOf past q.view p.flusher.count)
+    leaves_part : LeavesOnly disks.images disks.since disks.moment p.disk q.disk (IsImageOf past q.view p.flusher.count)
     leaves_part =
         let h = either rest.commit rest.log rest.carries in
-        leaves_more images since moment p.disk q.disk _ (IsImageOf past q.view p.flusher.count) (either_image h) h.leaves
+        leaves_more disks.images disks.since disks.moment p.disk q.disk _ (IsImageOf past q.view p.flusher.count) (either_image h) h.leaves
 
     -- the disk has what was there before the table, as it had
-    past_on : IsSome (content q.disk) → HasPast content q past
-    past_on still = on (content q.disk) refl still
+    past_on : IsSome (disks.content q.disk) → HasPast disks.content q past
+    past_on still = on (disks.content q.disk) refl still
       where
-        on : (o : Option (List ℕ)) → content q.disk ≡ o → IsSome o → HasPast content q past
+        on : (o : Option (List ℕ)) → disks.content q.disk ≡ o → IsSome o → HasPast disks.content q past
         on None is some = absurd cc
         on (Some i) is some =
             let r = rest.carries.rest in
             let t = s.has.table in
             let was = read p.disk t.image t.is in
             let g = (either rest.commit rest.log rest.carries).goes.now i (read q.disk i is) in
-            let held = stays_carried p.view.about p.cold (content p.disk) (content q.disk) t rest.commit r.body r.lines i
+            let held = stays_carried p.view.about p.cold (disks.content p.disk) (disks.content q.disk) t rest.commit r.body r.lines i
             (rests_commit p.flusher.slot r.body r.lines t.image r.slot_is (r.rests t.image was)) r.committed.is.told r.committed.size
             g is in
-            let moved : (x : CarriesTable (content q.disk) q.view.about q.cold) × (x.end.entries ≡ past.log) =
-            subst (λ (k : Key). (x : CarriesTable (content q.disk) k q.cold) × (x.end.entries ≡ past.log)) (sym reads.learns.about)
+            let moved : (x : CarriesTable (disks.content q.disk) q.view.about q.cold) × (x.end.entries ≡ past.log) =
+            subst (λ (k : Key). (x : CarriesTable (disks.content q.disk) k q.cold) × (x.end.entries ≡ past.log)) (sym reads.learns.about)
             (subst (λ (z : Cold).
-            (x : CarriesTable (content q.disk) p.view.about z) × (x.end.entries ≡ past.log)) (sym cold)
+            (x : CarriesTable (disks.content q.disk) p.view.about z) × (x.end.entries ≡ past.log)) (sym cold)
             (held.0, ap (λ (e : Reached). e.entries) held.1 ∙ s.has.entries)) in
             record { table = moved.0; entries = moved.1 }
 
   -- where the disk refused it, no checkpoint follows
-  pub here_faulted : q.flusher ≡ record p.flusher { shut = true } → GoesOnHere content images since moment p q
+  pub here_faulted : q.flusher ≡ record p.flusher { shut = true } → GoesOnHere disks p q
   here_faulted shut = record {
     learns = reads.learns;
     told_before = before;
@@ -171,11 +170,11 @@ module _
 
   -- where it is done, the last commit has all that was settled
   module _ (n : ℕ) (settled : p.view.learned.settled ≤ n)
-      (done : HasCommitted (images p.disk) (images q.disk) p.flusher q.flusher p.view q.view p.shape p.rows n) where
+      (done : HasCommitted (disks.images p.disk) (disks.images q.disk) p.flusher q.flusher p.view q.view p.shape p.rows n) where
     rises : p.flusher.count ≤ q.flusher.count
     rises = (let upto = may.2.settled in let count = done.count in omega arith)
 
-    sound_committed : (past : Whole) → Sound content images p past → IsSome (content q.disk) → Sound content images q past
+    sound_committed : (past : Whole) → Sound disks p past → IsSome (disks.content q.disk) → Sound disks q past
     sound_committed past s still =
         let r = rest past s in
         let size = past_size past s in
@@ -196,21 +195,21 @@ module _
           rests = λ kept. record {
             commit = next;
             log = log;
-            carries = subst (λ (z : List CatRow). Carries (images q.disk) q.flusher q.view q.shape z next log) (sym rows)
-                (subst (λ (z : Shape). Carries (images q.disk) q.flusher q.view z p.rows next log) (sym shape) d.2);
+            carries = subst (λ (z : List CatRow). Carries (disks.images q.disk) q.flusher q.view q.shape z next log) (sym rows)
+                (subst (λ (z : Shape). Carries (disks.images q.disk) q.flusher q.view z p.rows next log) (sym shape) d.2);
             begins = begins;
             counted = omega arith;
           };
           now = λ c there. record {
             commit = next;
             log = log;
-            stands = rest_stands (images q.disk) q.flusher next log d.2.rest c there;
+            stands = rest_stands (disks.images q.disk) q.flusher next log d.2.rest c there;
             many = (let all = d.1 in omega arith);
             known = known_of past q.view log begins told;
           };
         }
 
-    pub here_committed : GoesOnHere content images since moment p q
+    pub here_committed : GoesOnHere disks p q
     here_committed = record {
       learns = reads.learns;
       told_before = before;
@@ -220,38 +219,38 @@ module _
     }
 
   -- out of memory leaves the disk and the last commit
-  pub stays_same : q.disk ≡ p.disk → q.flusher ≡ p.flusher → Stays content images since moment p q
+  pub stays_same : q.disk ≡ p.disk → q.flusher ≡ p.flusher → Stays disks p q
   stays_same disk flusher = record {
     learns = reads.learns;
     rows_on = λ n old le grown. subst (HaveGrown n old) (sym rows) grown;
     flusher = flusher;
     shape = shape;
-    content_is = subst (λ (d : D). StillReads (content p.disk) (content d)) (sym disk) (still_self (content p.disk));
-    crash = subst (λ (d : D). LeavesOnly images since moment p.disk d (images p.disk)) (sym disk)
-        (leaves_none images since moment p.disk (images p.disk) (λ i here. here));
-    table = λ t. table_same (content p.disk) (content q.disk) p.view.about p.cold q.cold (ap content disk) cold t;
+    content_is = subst (λ (d : D). StillReads (disks.content p.disk) (disks.content d)) (sym disk) (still_self (disks.content p.disk));
+    crash = subst (λ (d : D). LeavesOnly disks.images disks.since disks.moment p.disk d (disks.images p.disk)) (sym disk)
+        (leaves_none disks.images disks.since disks.moment p.disk (disks.images p.disk) (λ i here. here));
+    table = λ t. table_same (disks.content p.disk) (disks.content q.disk) p.view.about p.cold q.cold (ap disks.content disk) cold t;
   }
 
   -- however it ends, the store goes on
   pub here_checkpoint : (r : Result ℕ FlushRefusal) → IfOk r (HasSettled p.view q.view)
-      → IfOk r (HasCommitted (images p.disk) (images q.disk) p.flusher q.flusher p.view q.view p.shape p.rows)
+      → IfOk r (HasCommitted (disks.images p.disk) (disks.images q.disk) p.flusher q.flusher p.view q.view p.shape p.rows)
       → (IsErrOf r DiskFault → q.flusher ≡ record p.flusher { shut = true })
-      → (IsErrOf r OutOfMemory → (q.disk ≡ p.disk) × (q.flusher ≡ p.flusher)) → GoesOnHere content images since moment p q
+      → (IsErrOf r OutOfMemory → (q.disk ≡ p.disk) × (q.flusher ≡ p.flusher)) → GoesOnHere disks p q
   here_checkpoint (Ok n) settled done shut memory = here_committed n settled.rises done
   here_checkpoint (Err DiskFault) settled done shut memory = here_faulted (shut refl)
   here_checkpoint (Err OutOfMemory) settled done shut memory =
-      (let same = memory refl in here_stays content images since moment p q (stays_same same.0 same.1))
+      (let same = memory refl in here_stays disks p q (stays_same same.0 same.1))
 
   -- and unless the disk failed, another checkpoint may follow
   pub again_checkpoint : (r : Result ℕ FlushRefusal) → p.flusher.count ≤ p.view.learned.count
-      → IfOk r (HasCommitted (images p.disk) (images q.disk) p.flusher q.flusher p.view q.view p.shape p.rows)
-      → (IsErrOf r OutOfMemory → (q.disk ≡ p.disk) × (q.flusher ≡ p.flusher)) → (IsErrOf r DiskFault → ⊥) → MayGoOn images q
+      → IfOk r (HasCommitted (disks.images p.disk) (disks.images q.disk) p.flusher q.flusher p.view q.view p.shape p.rows)
+      → (IsErrOf r OutOfMemory → (q.disk ≡ p.disk) × (q.flusher ≡ p.flusher)) → (IsErrOf r DiskFault → ⊥) → MayGoOn disks.images q
   again_checkpoint (Ok n) counted done memory unbroken = record {
     live = done.live;
-    may = may_again images p q n shape rows may done;
+    may = may_again disks.images p q n shape rows may done;
     counted = (let count = done.count in let most = done.counted in omega arith);
   }
   again_checkpoint (Err DiskFault) counted done memory unbroken = absurd (unbroken refl)
   again_checkpoint (Err OutOfMemory) counted done memory unbroken =
-      (let same = memory refl in may_stays content images since moment p q (stays_same same.0 same.1)
+      (let same = memory refl in may_stays disks p q (stays_same same.0 same.1)
       (record { live = live; may = may; counted = counted }))

@@ -1,6 +1,7 @@
 -- What a run leaves of a store, from the moments that it went through.
-use Rattle.std.proofs.Common.{◌≡◌, ℕ, ◌≤◌, arith, List, [], Option, length, refl, sym, ◌∙◌}
+use Rattle.std.proofs.Common.{◌≡◌, ℕ, ◌≤◌, arith, List, [], length, refl, sym, ◌∙◌}
 use Rattle.fish_catalog.specs.declared.entry.Entry.{Entry}
+use Rattle.fish_disk.specs.declared.disk.Disk.{Ghosts as Disks}
 use Rattle.fish_rule.specs.ClosedLog.{IsClosed}
 use Rattle.fish_rule.specs.declared.close.Remains.{Remains}
 use Rattle.fish_rule.specs.declared.view.View.{View}
@@ -33,22 +34,18 @@ part_so old past v least c w first many may h = record {
 }
 
 module _
-    {D : Type 0}
-    (content : D → Option (List ℕ))
-    (images : D → List ℕ → Type 0)
-    (since : D → ℕ → List ℕ → Type 0)
-    (moment : D → ℕ)
+    {D : Type 0} (disks : Disks D)
     (past : Whole) (p q : Point D) (tells : Whole → Type 0)
-    (a : Reaches content images since moment past p q tells)
-    (t : ℕ) (early : t ≤ moment p.disk) (rises : p.flusher.count ≤ q.flusher.count) (many : length past.log ≤ p.flusher.count)
-    (opened : (c : List ℕ) → since p.disk t c → IsImageOf past p.view (length past.log) c) where
+    (a : Reaches disks past p q tells)
+    (t : ℕ) (early : t ≤ disks.moment p.disk) (rises : p.flusher.count ≤ q.flusher.count) (many : length past.log ≤ p.flusher.count)
+    (opened : (c : List ℕ) → disks.since p.disk t c → IsImageOf past p.view (length past.log) c) where
   -- what a crash since that moment may have left
-  left : (c : List ℕ) → since q.disk t c → IsImageOf a.next q.view (length past.log) c
-  left = since_on content images since moment past p q t (length past.log) tells many early a opened
+  left : (c : List ℕ) → disks.since q.disk t c → IsImageOf a.next q.view (length past.log) c
+  left = since_on disks past p q t (length past.log) tells many early a opened
 
   -- where the log is shown
   pub run_shown : (remains : Remains) → IsClosed q.view remains → q.view.lane ≡ 1 → q.view.out ≡ []
-      → IsShown (images q.disk) (since q.disk t) past.log q.flusher.count tells remains
+      → IsShown (disks.images q.disk) (disks.since q.disk t) past.log q.flusher.count tells remains
   run_shown remains c control all =
       let w = behind_table a.next q.view remains c in
       let may = ends_so a.next q.view remains c a.sound.fits control all in
@@ -67,7 +64,7 @@ module _
       }
 
   -- where there was no memory for that
-  pub run_lost : IsLost (images q.disk) (since q.disk t) past.log q.flusher.count
+  pub run_lost : IsLost (disks.images q.disk) (disks.since q.disk t) past.log q.flusher.count
   run_lost = record {
     crash_now = λ d here. kept_so past.log a.next q.view q.flusher.count d a.goes.grows (omega arith) (a.sound.now d here);
     crash_since = λ d gone. kept_so past.log a.next q.view (length past.log) d a.goes.grows (omega arith) (left d gone);

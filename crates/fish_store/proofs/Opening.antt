@@ -8,6 +8,7 @@ use Rattle.fish_catalog.specs.declared.commit.Commit.{Commit}
 use Rattle.fish_catalog.specs.declared.entry.Entry.{Entry}
 use Rattle.fish_catalog.specs.declared.row.CatRow.{CatRow}
 use Rattle.fish_cold.specs.Carries.{CarriesTable, IsPrior}
+use Rattle.fish_disk.specs.declared.disk.Disk.{Ghosts as Disks}
 use Rattle.fish_flush.proofs.Committed.{committed_length}
 use Rattle.fish_flush.proofs.Resting.{rest_stands}
 use Rattle.fish_image.specs.Log.{Agrees}
@@ -25,8 +26,8 @@ use Rattle.fish_store.specs.Sound.{HasPast, IsImageOf, Sound}
 use Rattle.fish_whole.proofs.Prefixes.{prefix_first}
 use Rattle.fish_whole.specs.Whole.{FitsPast, IsPrefix, Whole}
 
-module _ {D : Type 0} (content : D → Option (List ℕ)) (images : D → List ℕ → Type 0) (disk : D) (at : ℕ) (rows : List CatRow)
-    (c : Commit) (log : List Entry) (o : Opened) (h : IsBegun at rows (content disk) (images disk) c log o) where
+module _ {D : Type 0} (disks : Disks D) (disk : D) (at : ℕ) (rows : List CatRow)
+    (c : Commit) (log : List Entry) (o : Opened) (h : IsBegun at rows (disks.content disk) (disks.images disk) c log o) where
   about : (view o.pass).about ≡ o.log.key
   about = ap (λ (v : View). v.about) h.first
 
@@ -37,7 +38,8 @@ module _ {D : Type 0} (content : D → Option (List ℕ)) (images : D → List �
       (committed_length o.flusher c r.body r.lines log r.committed, sym r.committed.count)
 
   -- the first entries that the disk has are these
-  entries_are : (i : List ℕ) → images disk i → (t : CarriesTable (content disk) o.log.key o.cold) → t.image ≡ i → t.end.entries ≡ log
+  entries_are : (i : List ℕ) → disks.images disk i → (t : CarriesTable (disks.content disk) o.log.key o.cold) → t.image ≡ i
+      → t.end.entries ≡ log
   entries_are i here t is =
       let r = h.carries.rest in
       let stands = r.committed.is.stands in
@@ -73,22 +75,23 @@ module _ {D : Type 0} (content : D → Option (List ℕ)) (images : D → List �
     }
 
     -- the disk has what was there before the table
-    has_past : ((i : List ℕ) → content disk ≡ Some i → images disk i) → IsSome (content disk)
-        → HasPast content (opened_point disk o) past
-    has_past read some = by (content disk) refl some h.cold
+    has_past : ((i : List ℕ) → disks.content disk ≡ Some i → disks.images disk i) → IsSome (disks.content disk)
+        → HasPast disks.content (opened_point disk o) past
+    has_past read some = by (disks.content disk) refl some h.cold
       where
-        by : (x : Option (List ℕ)) → content disk ≡ x → IsSome x → IfSome x (λ i. CarriesTable (content disk) o.log.key o.cold)
-            → HasPast content (opened_point disk o) past
+        by : (x : Option (List ℕ)) → disks.content disk ≡ x → IsSome x → IfSome x (λ i. CarriesTable (disks.content disk) o.log.key o.cold)
+            → HasPast disks.content (opened_point disk o) past
         by None is told t = absurd cc
         by (Some i) is told t =
-            let moved : (x : CarriesTable (content disk) (view o.pass).about o.cold) × (x.end.entries ≡ past.log) =
-            subst (λ (k : Key). (x : CarriesTable (content disk) k o.cold) × (x.end.entries ≡ past.log)) (sym about)
+            let moved : (x : CarriesTable (disks.content disk) (view o.pass).about o.cold) × (x.end.entries ≡ past.log) =
+            subst (λ (k : Key). (x : CarriesTable (disks.content disk) k o.cold) × (x.end.entries ≡ past.log)) (sym about)
             (t, entries_are t.image (read t.image t.is) t refl ∙ sym same) in
             record { table = moved.0; entries = moved.1 }
 
     -- so it is sound, where it comes after that past
-    pub begun_sound : FitsPast past (view o.pass) → ((i : List ℕ) → content disk ≡ Some i → images disk i) → IsSome (content disk)
-        → Sound content images (opened_point disk o) past
+    pub begun_sound : FitsPast past (view o.pass) → ((i : List ℕ) → disks.content disk ≡ Some i → disks.images disk i)
+        → IsSome (disks.content disk)
+        → Sound disks (opened_point disk o) past
     begun_sound fits read some =
         let many = begun_size in
         let number = h.number in
@@ -106,15 +109,15 @@ module _ {D : Type 0} (content : D → Option (List ℕ)) (images : D → List �
           };
           now = λ i here. subst (λ (n : ℕ). IsImageOf past (view o.pass) n i)
               (let whole : length log ≡ o.flusher.count = omega arith in whole)
-              (begun_part i (rest_stands (images disk) o.flusher c log h.carries.rest i here));
+              (begun_part i (rest_stands (disks.images disk) o.flusher c log h.carries.rest i here));
         }
 
-module _ {D : Type 0} (content : D → Option (List ℕ)) (images : D → List ℕ → Type 0) (disk : D) (c : Commit) (log : List Entry) (o : Opened)
-    (h : IsOpened (content disk) (images disk) c log o) where
+module _ {D : Type 0} (disks : Disks D) (disk : D) (c : Commit) (log : List Entry) (o : Opened)
+    (h : IsOpened (disks.content disk) (disks.images disk) c log o) where
   -- the table of a store that was opened comes after the disk's log
   fits : FitsPast (first_past log o) (view o.pass)
   fits =
-      let many = begun_size content images disk 0 c.rows c log o h in
+      let many = begun_size disks disk 0 c.rows c log o h in
       let number = h.number in
       let key = ap (λ (v : View). v.about) h.first in
       let at = ap (λ (k : Key). k.number) key in
@@ -125,9 +128,9 @@ module _ {D : Type 0} (content : D → Option (List ℕ)) (images : D → List �
 
   -- an image of the log is one of a part that is there for good
   pub stands_part : (i : List ℕ) → Stands c i log → IsImageOf (first_past log o) (view o.pass) (length log) i
-  stands_part i stands = begun_part content images disk 0 c.rows c log o h (first_past log o) refl i stands
+  stands_part i stands = begun_part disks disk 0 c.rows c log o h (first_past log o) refl i stands
 
   -- the store is sound
-  pub opened_sound : ((i : List ℕ) → content disk ≡ Some i → images disk i) → IsSome (content disk)
-      → Sound content images (opened_point disk o) (first_past log o)
-  opened_sound read some = begun_sound content images disk 0 c.rows c log o h (first_past log o) refl fits read some
+  pub opened_sound : ((i : List ℕ) → disks.content disk ≡ Some i → disks.images disk i) → IsSome (disks.content disk)
+      → Sound disks (opened_point disk o) (first_past log o)
+  opened_sound read some = begun_sound disks disk 0 c.rows c log o h (first_past log o) refl fits read some

@@ -1,5 +1,5 @@
 -- A table that takes another one's place, all of which is committed: the store goes on to it.
-use Rattle.std.proofs.Common.{◌≡◌, ℕ, ◌+◌, ◌^◌, List, [], ◌++◌, Option, Some, None, false, length, map}
+use Rattle.std.proofs.Common.{◌≡◌, ℕ, ◌+◌, ◌^◌, List, [], ◌++◌, Some, None, false, length, map}
 use Rattle.std.proofs.Common.{sym, ap, ◌∙◌, subst, arith}
 use Rattle.std.specs.Prelude.{IsSome, ⊤}
 use mathlib.Core.Option.{some-ne-none}
@@ -9,6 +9,7 @@ use Rattle.fish_catalog.specs.declared.commit.Commit.{Commit}
 use Rattle.fish_catalog.specs.declared.entry.Entry.{Entry}
 use Rattle.fish_catalog.specs.declared.row.CatRow.{CatRow}
 use Rattle.fish_disk.proofs.Moments.{leaves_none}
+use Rattle.fish_disk.specs.declared.disk.Disk.{Ghosts as Disks}
 use Rattle.fish_flush.specs.Carrying.{Carries}
 use Rattle.fish_flush.specs.declared.flusher.Flusher.{Flusher}
 use Rattle.fish_recover.proofs.Beginnings.{begun_open}
@@ -40,10 +41,10 @@ use Rattle.fish_whole.proofs.Prefixes.{prefix_append, prefix_both, prefix_first}
 use Rattle.fish_whole.proofs.Tables.{fits_rolled, narrows_rolled}
 use Rattle.fish_whole.specs.Whole.{FitsPast, GoesOn, Whole, behind_table}
 
-module _ {D : Type 0} (content : D → Option (List ℕ)) (images : D → List ℕ → Type 0) (since : D → ℕ → List ℕ → Type 0) (moment : D → ℕ)
-    (disk : D) (old : Store) (m : MayRoll images disk old) (version : ℕ) (x : IsClosedWith (view old.pass) version) (o : Opened)
+module _ {D : Type 0} (disks : Disks D)
+    (disk : D) (old : Store) (m : MayRoll disks.images disk old) (version : ℕ) (x : IsClosedWith (view old.pass) version) (o : Opened)
     (begins : BeginsAt old.file.flusher old.log.shape old.registrar.catalog version false o)
-    (read : (i : List ℕ) → content disk ≡ Some i → images disk i) where
+    (read : (i : List ℕ) → disks.content disk ≡ Some i → disks.images disk i) where
   abbrev v : View
   v = view old.pass
 
@@ -54,13 +55,14 @@ module _ {D : Type 0} (content : D → Option (List ℕ)) (images : D → List �
   rows = old.registrar.catalog
 
   -- it begins after whatever commit is carried
-  begun : (c : Commit) (log : List Entry) → Carries (images disk) f v old.log.shape rows c log
-      → IsBegun version rows (content disk) (images disk) c log o
+  begun : (c : Commit) (log : List Entry) → Carries (disks.images disk) f v old.log.shape rows c log
+      → IsBegun version rows (disks.content disk) (disks.images disk) c log o
   begun c log k =
-      begun_open (images disk) f c log k.rest old.log.shape k.bits rows k.grown version false o begins (content disk) read k.pages
+      begun_open (disks.images disk) f c log k.rest old.log.shape k.bits rows k.grown version false o begins (disks.content disk) read
+      k.pages
       m.commit.live
 
-  abbrev first : IsBegun version rows (content disk) (images disk) m.commit.may.0 m.commit.may.1 o
+  abbrev first : IsBegun version rows (disks.content disk) (disks.images disk) m.commit.may.0 m.commit.may.1 o
   first = begun m.commit.may.0 m.commit.may.1 m.commit.may.2
 
   -- at the number and the line at which the commit ends
@@ -97,7 +99,7 @@ module _ {D : Type 0} (content : D → Option (List ℕ)) (images : D → List �
       ∙ ap (λ (l : List CatRow). map listed_of l)
       (sym (ap (λ (k : Key). k.rows.value) about ∙ first.rows ∙ catalog_is))
 
-  module _ (past : Whole) (s : Sound content images (point_at disk old) past) where
+  module _ (past : Whole) (s : Sound disks (point_at disk old) past) where
     abbrev next : Whole
     next = behind_table past v x.remains x.closed
 
@@ -122,18 +124,18 @@ module _ {D : Type 0} (content : D → Option (List ℕ)) (images : D → List �
     }
 
     -- every image stands for what was there before the table and what is left of it
-    sound : IsSome (content disk) → Sound content images (opened_point disk o) next
+    sound : IsSome (disks.content disk) → Sound disks (opened_point disk o) next
     sound some =
         let r = s.rests m.commit.live in
         let b = begun r.commit r.log r.carries in
-        let size = begun_size content images disk version rows r.commit r.log o b in
+        let size = begun_size disks disk version rows r.commit r.log o b in
         let count = r.carries.rest.committed.count in
         let end = end_is in
         let whole : r.log ≡ past.log ++ x.remains.log =
         whole_log v x.remains x.closed past r.log s.fits.base r.begins r.carries.told (omega arith) in
-        begun_sound content images disk version rows r.commit r.log o b next (sym whole) fits read some
+        begun_sound disks disk version rows r.commit r.log o b next (sym whole) fits read some
 
-    reached : IsSome (content disk) → Reaches content images since moment past (point_at disk old) (opened_point disk o) (λ w. ⊤)
+    reached : IsSome (disks.content disk) → Reaches disks past (point_at disk old) (opened_point disk o) (λ w. ⊤)
     reached some =
         let sounds = sound some in
         record {
@@ -141,12 +143,12 @@ module _ {D : Type 0} (content : D → Option (List ℕ)) (images : D → List �
           goes = goes;
           told = λ w may. tt;
           sound = sounds;
-          crash = leaves_none images since moment disk (IsImageOf next u f.count)
+          crash = leaves_none disks.images disks.since disks.moment disk (IsImageOf next u f.count)
               (λ i here. subst (λ (z : Flusher). IsImageOf next u z.count i) begins.opens.flusher (sounds.now i here));
         }
 
   -- so the store went on to it
-  rolled_runs : Runs content images since moment (point_at disk old) (opened_point disk o) (λ w. ⊤)
+  rolled_runs : Runs disks (point_at disk old) (opened_point disk o) (λ w. ⊤)
   rolled_runs = record {
     told_before = λ some. some;
     rises = (let same = ap (λ (z : Flusher). z.count) begins.opens.flusher in omega arith);
@@ -154,7 +156,7 @@ module _ {D : Type 0} (content : D → Option (List ℕ)) (images : D → List �
   }
 
   -- and a checkpoint may follow
-  rolled_may : MayGoOn images (opened_point disk o)
+  rolled_may : MayGoOn disks.images (opened_point disk o)
   rolled_may = record {
     live = first.live;
     may = (m.commit.may.0, m.commit.may.1, first.carries);
@@ -191,7 +193,7 @@ module _ {D : Type 0} (content : D → Option (List ℕ)) (images : D → List �
     }
 
     -- so it took the old one's place
-    pub has_rolled : HasRolled content images since moment disk old new
+    pub has_rolled : HasRolled disks disk old new
     has_rolled =
         let k = m.commit.may.2 in
         let c = k.rest.committed in
@@ -213,7 +215,7 @@ module _ {D : Type 0} (content : D → Option (List ℕ)) (images : D → List �
           flusher = flusher_is ∙ begins.opens.flusher;
           below = subst (λ (z : Store). IsBelow z.log.key z.file.cold) same
               (record { number = first.below_number; line = first.below_line });
-          commit = subst (MayGoOn images) point_rolled rolled_may;
+          commit = subst (MayGoOn disks.images) point_rolled rolled_may;
           unshut = subst (λ (z : Store). (view z.pass).shut ≡ None) same (ap (λ (z : View). z.shut) first.first);
-          runs = subst (λ (z : Point D). Runs content images since moment (point_at disk old) z (λ w. ⊤)) point_rolled rolled_runs;
+          runs = subst (λ (z : Point D). Runs disks (point_at disk old) z (λ w. ⊤)) point_rolled rolled_runs;
         }

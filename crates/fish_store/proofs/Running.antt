@@ -9,6 +9,7 @@ use Rattle.fish_cold.specs.Carries.{CarriesTable, IsPrior}
 use Rattle.fish_cold.specs.declared.cold.Cold.{Cold}
 use Rattle.fish_disk.proofs.Moments.{leaves_more, leaves_then}
 use Rattle.fish_disk.specs.Content.{StillReads}
+use Rattle.fish_disk.specs.declared.disk.Disk.{Ghosts as Disks}
 use Rattle.fish_flush.proofs.Lasting.{carries_on}
 use Rattle.fish_flush.specs.Carrying.{Carries}
 use Rattle.fish_flush.specs.declared.flusher.Flusher.{Flusher}
@@ -35,16 +36,12 @@ image_on past v next u least less c known le h = record {
 }
 
 module _
-    {D : Type 0}
-    (content : D → Option (List ℕ))
-    (images : D → List ℕ → Type 0)
-    (since : D → ℕ → List ℕ → Type 0)
-    (moment : D → ℕ) where
+    {D : Type 0} (disks : Disks D) where
   abbrev pub Goes : Point D → Point D → (Whole → Type 0) → Type 0
-  Goes p q tells = Runs content images since moment p q tells
+  Goes p q tells = Runs disks p q tells
 
   abbrev pub Comes : Whole → Point D → Point D → (Whole → Type 0) → Type 0
-  Comes past p q tells = Reaches content images since moment past p q tells
+  Comes past p q tells = Reaches disks past p q tells
 
   -- one and then the other
   pub runs_both : (p m q : Point D) (P Q R : Whole → Type 0) → ((w : Whole) → P w → Q w → R w) → Goes p m P → Goes m q Q → Goes p q R
@@ -60,19 +57,19 @@ module _
           goes = goes_both past p.view a.next m.view b.next q.view a.goes b.goes;
           told = λ w may. told w (a.told w (b.goes.narrows w may)) (b.told w may);
           sound = b.sound;
-          crash = leaves_then images since moment p.disk m.disk q.disk (IsImageOf b.next q.view p.flusher.count)
-              (leaves_more images since moment p.disk m.disk (IsImageOf a.next m.view p.flusher.count)
+          crash = leaves_then disks.images disks.since disks.moment p.disk m.disk q.disk (IsImageOf b.next q.view p.flusher.count)
+              (leaves_more disks.images disks.since disks.moment p.disk m.disk (IsImageOf a.next m.view p.flusher.count)
               (IsImageOf b.next q.view p.flusher.count)
               (λ c. image_on a.next m.view b.next q.view p.flusher.count p.flusher.count c b.goes.known (omega arith)) a.crash)
-              (leaves_more images since moment m.disk q.disk (IsImageOf b.next q.view m.flusher.count)
+              (leaves_more disks.images disks.since disks.moment m.disk q.disk (IsImageOf b.next q.view m.flusher.count)
               (IsImageOf b.next q.view p.flusher.count)
               (λ c. image_on b.next q.view b.next q.view m.flusher.count p.flusher.count c (λ log k. k) up) b.crash);
         };
   }
 
   -- of one table, one and then the other
-  pub here_both : (p m q : Point D) → GoesOnHere content images since moment p m → GoesOnHere content images since moment m q
-      → GoesOnHere content images since moment p q
+  pub here_both : (p m q : Point D) → GoesOnHere disks p m → GoesOnHere disks m q
+      → GoesOnHere disks p q
   here_both p m q h t = record {
     learns = learns_both p.view m.view q.view h.learns t.learns;
     told_before = λ still. h.told_before (t.told_before still);
@@ -81,17 +78,19 @@ module _
     crash = λ past s still.
         let before = t.told_before still in
         let up = h.rises in
-        leaves_then images since moment p.disk m.disk q.disk (IsImageOf past q.view p.flusher.count)
-        (leaves_more images since moment p.disk m.disk (IsImageOf past m.view p.flusher.count) (IsImageOf past q.view p.flusher.count)
+        leaves_then disks.images disks.since disks.moment p.disk m.disk q.disk (IsImageOf past q.view p.flusher.count)
+        (leaves_more disks.images disks.since disks.moment p.disk m.disk (IsImageOf past m.view p.flusher.count) (IsImageOf past q.view
+        p.flusher.count)
         (λ c. image_on past m.view past q.view p.flusher.count p.flusher.count c
         (λ log k. known_later past m.view q.view log t.learns k) (omega arith)) (h.crash past s before))
-        (leaves_more images since moment m.disk q.disk (IsImageOf past q.view m.flusher.count) (IsImageOf past q.view p.flusher.count)
+        (leaves_more disks.images disks.since disks.moment m.disk q.disk (IsImageOf past q.view m.flusher.count) (IsImageOf past q.view
+        p.flusher.count)
         (λ c. image_on past q.view past q.view m.flusher.count p.flusher.count c (λ log k. k) up)
         (t.crash past (h.sound past s before) still));
   }
 
   -- what goes on in one table goes on, and with it what is told after every past
-  pub runs_here : (p q : Point D) (Q : Whole → Type 0) → GoesOnHere content images since moment p q → Later p.view q.view
+  pub runs_here : (p q : Point D) (Q : Whole → Type 0) → GoesOnHere disks p q → Later p.view q.view
       → ((past : Whole) → FitsPast past p.view → WillHold past q.view Q) → Goes p q Q
   runs_here p q Q h later told = record {
     told_before = h.told_before;
@@ -116,16 +115,16 @@ module _
   }
 
   -- a moment that goes on in one table stays sound after its past, as far as the disk's content is told
-  pub behind_on : (p q : Point D) (later : Option (List ℕ)) (past : Whole) → GoesOnHere content images since moment p q
-      → IsSoundBehind content images p later past → (IsSome later → IsSome (content q.disk)) → IsSoundBehind content images q later past
+  pub behind_on : (p q : Point D) (later : Option (List ℕ)) (past : Whole) → GoesOnHere disks p q
+      → IsSoundBehind disks p later past → (IsSome later → IsSome (disks.content q.disk)) → IsSoundBehind disks q later past
   behind_on p q later past h s told = record { sound = h.sound past s.sound (told s.told); told = s.told }
 
   -- what a crash since some moment may have left, up to a later moment
   pub since_on : (past : Whole) (p q : Point D) (t least : ℕ) (Q : Whole → Type 0) → least ≤ p.flusher.count
-      → t ≤ moment p.disk → (a : Comes past p q Q) → ((c : List ℕ) → since p.disk t c → IsImageOf past p.view least c)
-      → (c : List ℕ) → since q.disk t c → IsImageOf a.next q.view least c
+      → t ≤ disks.moment p.disk → (a : Comes past p q Q) → ((c : List ℕ) → disks.since p.disk t c → IsImageOf past p.view least c)
+      → (c : List ℕ) → disks.since q.disk t c → IsImageOf a.next q.view least c
   since_on past p q t least Q less early a h c left = ⊎_elim
-      (λ (was : since p.disk t c). image_on past p.view a.next q.view least least c a.goes.known (omega arith) (h c was))
+      (λ (was : disks.since p.disk t c). image_on past p.view a.next q.view least least c a.goes.known (omega arith) (h c was))
       (λ (has : IsImageOf a.next q.view p.flusher.count c).
       image_on a.next q.view a.next q.view p.flusher.count least c (λ log k. k) less has)
       (a.crash.before t c early left)
@@ -174,21 +173,17 @@ on_table old None k cold later h still some table = absurd cc
 on_table old (Some c) k cold later h still some table = (table, same_table old (Some c) k cold later h table still)
 
 module _
-    {D : Type 0}
-    (content : D → Option (List ℕ))
-    (images : D → List ℕ → Type 0)
-    (since : D → ℕ → List ℕ → Type 0)
-    (moment : D → ℕ)
-    (p q : Point D) (h : Stays content images since moment p q) where
+    {D : Type 0} (disks : Disks D)
+    (p q : Point D) (h : Stays disks p q) where
   -- an image of the last commit's log stays one
-  image_stays : (past : Whole) → Sound content images p past → (c : List ℕ) → images p.disk c
+  image_stays : (past : Whole) → Sound disks p past → (c : List ℕ) → disks.images p.disk c
       → IsImageOf past q.view p.flusher.count c
   image_stays past s c here =
       image_on past p.view past q.view p.flusher.count p.flusher.count c (λ log k. known_later past p.view q.view log h.learns k)
       (omega arith) (s.now c here)
 
   -- every image stands for the last commit's log
-  rests_stay : (past : Whole) → Sound content images p past → q.flusher.shut ≡ false → Rests images q past
+  rests_stay : (past : Whole) → Sound disks p past → q.flusher.shut ≡ false → Rests disks.images q past
   rests_stay past s live =
       let r = s.rests (sym (ap (λ (f : Flusher). f.shut) h.flusher) ∙ live) in
       let count = ap (λ (f : Flusher). f.count) h.flusher in
@@ -198,26 +193,27 @@ module _
       record {
         commit = r.commit;
         log = r.log;
-        carries = subst (λ (f : Flusher). Carries (images q.disk) f q.view q.shape q.rows r.commit r.log) (sym h.flusher)
-            (subst (λ (s : Shape). Carries (images q.disk) p.flusher q.view s q.rows r.commit r.log) (sym h.shape)
-            (carries_on (images q.disk) p.flusher p.view q.view p.shape p.rows q.rows r.commit r.log
-            (fewer_carry (images p.disk) (images q.disk) p.flusher p.view p.shape p.rows r.commit r.log h.crash.now r.carries)
+        carries = subst (λ (f : Flusher). Carries (disks.images q.disk) f q.view q.shape q.rows r.commit r.log) (sym h.flusher)
+            (subst (λ (s : Shape). Carries (disks.images q.disk) p.flusher q.view s q.rows r.commit r.log) (sym h.shape)
+            (carries_on (disks.images q.disk) p.flusher p.view q.view p.shape p.rows q.rows r.commit r.log
+            (fewer_carry (disks.images p.disk) (disks.images q.disk) p.flusher p.view p.shape p.rows r.commit r.log h.crash.now r.carries)
             h.learns grown));
         begins = r.begins;
         counted = omega arith;
       }
 
   -- the disk has what was there before the table
-  past_stays : (past : Whole) → Sound content images p past → IsSome (content q.disk) → HasPast content q past
+  past_stays : (past : Whole) → Sound disks p past → IsSome (disks.content q.disk) → HasPast disks.content q past
   past_stays past s still =
-      let t = on_table (content p.disk) (content q.disk) p.view.about p.cold q.cold s.has.table h.content_is still (h.table s.has.table) in
-      let moved : (x : CarriesTable (content q.disk) q.view.about q.cold) × (x.end.entries ≡ past.log) =
-      subst (λ (k : Key). (x : CarriesTable (content q.disk) k q.cold) × (x.end.entries ≡ past.log)) (sym h.learns.about)
+      let t = on_table (disks.content p.disk) (disks.content q.disk) p.view.about p.cold q.cold s.has.table h.content_is still
+      (h.table s.has.table) in
+      let moved : (x : CarriesTable (disks.content q.disk) q.view.about q.cold) × (x.end.entries ≡ past.log) =
+      subst (λ (k : Key). (x : CarriesTable (disks.content q.disk) k q.cold) × (x.end.entries ≡ past.log)) (sym h.learns.about)
       (t.0, ap (λ (e : Reached). e.entries) t.1 ∙ s.has.entries) in
       record { table = moved.0; entries = moved.1 }
 
   -- it is sound still
-  sound_stays : (past : Whole) → Sound content images p past → IsSome (content q.disk) → Sound content images q past
+  sound_stays : (past : Whole) → Sound disks p past → IsSome (disks.content q.disk) → Sound disks q past
   sound_stays past s still = record {
     fits = fits_later past p.view q.view h.learns s.fits;
     has = past_stays past s still;
@@ -226,18 +222,19 @@ module _
   }
 
   -- a step that leaves the last commit goes on
-  pub here_stays : GoesOnHere content images since moment p q
+  pub here_stays : GoesOnHere disks p q
   here_stays = record {
     learns = h.learns;
-    told_before = told_still (content p.disk) (content q.disk) h.content_is;
+    told_before = told_still (disks.content p.disk) (disks.content q.disk) h.content_is;
     rises = (let count = ap (λ (f : Flusher). f.count) h.flusher in omega arith);
     sound = sound_stays;
-    crash = λ past s still. leaves_more images since moment p.disk q.disk (images p.disk) (IsImageOf past q.view p.flusher.count)
+    crash = λ past s still. leaves_more disks.images disks.since disks.moment p.disk q.disk (disks.images p.disk) (IsImageOf past q.view
+        p.flusher.count)
         (image_stays past s) h.crash;
   }
 
   -- and a checkpoint may follow it as it might before
-  pub may_stays : MayGoOn images p → MayGoOn images q
+  pub may_stays : MayGoOn disks.images p → MayGoOn disks.images q
   may_stays m =
       let c = m.may.0 in
       let log = m.may.1 in
@@ -251,10 +248,10 @@ module _
         may = (
           c,
           log,
-          subst (λ (f : Flusher). Carries (images q.disk) f q.view q.shape q.rows c log) (sym h.flusher)
-              (subst (λ (s : Shape). Carries (images q.disk) p.flusher q.view s q.rows c log) (sym h.shape)
-              (carries_on (images q.disk) p.flusher p.view q.view p.shape p.rows q.rows c log
-              (fewer_carry (images p.disk) (images q.disk) p.flusher p.view p.shape p.rows c log h.crash.now carries)
+          subst (λ (f : Flusher). Carries (disks.images q.disk) f q.view q.shape q.rows c log) (sym h.flusher)
+              (subst (λ (s : Shape). Carries (disks.images q.disk) p.flusher q.view s q.rows c log) (sym h.shape)
+              (carries_on (disks.images q.disk) p.flusher p.view q.view p.shape p.rows q.rows c log
+              (fewer_carry (disks.images p.disk) (disks.images q.disk) p.flusher p.view p.shape p.rows c log h.crash.now carries)
               h.learns grown)),
         );
         counted = omega arith;

@@ -2,6 +2,7 @@
 use Rattle.std.proofs.Common.{◌≡◌, ℕ, List, Option, ap, ◌∙◌}
 use Rattle.fish_cold.specs.Carries.{CarriesTable}
 use Rattle.fish_cold.specs.declared.cold.Cold.{Cold}
+use Rattle.fish_disk.specs.declared.disk.Disk.{Ghosts as Disks}
 use Rattle.fish_rule.specs.Logs.{Learns}
 use Rattle.fish_rule.specs.declared.table.Base.{Base}
 use Rattle.fish_rule.specs.declared.view.Key.{Key}
@@ -17,11 +18,11 @@ below_stays k old new same h = record {
 }
 
 -- whatever the control pass does, and whichever pass reads, the last commit stays where only pages are read
-pub pages_stay : {D : Type 0} (content : D → Option (List ℕ)) (images : D → List ℕ → Type 0) (since : D → ℕ → List ℕ → Type 0)
-    (moment faults : D → ℕ) (p q : Point D) → Learns p.view q.view → RowsGoOn p.view p.rows q.rows → q.flusher ≡ p.flusher
-    → q.shape ≡ p.shape → ReadsPages content images since moment faults p.view.about p.cold q.cold p.disk q.disk
-    → Stays content images since moment p q
-pages_stay content images since moment faults p q learns rows flusher shape reads = record {
+pub pages_stay : {D : Type 0} (disks : Disks D) (p q : Point D) → Learns p.view q.view → RowsGoOn p.view p.rows q.rows
+    → q.flusher ≡ p.flusher
+    → q.shape ≡ p.shape → ReadsPages disks p.view.about p.cold q.cold p.disk q.disk
+    → Stays disks p q
+pages_stay disks p q learns rows flusher shape reads = record {
   learns = learns;
   rows_on = rows;
   flusher = flusher;
@@ -32,7 +33,7 @@ pages_stay content images since moment faults p q learns rows flusher shape read
 }
 
 -- a disk after which the store was sound carries the table, with what was there before it
-pub sound_here : {D : Type 0} (content : D → Option (List ℕ)) (images : D → List ℕ → Type 0) (p : Point D) (past : Whole)
-    (later : Option (List ℕ)) → IsSoundBehind content images p later past
-    → (t : CarriesTable (content p.disk) p.view.about p.cold) × (t.end.entries ≡ past.log)
-sound_here content images p past later s = (s.sound.has.table, s.sound.has.entries)
+pub sound_here : {D : Type 0} (disks : Disks D) (p : Point D) (past : Whole)
+    (later : Option (List ℕ)) → IsSoundBehind disks p later past
+    → (t : CarriesTable (disks.content p.disk) p.view.about p.cold) × (t.end.entries ≡ past.log)
+sound_here disks p past later s = (s.sound.has.table, s.sound.has.entries)

@@ -4,6 +4,7 @@ use Rattle.fish_catalog.specs.declared.commit.Commit.{Commit}
 use Rattle.fish_catalog.specs.declared.entry.Entry.{Entry}
 use Rattle.fish_cold.specs.Carries.{CarriesTable}
 use Rattle.fish_cold.specs.declared.cold.Cold.{Cold}
+use Rattle.fish_disk.specs.declared.disk.Disk.{Ghosts as Disks}
 use Rattle.fish_flush.specs.Going.{GoesOnFrom}
 use Rattle.fish_image.specs.Reading.{IsBodyOf}
 use Rattle.fish_image.specs.Stands.{Stands}
@@ -23,23 +24,24 @@ StaysCarried = (k : Key) (cold : Cold) (content later : Option (List ℕ)) (h : 
 
 -- ---- moments, of disks of which these are told
 
-module _ {D : Type 0} (content : D → Option (List ℕ)) (images : D → List ℕ → Type 0) (since : D → ℕ → List ℕ → Type 0)
-    (moment : D → ℕ) where
+module _ {D : Type 0} (disks : Disks D) where
   -- a store that was opened is sound after the log for which its disk stood
   abbrev pub OpensSound : Type 0
-  OpensSound = (disk : D) (c : Commit) (log : List Entry) (o : Opened) → IsOpened (content disk) (images disk) c log o
-      → ((i : List ℕ) → content disk ≡ Some i → images disk i) → IsSome (content disk)
-      → Sound content images (opened_point disk o) (first_past log o)
+  OpensSound = (disk : D) (c : Commit) (log : List Entry) (o : Opened)
+      → IsOpened (disks.content disk) (disks.images disk) c log o
+      → ((i : List ℕ) → disks.content disk ≡ Some i → disks.images disk i) → IsSome (disks.content disk)
+      → Sound disks (opened_point disk o) (first_past log o)
 
   -- each image that stands for that log is one of a part that is there for good
   abbrev pub OpensParts : Type 0
-  OpensParts = (disk : D) (c : Commit) (log : List Entry) (o : Opened) → IsOpened (content disk) (images disk) c log o
+  OpensParts = (disk : D) (c : Commit) (log : List Entry) (o : Opened)
+      → IsOpened (disks.content disk) (disks.images disk) c log o
       → (i : List ℕ) → Stands c i log → IsImageOf (first_past log o) (view o.pass) (length log) i
 
   -- a step that leaves the last commit goes on in one table; what goes on in one table, and then goes on, does so
   abbrev pub StepsGoOn : Type 0
-  StepsGoOn = (p q : Point D) → Stays content images since moment p q → GoesOnHere content images since moment p q
+  StepsGoOn = (p q : Point D) → Stays disks p q → GoesOnHere disks p q
 
   abbrev pub BothGoOn : Type 0
-  BothGoOn = (p m q : Point D) → GoesOnHere content images since moment p m → GoesOnHere content images since moment m q
-      → GoesOnHere content images since moment p q
+  BothGoOn = (p m q : Point D) → GoesOnHere disks p m → GoesOnHere disks m q
+      → GoesOnHere disks p q

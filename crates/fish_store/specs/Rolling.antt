@@ -1,6 +1,7 @@
 -- A table that takes another one's place, where all of that is committed.
-use Rattle.std.specs.Prelude.{ℕ, ◌≡◌, ◌+◌, ◌^◌, List, Option, None, map, ⊤}
+use Rattle.std.specs.Prelude.{ℕ, ◌≡◌, ◌+◌, ◌^◌, List, None, map, ⊤}
 use Rattle.fish_catalog.specs.Clamps.{clamped}
+use Rattle.fish_disk.specs.declared.disk.Disk.{Ghosts as Disks}
 use Rattle.fish_flush.specs.Rows.{HoldsRows}
 use Rattle.fish_registry.specs.Knowing.{KnowsFirst}
 use Rattle.fish_rule.specs.LoadSteps.{IsAlone}
@@ -27,13 +28,7 @@ pub record MayRoll {D : Type 0} (images : D → List ℕ → Type 0) (disk : D) 
 -- another table took its place: of the same shape, at its first view, it begins where the last commit ends, at the
 -- version that the control pass knew, with the registrar's rows cut to that count; a checkpoint may follow; and the
 -- store went on to it
-pub record HasRolled
-    {D : Type 0}
-    (content : D → Option (List ℕ))
-    (images : D → List ℕ → Type 0)
-    (since : D → ℕ → List ℕ → Type 0)
-    (moment : D → ℕ)
-    (disk : D) (old new : Store) : Type 0 where
+pub record HasRolled {D : Type 0} (disks : Disks D) (disk : D) (old new : Store) : Type 0 where
   pub pass : IsPassOf new.log new.pass
   pub first : view new.pass ≡ first_view new.log.key
   pub number : new.log.key.number ≡ old.file.flusher.count
@@ -48,6 +43,6 @@ pub record HasRolled
       ≡ old.file.flusher.line + table_lines old.log.shape.pages old.file.flusher.count old.file.flusher.line
   pub flusher : new.file.flusher ≡ old.file.flusher
   pub below : IsBelow new.log.key new.file.cold
-  pub commit : MayGoOn images (point_at disk new)
+  pub commit : MayGoOn disks.images (point_at disk new)
   pub unshut : (view new.pass).shut ≡ None
-  pub runs : Runs content images since moment (point_at disk old) (point_at disk new) (λ w. ⊤)
+  pub runs : Runs disks (point_at disk old) (point_at disk new) (λ w. ⊤)

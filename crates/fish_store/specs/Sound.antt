@@ -7,6 +7,7 @@ use Rattle.fish_cold.specs.Carries.{CarriesTable}
 use Rattle.fish_cold.specs.declared.cold.Cold.{Cold}
 use Rattle.fish_disk.specs.Content.{StillReads}
 use Rattle.fish_disk.specs.Crash.{LeavesOnly}
+use Rattle.fish_disk.specs.declared.disk.Disk.{Ghosts as Disks}
 use Rattle.fish_flush.specs.Carrying.{Carries}
 use Rattle.fish_flush.specs.Rows.{HaveGrown}
 use Rattle.fish_flush.specs.declared.flusher.Flusher.{Flusher}
@@ -65,63 +66,45 @@ pub record HasPast {D : Type 0} (content : D → Option (List ℕ)) (p : Point D
 
 -- the table comes after its past, which the disk has; every image stands for a part of the log that has the last commit's entries,
 -- and where no call of the disk failed, for these alone
-pub record Sound {D : Type 0} (content : D → Option (List ℕ)) (images : D → List ℕ → Type 0) (p : Point D) (past : Whole) : Type 0 where
+pub record Sound {D : Type 0} (disks : Disks D) (p : Point D) (past : Whole) : Type 0 where
   pub fits : FitsPast past p.view
-  pub has : HasPast content p past
-  pub rests : p.flusher.shut ≡ false → Rests images p past
-  pub now : (c : List ℕ) → images p.disk c → IsImageOf past p.view p.flusher.count c
+  pub has : HasPast disks.content p past
+  pub rests : p.flusher.shut ≡ false → Rests disks.images p past
+  pub now : (c : List ℕ) → disks.images p.disk c → IsImageOf past p.view p.flusher.count c
 
 -- the store was sound after this past, of a disk whose content is told later
-pub record IsSoundBehind {D : Type 0} (content : D → Option (List ℕ)) (images : D → List ℕ → Type 0) (p : Point D)
-    (later : Option (List ℕ)) (past : Whole) : Type 0 where
-  pub sound : Sound content images p past
+pub record IsSoundBehind {D : Type 0} (disks : Disks D) (p : Point D) (later : Option (List ℕ)) (past : Whole)
+    : Type 0 where
+  pub sound : Sound disks p past
   pub told : IsSome later
 
 -- ---- from one moment to a later one
 
 -- to one of the same table, over statements, checkpoints and reads: what is sound stays so after the same past, as far as the disk's
 -- content is told, and since the first moment a crash left parts of the log, none shorter than that moment's commit
-pub record GoesOnHere
-    {D : Type 0}
-    (content : D → Option (List ℕ))
-    (images : D → List ℕ → Type 0)
-    (since : D → ℕ → List ℕ → Type 0)
-    (moment : D → ℕ)
-    (p q : Point D) : Type 0 where
+pub record GoesOnHere {D : Type 0} (disks : Disks D) (p q : Point D) : Type 0 where
   pub learns : Learns p.view q.view
-  pub told_before : IsSome (content q.disk) → IsSome (content p.disk)
+  pub told_before : IsSome (disks.content q.disk) → IsSome (disks.content p.disk)
   pub rises : p.flusher.count ≤ q.flusher.count
-  pub sound : (past : Whole) → Sound content images p past → IsSome (content q.disk) → Sound content images q past
-  pub crash : (past : Whole) → Sound content images p past → IsSome (content q.disk)
-      → LeavesOnly images since moment p.disk q.disk (IsImageOf past q.view p.flusher.count)
+  pub sound : (past : Whole) → Sound disks p past → IsSome (disks.content q.disk) → Sound disks q past
+  pub crash : (past : Whole) → Sound disks p past → IsSome (disks.content q.disk)
+      → LeavesOnly disks.images disks.since disks.moment p.disk q.disk (IsImageOf past q.view p.flusher.count)
 
 -- what is so of a later moment, of the same table or of one that took its place: it has a past in which nothing more may be in the end,
 -- each whole that may be in the end is as is told, it is sound, and a crash left what it leaves in one table
-pub record Reaches
-    {D : Type 0}
-    (content : D → Option (List ℕ))
-    (images : D → List ℕ → Type 0)
-    (since : D → ℕ → List ℕ → Type 0)
-    (moment : D → ℕ)
-    (past : Whole) (p q : Point D) (tells : Whole → Type 0) : Type 0 where
+pub record Reaches {D : Type 0} (disks : Disks D) (past : Whole) (p q : Point D) (tells : Whole → Type 0) : Type 0 where
   pub next : Whole
   pub goes : GoesOn past p.view next q.view
   pub told : WillHold next q.view tells
-  pub sound : Sound content images q next
-  pub crash : LeavesOnly images since moment p.disk q.disk (IsImageOf next q.view p.flusher.count)
+  pub sound : Sound disks q next
+  pub crash : LeavesOnly disks.images disks.since disks.moment p.disk q.disk (IsImageOf next q.view p.flusher.count)
 
 -- from one moment to a later one, as far as the disk's content is told
-pub record Runs
-    {D : Type 0}
-    (content : D → Option (List ℕ))
-    (images : D → List ℕ → Type 0)
-    (since : D → ℕ → List ℕ → Type 0)
-    (moment : D → ℕ)
-    (p q : Point D) (tells : Whole → Type 0) : Type 0 where
-  pub told_before : IsSome (content q.disk) → IsSome (content p.disk)
+pub record Runs {D : Type 0} (disks : Disks D) (p q : Point D) (tells : Whole → Type 0) : Type 0 where
+  pub told_before : IsSome (disks.content q.disk) → IsSome (disks.content p.disk)
   pub rises : p.flusher.count ≤ q.flusher.count
-  pub reaches : (past : Whole) → Sound content images p past → IsSome (content q.disk)
-      → Reaches content images since moment past p q tells
+  pub reaches : (past : Whole) → Sound disks p past → IsSome (disks.content q.disk)
+      → Reaches disks past p q tells
 
 -- ---- steps
 
@@ -130,31 +113,18 @@ abbrev pub RowsGoOn : View → List CatRow → List CatRow → Type 0
 RowsGoOn v old new = (n : ℕ) (rows : List CatRow) → n ≤ v.learned.count → HaveGrown n rows old → HaveGrown n rows new
 
 -- the control pass went on, and of the disk pages were read at most
-pub record Stays
-    {D : Type 0}
-    (content : D → Option (List ℕ))
-    (images : D → List ℕ → Type 0)
-    (since : D → ℕ → List ℕ → Type 0)
-    (moment : D → ℕ)
-    (p q : Point D) : Type 0 where
+pub record Stays {D : Type 0} (disks : Disks D) (p q : Point D) : Type 0 where
   pub learns : Learns p.view q.view
   pub rows_on : RowsGoOn p.view p.rows q.rows
   pub flusher : q.flusher ≡ p.flusher
   pub shape : q.shape ≡ p.shape
-  pub content_is : StillReads (content p.disk) (content q.disk)
-  pub crash : LeavesOnly images since moment p.disk q.disk (images p.disk)
-  pub table : CarriesTable (content p.disk) p.view.about p.cold
-      → IfSome (content q.disk) (λ c. CarriesTable (content q.disk) p.view.about q.cold)
+  pub content_is : StillReads (disks.content p.disk) (disks.content q.disk)
+  pub crash : LeavesOnly disks.images disks.since disks.moment p.disk q.disk (disks.images p.disk)
+  pub table : CarriesTable (disks.content p.disk) p.view.about p.cold
+      → IfSome (disks.content q.disk) (λ c. CarriesTable (disks.content q.disk) p.view.about q.cold)
 
 -- of the disk pages were read at most, and what was carried of a table still is
-pub record ReadsPages
-    {D : Type 0}
-    (content : D → Option (List ℕ))
-    (images : D → List ℕ → Type 0)
-    (since : D → ℕ → List ℕ → Type 0)
-    (moment faults : D → ℕ)
-    (k : Key)
-    (old new : Cold)
-    (disk next : D) : Type 0 where
-  pub cold : StaysCold content images since moment faults old new disk next
-  pub kept : CarriesTable (content disk) k old → IfSome (content next) (λ c. CarriesTable (content next) k new)
+pub record ReadsPages {D : Type 0} (disks : Disks D) (k : Key) (old new : Cold) (disk next : D) : Type 0 where
+  pub cold : StaysCold disks old new disk next
+  pub kept : CarriesTable (disks.content disk) k old
+      → IfSome (disks.content next) (λ c. CarriesTable (disks.content next) k new)

@@ -55,7 +55,7 @@ impl StoreFile {
         ensures count { IfOk result (λ n. (self.new.flusher.count ≡ n) × (n ≤ (view pass.new).learned.count)) }
         ensures again { (IsErrOf result FlushRefusal.DiskFault → ⊥)
             → MayGoOn D.images (point_of disk.new self.new log.now pass.new registrar.now) }
-        ensures goes { GoesOnHere D.content D.images D.since D.moment (point_of disk.old self.old log.now pass.old registrar.now)
+        ensures goes { GoesOnHere D.Disk (point_of disk.old self.old log.now pass.old registrar.now)
             (point_of disk.new self.new log.now pass.new registrar.now) }
 
         ensures cause { HasFlushCause (D.faults disk.old) (D.faults disk.new) result }
@@ -92,8 +92,7 @@ impl StoreFile {
         ensures defs { IsDefsOf (view pass.new) defs.new }
         ensures base { IsBelow log.now.key self.new.cold }
         ensures flusher { self.new.flusher ≡ self.old.flusher }
-        ensures reads { ReadsPages D.content D.images D.since D.moment D.faults log.now.key self.old.cold self.new.cold disk.old
-            disk.new }
+        ensures reads { ReadsPages D.Disk log.now.key self.old.cold self.new.cold disk.old disk.new }
         ensures explained { IfOk result (λ a. IsExplained (view pass.old) (view pass.new) defs.new.known ask.now a.from a.to a.opens
             a.plan) }
         ensures opened { IfOk result (λ a. (n : ℕ) → Among n a.opens → (view pass.new).about.number ≤ n) }

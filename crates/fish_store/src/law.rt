@@ -15,8 +15,8 @@ pub fn law_carried()
 ///
 /// Its contract is that law. No call of the program needs it.
 pub fn law_sound<D: Disk>()
-    ensures opens { OpensSound D.content D.images D.since D.moment }
-    ensures parts { OpensParts D.content D.images D.since D.moment }
-    ensures steps { StepsGoOn D.content D.images D.since D.moment }
-    ensures both { BothGoOn D.content D.images D.since D.moment }
+    ensures opens { OpensSound D.Disk }
+    ensures parts { OpensParts D.Disk }
+    ensures steps { StepsGoOn D.Disk }
+    ensures both { BothGoOn D.Disk }
 {}

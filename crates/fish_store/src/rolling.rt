@@ -23,7 +23,7 @@ impl Store {
     /// Memory ran out. Then the log is open no more; what the disk has stays as it is.
     pub fn roll<D: Disk>(self, alloc: Global, disk: &D) -> Result<Store, AllocError>
         requires may { MayRoll D.images disk.now self }
-        ensures rolled { IfOk result (HasRolled D.content D.images D.since D.moment disk.now self) }
+        ensures rolled { IfOk result (HasRolled D.Disk disk.now self) }
     {
         let Store {
             log,

@@ -1,5 +1,5 @@
 -- A store that was just opened is between two blocks.
-use Rattle.std.proofs.Common.{◌≡◌, ℕ, ◌+◌, ◌*◌, ◌/◌, ◌%◌, ◌<◌, ◌≤◌, List, All, Option, Some, map, refl, sym, ap, ◌∙◌, subst, inl, arith}
+use Rattle.std.proofs.Common.{◌≡◌, ℕ, ◌+◌, ◌*◌, ◌/◌, ◌%◌, ◌<◌, ◌≤◌, List, All, Some, map, refl, sym, ap, ◌∙◌, subst, inl, arith}
 use Rattle.std.proofs.lemmas.Nat.{div-mul-add, mod-mul-add}
 use Rattle.fish_catalog.proofs.Clamping.{all_clamped}
 use Rattle.fish_catalog.specs.Clamps.{clamped}
@@ -7,6 +7,7 @@ use Rattle.fish_catalog.specs.Listing.{listed_of}
 use Rattle.fish_catalog.specs.declared.commit.Commit.{Commit}
 use Rattle.fish_catalog.specs.declared.entry.Entry.{Entry}
 use Rattle.fish_catalog.specs.declared.row.CatRow.{CatRow}
+use Rattle.fish_disk.specs.declared.disk.Disk.{Ghosts as Disks}
 use Rattle.fish_flush.specs.Carrying.{Carries}
 use Rattle.fish_ingest.specs.Ingestion.{CanStart}
 use Rattle.fish_lanes.specs.Ending.{HasEnd}
@@ -59,8 +60,8 @@ first_known k r rows = record {
   are = λ g read. definitions_first k g k.version (omega arith) ∙ ap (map listed_of) rows;
 }
 
-module _ {D : Type 0} (content : D → Option (List ℕ)) (images : D → List ℕ → Type 0) (disk : D) (c : Commit) (log : List Entry) (o : Opened)
-    (h : IsOpened (content disk) (images disk) c log o) where
+module _ {D : Type 0} (disks : Disks D) (disk : D) (c : Commit) (log : List Entry) (o : Opened)
+    (h : IsOpened (disks.content disk) (disks.images disk) c log o) where
   -- the line fits its word
   few_lines : o.log.key.line < 68719476736
   few_lines =
@@ -79,8 +80,8 @@ module _ {D : Type 0} (content : D → Option (List ℕ)) (images : D → List �
 
   -- so a block may be run where its table begins
   pub between_opened : (s : Store) → s.log ≡ o.log → s.pass ≡ o.pass → KnowsFirst s.registrar → s.registrar.catalog ≡ o.catalog
-      → s.file.flusher ≡ o.flusher → s.file.cold ≡ o.cold → IsBetween images disk s
-  between_opened s log_is pass_is first rows flusher_is cold_is = subst (IsBetween images disk) (λ i. same i) (record {
+      → s.file.flusher ≡ o.flusher → s.file.cold ≡ o.cold → IsBetween disks.images disk s
+  between_opened s log_is pass_is first rows flusher_is cold_is = subst (IsBetween disks.images disk) (λ i. same i) (record {
     can = record {
       of = h.pass;
       start = subst CanStart (sym h.first) (record { live = omega arith; outside = refl });
@@ -91,7 +92,7 @@ module _ {D : Type 0} (content : D → Option (List ℕ)) (images : D → List �
       may = (
         c,
         log,
-        subst (λ (l : List CatRow). Carries (images disk) o.flusher (view o.pass) o.log.shape l c log) (sym rows) h.carries,
+        subst (λ (l : List CatRow). Carries (disks.images disk) o.flusher (view o.pass) o.log.shape l c log) (sym rows) h.carries,
       );
       counted =
           let count = h.carries.rest.committed.count in

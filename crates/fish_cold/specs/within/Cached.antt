@@ -1,7 +1,7 @@
 -- Which pages are held of the older records, and what the calls do to them. What private clauses need of it.
 use Rattle.std.specs.Option.{option_or}
 use Rattle.std.specs.Prelude.{Err, IfErr, IfOk, IfSome, OnErr, OnOk}
-use Rattle.std.specs.Prelude.{ℕ, ◌≡◌, ◌⊎◌, ◌↔◌, List, Option, Some, None, Result, Ok}
+use Rattle.std.specs.Prelude.{ℕ, ◌≡◌, ◌⊎◌, ◌↔◌, Option, Some, None, Result, Ok}
 use Rattle.fish_cold.specs.Cached.{Holds, Uses, held_in}
 use Rattle.fish_cold.specs.Caching.{HasDiskCause, IsPageIn, OnlyReads}
 use Rattle.fish_cold.specs.within.Caching.{IsUndamaged}
@@ -9,25 +9,19 @@ use Rattle.fish_cold.specs.declared.cold.Cold.{Cold}
 use Rattle.fish_cold.specs.declared.page.Page.{Page}
 use Rattle.fish_cold.specs.declared.refusal.ColdRefusal.TheVariants.{OutOfMemory}
 use Rattle.fish_cold.specs.declared.refusal.ColdRefusal.{ColdRefusal}
+use Rattle.fish_disk.specs.declared.disk.Disk.{Ghosts as Disks}
 
 -- ---- what a call does beside its answer
 
 -- the page was brought from the disk, or is held and the disk wasn't touched
-pub record Brings
-    {D : Type 0}
-    (content : D → Option (List ℕ))
-    (images : D → List ℕ → Type 0)
-    (since : D → ℕ → List ℕ → Type 0)
-    (moment faults : D → ℕ)
-    (number : ℕ)
-    (cold : Cold)
-    (old new : D)
-    (result : Result (Option Page) ColdRefusal) : Type 0 where
+pub record Brings {D : Type 0} (disks : Disks D) (number : ℕ) (cold : Cold) (old new : D) (result : Result
+    (Option Page) ColdRefusal) : Type 0 where
   pub held : IfOk result (λ o. (o ≡ None) ↔ Holds cold number)
-  pub fresh : IfOk result (λ o. IfSome o (λ p. IfSome (content new) (λ c. IsPageIn cold.base.line cold.starts c number p)))
+  pub fresh : IfOk result (λ o. IfSome o (λ p. IfSome (disks.content new) (λ c. IsPageIn cold.base.line cold.starts c
+      number p)))
   pub untouched : Holds cold number → (new ≡ old) × (result ≡ Ok None)
-  pub outside : OnlyReads content images since moment old new
-  pub cause : HasDiskCause (faults old) (faults new) result
+  pub outside : OnlyReads disks old new
+  pub cause : HasDiskCause (disks.faults old) (disks.faults new) result
   pub whole : IfErr result IsUndamaged
 
 -- what was read of the page is answered, and then the page was used; or memory ran out; where nothing is answered nothing changed

@@ -1,14 +1,9 @@
 -- What a registrar keeps of the definitions is what its pass knows of the log's words. What private clauses need of it.
-use Rattle.std.specs.Prelude.{◌≡◌, List}
-use Rattle.fish_catalog.specs.declared.row.CatRow.{CatRow}
+use Rattle.std.specs.Prelude.{◌≡◌}
 use Rattle.fish_registry.specs.Knowing.{Knows}
 use Rattle.fish_registry.specs.declared.registrar.Registrar.{Registrar}
 use Rattle.fish_rule.specs.Logs.{Learns}
 use Rattle.fish_rule.specs.declared.view.View.{View}
-
--- the rows that it keeps
-abbrev pub rows_of : Registrar → List CatRow
-rows_of r = r.catalog
 
 -- what a registrar keeps stays what its pass knows, whatever else that pass does: its lane, definitions, boundaries and
 -- the registration that waits are the same, and it has learned no less

@@ -1,12 +1,9 @@
--- The log that the words spell, and what a pass knows of it. What private clauses need of it.
+-- What a pass knows of the log's words. What private clauses need of it.
 use Rattle.std.specs.Prelude.{ℕ, ◌≡◌, ◌+◌, ◌*◌, suc, Option, Some, None}
-use Rattle.fish_catalog.specs.declared.entry.Entry.{Entry}
 use Rattle.fish_layout.specs.Cleared.{IsKeyWord}
-use Rattle.fish_rule.specs.Logs.{Extends, KnowsAs, KnowsMark}
+use Rattle.fish_rule.specs.Logs.{Extends}
 use Rattle.fish_rule.specs.Views.{Among}
 use Rattle.fish_rule.specs.declared.view.View.{View}
-
--- ---- what a view tells of the log
 
 -- word i of the region at a line, which has n key entries, became known by one load, or it is the
 -- first of a key entry and nothing was loaded
@@ -19,10 +16,3 @@ IsWordKnown v u n line i (Some x) = Among (record { place = line * 4 + i; value 
 pub record IsWordRead (v u : View) (keys line offset : ℕ) (word : Option ℕ) : Type 0 where
   pub extends : Extends v u
   pub told : IsWordKnown v u keys line offset word
-
--- ---- one log
-
--- what a number was found to be: an entry, or a mark
-abbrev pub KnowsNext : View → ℕ → Option Entry → Type 0
-KnowsNext v n None = KnowsMark v n
-KnowsNext v n (Some e) = KnowsAs v n e

@@ -1,5 +1,6 @@
 -- How the rounds of a block go on.
 use Rattle.std.specs.Prelude.{ℕ, ◌≡◌, ◌⊎◌, ◌++◌, List, [], ◌∷◌, Bool, true, false, Option, Some, None, length, ⊤}
+use Rattle.fish_disk.specs.declared.disk.Disk.{Ghosts as Disks}
 use Rattle.fish_feed.specs.Queues.{both}
 use Rattle.fish_feed.specs.Works.{AreAnewAfterFirst, Pairs, Triples}
 use Rattle.fish_lanes.specs.Blocks.{IsNewLane}
@@ -58,17 +59,10 @@ HasNext x given y = (to_do y ≡ x.works ++ given) × ((x.works ≡ []) ⊎ (giv
 
 -- the rounds so far of a block, from its first moment on: over them lanes were given this, and they go on with what
 -- they have; what they said is kept, but for the boundary that was found last
-pub record GoesIn
-    {D : Type 0}
-    (content : D → Option (List ℕ))
-    (images : D → List ℕ → Type 0)
-    (since : D → ℕ → List ℕ → Type 0)
-    (moment : D → ℕ)
-    (disk : D) (s : Store) (from : ℕ) (disk' : D) (a : RoundStart) (lanes : List Lane) (said : List Said)
-    (given : List (List Work))
-    : Type 0 where
+pub record GoesIn {D : Type 0} (disks : Disks D) (disk : D) (s : Store) (from : ℕ) (disk' : D) (a : RoundStart)
+    (lanes : List Lane) (said : List Said) (given : List (List Work)) : Type 0 where
   pub rounds : List Round
-  pub ran : HasRounds content images since moment (point_at disk s) (point_at disk' a.store) from (registry_of (view s.pass) s.registrar)
+  pub ran : HasRounds disks (point_at disk s) (point_at disk' a.store) from (registry_of (view s.pass) s.registrar)
       rounds a.fresh a.from (registry_of (view a.store.pass) a.store.registrar)
   pub renewed : AreRenewed rounds a.fresh
   pub follow : FollowOn rounds
@@ -82,17 +76,10 @@ pub record GoesIn
       → block_said (rounds ++ b ∷ []) ≡ lanes_after b.fresh (bound_items a.bound) said b.lanes
 
 -- the same before a round for which lanes were given this, where it is of all that they were given
-pub record IsReady
-    {D : Type 0}
-    (content : D → Option (List ℕ))
-    (images : D → List ℕ → Type 0)
-    (since : D → ℕ → List ℕ → Type 0)
-    (moment : D → ℕ)
-    (disk : D) (s : Store) (from : ℕ) (disk' : D) (a : RoundStart) (lanes : List Lane) (said : List Said)
-    (now given : List (List Work))
-    : Type 0 where
+pub record IsReady {D : Type 0} (disks : Disks D) (disk : D) (s : Store) (from : ℕ) (disk' : D) (a : RoundStart)
+    (lanes : List Lane) (said : List Said) (now given : List (List Work)) : Type 0 where
   pub rounds : List Round
-  pub ran : HasRounds content images since moment (point_at disk s) (point_at disk' a.store) from (registry_of (view s.pass) s.registrar)
+  pub ran : HasRounds disks (point_at disk s) (point_at disk' a.store) from (registry_of (view s.pass) s.registrar)
       rounds a.fresh a.from (registry_of (view a.store.pass) a.store.registrar)
   pub renewed : AreRenewed rounds a.fresh
   pub next : (b : Round) → b.fresh ≡ a.fresh → b.given ≡ now → AreNumbered b.lanes
@@ -104,20 +91,14 @@ pub record IsReady
       → block_said (rounds ++ b ∷ []) ≡ lanes_after b.fresh (bound_items a.bound) said b.lanes
 
 -- lanes came to their ends and said this, and the store may go on
-pub record EndsRounds
-    {D : Type 0}
-    (content : D → Option (List ℕ))
-    (images : D → List ℕ → Type 0)
-    (since : D → ℕ → List ℕ → Type 0)
-    (moment : D → ℕ)
-    (disk : D) (s : Store) (from : ℕ) (disk' : D) (t : Store) (end : BlockEnd) (said : List Said) (given : List (List Work))
-    : Type 0 where
-  pub go : CanGoOn images disk' t end.to
+pub record EndsRounds {D : Type 0} (disks : Disks D) (disk : D) (s : Store) (from : ℕ) (disk' : D) (t : Store)
+    (end : BlockEnd) (said : List Said) (given : List (List Work)) : Type 0 where
+  pub go : CanGoOn disks.images disk' t end.to
   pub rounds : List Round
   pub follow : FollowOn rounds
   pub were : WereGiven given rounds
   pub all : AreAll rounds
-  pub ran : HasRounds content images since moment (point_at disk s) (point_at disk' t) from (registry_of (view s.pass) s.registrar)
+  pub ran : HasRounds disks (point_at disk s) (point_at disk' t) from (registry_of (view s.pass) s.registrar)
       rounds false end.to (registry_of (view t.pass) t.registrar)
   pub renewed : AreRenewed rounds false
   pub first : first_number rounds ≡ from
@@ -125,17 +106,12 @@ pub record EndsRounds
   pub said_are : said ≡ block_said rounds
 
 -- a fault stopped them
-pub record StopsBlock
-    {D : Type 0}
-    (content : D → Option (List ℕ))
-    (images : D → List ℕ → Type 0)
-    (since : D → ℕ → List ℕ → Type 0)
-    (moment : D → ℕ)
-    (disk : D) (s : Store) (from : ℕ) (given : List (List Work)) (disk' : D) (e : Stopped) : Type 0 where
+pub record StopsBlock {D : Type 0} (disks : Disks D) (disk : D) (s : Store) (from : ℕ) (given : List (List Work))
+    (disk' : D) (e : Stopped) : Type 0 where
   pub rounds : List Round
   pub cut : Option Round
   pub follow : FollowOn (with_cut rounds cut)
   pub were : WereGiven given (with_cut rounds cut)
-  pub stops : StopsRounds content images since moment (point_at disk s) disk' from (registry_of (view s.pass) s.registrar) rounds cut e
+  pub stops : StopsRounds disks (point_at disk s) disk' from (registry_of (view s.pass) s.registrar) rounds cut e
   pub renewed : AreRenewed (with_cut rounds cut) true
   pub input : e.why ≡ fault.Input → cut ≡ None

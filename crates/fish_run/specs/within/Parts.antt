@@ -1,6 +1,7 @@
 -- A block whose lanes are given their statements in turn, over files that are told: before it, at its end, and where a
 -- fault stopped it.
 use Rattle.std.specs.Prelude.{ℕ, ◌≡◌, ◌+◌, List, [], Option, length}
+use Rattle.fish_disk.specs.declared.disk.Disk.{Ghosts as Disks}
 use Rattle.fish_feed.specs.Queues.{IsQueue, MayEnd}
 use Rattle.fish_feed.specs.Works.{AreDone, Pairs, Triples}
 use Rattle.fish_feed.specs.declared.queue.Queue.{Queue}
@@ -29,63 +30,40 @@ abbrev pub AreUngiven
 AreUngiven told left texts queues = Pairs (λ ss q. IsQueue told left ss [] q) texts queues
 
 -- all that the lanes of these queues are to do was given, and its rounds have ended
-pub record EndsParts
-    {D F : Type 0}
-    (content : D → Option (List ℕ))
-    (images : D → List ℕ → Type 0)
-    (since : D → ℕ → List ℕ → Type 0)
-    (moment : D → ℕ)
-    (disk : D) (s : Store) (from : ℕ) (left : F → Option (List ℕ)) (before : Option Files) (queues : List (Queue F))
-    (disk' : D)
-    (now : Option Files) (t : Store) (end : BlockEnd) (said : List Said) : Type 0 where
+pub record EndsParts {D F : Type 0} (disks : Disks D) (disk : D) (s : Store) (from : ℕ) (left : F → Option (List ℕ))
+    (before : Option Files) (queues : List (Queue F)) (disk' : D) (now : Option Files) (t : Store) (end : BlockEnd)
+    (said : List Said) : Type 0 where
   pub given : List (List Work)
-  pub rounds : EndsRounds content images since moment disk s from disk' t end said given
+  pub rounds : EndsRounds disks disk s from disk' t end said given
   pub done : (texts : List (List Statement)) → AreUngiven before left texts queues → Pairs (AreDone now) texts given
 
 abbrev pub EndsBlock
-    : {D F : Type 0} → (D → Option (List ℕ)) → (D → List ℕ → Type 0) → (D → ℕ → List ℕ → Type 0) → (D → ℕ) → D → Store → ℕ
+    : {D F : Type 0} → Disks D → D → Store → ℕ
     → (F → Option (List ℕ)) → Option Files → List (Queue F) → D → Option Files → Ended → Type 0
-EndsBlock content images since moment disk s from left before queues disk' now e =
-    EndsParts content images since moment disk s from left before queues disk' now e.store e.end e.said.items
+EndsBlock disks disk s from left before queues disk' now e =
+    EndsParts disks disk s from left before queues disk' now e.store e.end e.said.items
 
 -- a fault stopped them, after what was given so far
-pub record StopsParts
-    {D F : Type 0}
-    (content : D → Option (List ℕ))
-    (images : D → List ℕ → Type 0)
-    (since : D → ℕ → List ℕ → Type 0)
-    (moment : D → ℕ)
-    (disk : D) (s : Store) (from : ℕ) (left : F → Option (List ℕ)) (before : Option Files) (queues : List (Queue F))
-    (disk' : D)
-    (now : Option Files) (queues' : List (Queue F)) (e : Stopped) : Type 0 where
+pub record StopsParts {D F : Type 0} (disks : Disks D) (disk : D) (s : Store) (from : ℕ) (left : F → Option (List ℕ))
+    (before : Option Files) (queues : List (Queue F)) (disk' : D) (now : Option Files) (queues' : List (Queue F))
+    (e : Stopped) : Type 0 where
   pub given : List (List Work)
-  pub stops : StopsBlock content images since moment disk s from given disk' e
-  pub may : (texts : List (List Statement)) → AreUngiven before left texts queues → Triples (MayEnd now left) texts given queues'
+  pub stops : StopsBlock disks disk s from given disk' e
+  pub may : (texts : List (List Statement)) → AreUngiven before left texts queues
+      → Triples (MayEnd now left) texts given queues'
 
 -- ---- a block with these statements
 
 -- it came to its end, and all of them were done
-pub record EndsLanes
-    {D : Type 0}
-    (content : D → Option (List ℕ))
-    (images : D → List ℕ → Type 0)
-    (since : D → ℕ → List ℕ → Type 0)
-    (moment : D → ℕ)
-    (disk : D) (s : Store) (from : ℕ) (texts : List (List Statement)) (disk' : D) (told : Option Files)
-    (e : Ended) : Type 0 where
+pub record EndsLanes {D : Type 0} (disks : Disks D) (disk : D) (s : Store) (from : ℕ) (texts : List (List Statement))
+    (disk' : D) (told : Option Files) (e : Ended) : Type 0 where
   pub given : List (List Work)
-  pub rounds : EndsRounds content images since moment disk s from disk' e.store e.end e.said.items given
+  pub rounds : EndsRounds disks disk s from disk' e.store e.end e.said.items given
   pub done : Pairs (AreDone told) texts given
 
 -- a fault stopped it, perhaps after some of its rounds
-pub record StopsLanes
-    {D : Type 0}
-    (content : D → Option (List ℕ))
-    (images : D → List ℕ → Type 0)
-    (since : D → ℕ → List ℕ → Type 0)
-    (moment : D → ℕ)
-    (disk : D) (s : Store) (from : ℕ) (texts : List (List Statement)) (disk' : D) (told : Option Files)
-    (e : Stopped) : Type 0 where
+pub record StopsLanes {D : Type 0} (disks : Disks D) (disk : D) (s : Store) (from : ℕ) (texts : List (List Statement))
+    (disk' : D) (told : Option Files) (e : Stopped) : Type 0 where
   pub given : List (List Work)
-  pub stops : StopsBlock content images since moment disk s from given disk' e
+  pub stops : StopsBlock disks disk s from given disk' e
   pub are : AreRounds told texts (with_cut stops.rounds stops.cut)

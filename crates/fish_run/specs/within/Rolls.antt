@@ -1,5 +1,6 @@
 -- What a run leaves as it begins a new table. Private clauses speak of it.
-use Rattle.std.specs.Prelude.{ℕ, ◌≡◌, true, IfSome, List, None, Option, ⊤}
+use Rattle.std.specs.Prelude.{ℕ, ◌≡◌, true, IfSome, None, ⊤}
+use Rattle.fish_disk.specs.declared.disk.Disk.{Ghosts as Disks}
 use Rattle.fish_lanes.specs.Ending.{HasEnd}
 use Rattle.fish_lanes.specs.Registering.{registry_of}
 use Rattle.fish_rule.specs.Logs.{Learns}
@@ -15,34 +16,24 @@ use Rattle.fish_store.specs.declared.store.Store.{Store}
 
 -- the log of so many entries was committed, and a new table begins after it, which isn't full; the definitions are those of before, and no
 -- index begins or ends past the log
-pub record RollsOn
-    {D : Type 0}
-    (content : D → Option (List ℕ))
-    (images : D → List ℕ → Type 0)
-    (since : D → ℕ → List ℕ → Type 0)
-    (moment : D → ℕ)
-    (disk : D) (s : Store) (from : ℕ) (disk' : D) (t : Store) : Type 0 where
-  pub runs : Runs content images since moment (point_at disk s) (point_at disk' t) (λ w. ⊤)
-  pub go : CanGoOn images disk' t from
+pub record RollsOn {D : Type 0} (disks : Disks D) (disk : D) (s : Store) (from : ℕ) (disk' : D) (t : Store)
+    : Type 0 where
+  pub runs : Runs disks (point_at disk s) (point_at disk' t) (λ w. ⊤)
+  pub go : CanGoOn disks.images disk' t from
   pub unshut : (view t.pass).shut ≡ None
   pub registry : registry_of (view t.pass) t.registrar ≡ begun true from (registry_of (view s.pass) s.registrar)
   pub number : t.log.key.number ≡ from
   pub shape : t.log.shape ≡ s.log.shape
 
 -- the commit failed, and the table stays as it is; or memory ran out for the new one
-pub record StopsRoll
-    {D : Type 0}
-    (content : D → Option (List ℕ))
-    (images : D → List ℕ → Type 0)
-    (since : D → ℕ → List ℕ → Type 0)
-    (moment : D → ℕ)
-    (disk : D) (s : Store) (from : ℕ) (disk' : D) (e : Stopped) : Type 0 where
+pub record StopsRoll {D : Type 0} (disks : Disks D) (disk : D) (s : Store) (from : ℕ) (disk' : D) (e : Stopped)
+    : Type 0 where
   pub at : Point D
   pub disk_is : at.disk ≡ disk'
   pub store : IfSome e.store (λ x. (at ≡ point_at disk' x) × CanClose x)
   pub lost : e.store ≡ None → e.why ≡ fault.Memory
   pub named : IsCommitFault e.why
-  pub runs : Runs content images since moment (point_at disk s) at (λ w. ⊤)
+  pub runs : Runs disks (point_at disk s) at (λ w. ⊤)
   pub end : HasEnd at.view from
   pub learns : Learns (view s.pass) at.view
   pub shut : at.view.shut ≡ (view s.pass).shut

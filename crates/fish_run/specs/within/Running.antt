@@ -1,5 +1,6 @@
 -- What the blocks of a run leave, from its first moment on. Private clauses speak of it.
 use Rattle.std.specs.Prelude.{ℕ, ◌≡◌, ◌≢◌, ◌||◌, List, [], ◌⊎◌, Bool, false, true, Option, None}
+use Rattle.fish_disk.specs.declared.disk.Disk.{Ghosts as Disks}
 use Rattle.fish_lanes.specs.Ending.{HasEnd}
 use Rattle.fish_lanes.specs.Registering.{registry_of}
 use Rattle.fish_outside.specs.Content.{Files, Gained, GainedPart}
@@ -29,18 +30,12 @@ counts_of host out disk h w d = record { host = host h; out = out w; disk = disk
 -- ---- one block
 
 -- a block ran, and was written
-pub record EndsOne
-    {D : Type 0}
-    (content : D → Option (List ℕ))
-    (images : D → List ℕ → Type 0)
-    (since : D → ℕ → List ℕ → Type 0)
-    (moment : D → ℕ)
-    (disk disk' : D) (a : Lasts) (told : Option Files) (text : script.Block) (old new : Option (List ℕ)) (before now : Bool) (b : Lasts)
-    : Type 0 where
-  pub go : CanGoOn images disk' b.store b.count
+pub record EndsOne {D : Type 0} (disks : Disks D) (disk disk' : D) (a : Lasts) (told : Option Files)
+    (text : script.Block) (old new : Option (List ℕ)) (before now : Bool) (b : Lasts) : Type 0 where
+  pub go : CanGoOn disks.images disk' b.store b.count
   pub block : Block
   pub is : IsBlockOf told text block
-  pub ran : HasRounds content images since moment (point_at disk a.store) (point_at disk' b.store) a.count
+  pub ran : HasRounds disks (point_at disk a.store) (point_at disk' b.store) a.count
       (registry_of (view a.store.pass) a.store.registrar) block.rounds false b.count (registry_of (view b.store.pass) b.store.registrar)
   pub renewed : AreRenewed block.rounds false
   pub written : Gained old new (report_text (block_items block))
@@ -56,17 +51,11 @@ HowStopped told text old new before now rounds cut s =
     × (s.why ≢ fault.Input) × (now ≡ before || said_refused (block_said b.rounds)))
 
 -- a fault came before it ran, in it, or as it was written
-pub record StopsOne
-    {D : Type 0}
-    (content : D → Option (List ℕ))
-    (images : D → List ℕ → Type 0)
-    (since : D → ℕ → List ℕ → Type 0)
-    (moment : D → ℕ)
-    (disk disk' : D) (a : Lasts) (told : Option Files) (text : script.Block) (old new : Option (List ℕ))
-    (before now : Bool) (s : Stopped) : Type 0 where
+pub record StopsOne {D : Type 0} (disks : Disks D) (disk disk' : D) (a : Lasts) (told : Option Files)
+    (text : script.Block) (old new : Option (List ℕ)) (before now : Bool) (s : Stopped) : Type 0 where
   pub rounds : List Round
   pub cut : Option Round
-  pub stops : StopsRounds content images since moment (point_at disk a.store) disk' a.count
+  pub stops : StopsRounds disks (point_at disk a.store) disk' a.count
       (registry_of (view a.store.pass) a.store.registrar) rounds cut s
   pub renewed : AreRenewed (with_cut rounds cut) true
   pub how : HowStopped told text old new before now rounds cut s
@@ -74,24 +63,19 @@ pub record StopsOne
 -- ---- a run
 
 -- all blocks ran and were written; and where it is so, all of the log is committed
-pub record EndsRun
-    {D : Type 0}
-    (content : D → Option (List ℕ))
-    (images : D → List ℕ → Type 0)
-    (since : D → ℕ → List ℕ → Type 0)
-    (moment : D → ℕ)
-    (disk disk' : D) (s : Store) (first : ℕ) (begin : Item) (told : Option Files) (text : List script.Block) (old new : Option (List ℕ))
-    (refused lasts : Bool) (b : Lasts) : Type 0 where
+pub record EndsRun {D : Type 0} (disks : Disks D) (disk disk' : D) (s : Store) (first : ℕ) (begin : Item)
+    (told : Option Files) (text : List script.Block) (old new : Option (List ℕ)) (refused lasts : Bool) (b : Lasts)
+    : Type 0 where
   pub close : CanClose b.store
-  pub go : (lasts ≡ true → ⊥) → CanGoOn images disk' b.store b.count
-  pub runs : RunsAll content images since moment (point_at disk s) (point_at disk' b.store) first (first_registry s.registrar.catalog)
+  pub go : (lasts ≡ true → ⊥) → CanGoOn disks.images disk' b.store b.count
+  pub runs : RunsAll disks (point_at disk s) (point_at disk' b.store) first (first_registry s.registrar.catalog)
       begin told text old new refused b.count
   pub committed : lasts ≡ true → HasEnd (view b.store.pass) b.store.file.flusher.count
 
 -- a fault stopped it
-abbrev pub StopsRun : {D : Type 0} → (D → Option (List ℕ)) → (D → List ℕ → Type 0) → (D → ℕ → List ℕ → Type 0) → (D → ℕ)
+abbrev pub StopsRun : {D : Type 0} → Disks D
     → D → D → Store → ℕ → Item → Option Files → List script.Block → Option (List ℕ) → Option (List ℕ) → Bool → Stopped
     → Type 0
-StopsRun content images since moment disk disk' s first begin told text old new refused e =
-    RunsSome content images since moment (point_at disk s) disk' first (first_registry s.registrar.catalog) begin told text old new
+StopsRun disks disk disk' s first begin told text old new refused e =
+    RunsSome disks (point_at disk s) disk' first (first_registry s.registrar.catalog) begin told text old new
     refused e

@@ -1,5 +1,6 @@
 -- What a run of a script asks for and leaves between two blocks.
-use Rattle.std.specs.Prelude.{ℕ, ◌≡◌, ◌+◌, ◌^◌, List, None, Option}
+use Rattle.std.specs.Prelude.{ℕ, ◌≡◌, ◌+◌, ◌^◌, List, None}
+use Rattle.fish_disk.specs.declared.disk.Disk.{Ghosts as Disks}
 use Rattle.fish_lanes.specs.Controlling.{CanControl}
 use Rattle.fish_lanes.specs.Ending.{HasEnd}
 use Rattle.fish_lanes.specs.Registering.{KnowsRegistry, registry_of}
@@ -43,5 +44,5 @@ pub record IsNewStore {D : Type 0} (images : D → List ℕ → Type 0) (disk : 
 -- ---- pasts
 
 -- what stood before the table as a disk had it with this store, of which the content is told later
-abbrev pub Behind : {D : Type 0} → (D → Option (List ℕ)) → (D → List ℕ → Type 0) → D → Store → D → Whole → Type 0
-Behind content images disk s next = IsSoundBehind content images (point_at disk s) (content next)
+abbrev pub Behind : {D : Type 0} → Disks D → D → Store → D → Whole → Type 0
+Behind disks disk s next = IsSoundBehind disks (point_at disk s) (disks.content next)

@@ -1,6 +1,7 @@
 -- What the steps of a run leave. Private clauses speak of it.
 use Rattle.std.specs.Prelude.{ℕ, ◌≡◌, ◌≢◌, ◌⊎◌, ◌<◌, ◌≤◌, List, [], ◌∷◌, ◌++◌, Bool, false, true, Option, Some, None}
 use Rattle.std.specs.Prelude.{Result, Ok, Err, IfSome, length, slice_get}
+use Rattle.fish_disk.specs.declared.disk.Disk.{Ghosts as Disks}
 use Rattle.fish_feed.specs.Works.{Pairs}
 use Rattle.fish_lanes.specs.Blocks.{AreEnded, HasRegistered, IsBlockSpan, NameMarks, SaysBlock}
 use Rattle.fish_lanes.specs.Controlling.{IsCommitted}
@@ -98,29 +99,23 @@ pub record IsTableAfter (v u : View) (rounds : List Round) (fresh : Bool) : Type
 
 -- from one moment of the store to a later one these rounds ran, each of them without a fault, where the log had so many numbers and the
 -- registry was this; then it has so many, and this one; and perhaps a new table was begun since
-pub record HasRounds {D : Type 0}
-    (content : D → Option (List ℕ))
-    (images : D → List ℕ → Type 0)
-    (since : D → ℕ → List ℕ → Type 0)
-    (moment : D → ℕ)
-    (p q : Point D) (from : ℕ) (r : Registry) (rounds : List Round) (fresh : Bool) (to : ℕ) (t : Registry) : Type 0 where
-  pub runs : Runs content images since moment p q (λ w. SaysRounds w from r rounds to)
+pub record HasRounds {D : Type 0} (disks : Disks D) (p q : Point D) (from : ℕ) (r : Registry) (rounds : List Round)
+    (fresh : Bool) (to : ℕ) (t : Registry) : Type 0 where
+  pub runs : Runs disks p q (λ w. SaysRounds w from r rounds to)
   pub after : t ≡ begun fresh to (after_rounds r rounds)
   pub committed : AreAcknowledged q.flusher.count rounds
   pub fulls : (before : List Round) → HasFoundFull before p.view.shut → AreFullSince before rounds
-  pub full : (before : List Round) → HasFoundFull before p.view.shut → HasFoundFull (in_table fresh (last_table before rounds)) q.view.shut
-  pub marks : (before : List Round) → AreMarked p.view before → AreMarked q.view (in_table fresh (last_table before rounds))
+  pub full : (before : List Round) → HasFoundFull before p.view.shut
+      → HasFoundFull (in_table fresh (last_table before rounds)) q.view.shut
+  pub marks : (before : List Round) → AreMarked p.view before
+      → AreMarked q.view (in_table fresh (last_table before rounds))
   pub shape : q.shape ≡ p.shape
   pub table : IsTableAfter p.view q.view rounds fresh
 
 -- the same, and perhaps one more ran, which was cut; after them the log has so many numbers
-pub record HasRunFirst {D : Type 0}
-    (content : D → Option (List ℕ))
-    (images : D → List ℕ → Type 0)
-    (since : D → ℕ → List ℕ → Type 0)
-    (moment : D → ℕ)
-    (p q : Point D) (from : ℕ) (r : Registry) (rounds : List Round) (fresh : Bool) (cut : Option Round) (end : ℕ) : Type 0 where
-  pub runs : Runs content images since moment p q (λ w. SaysFirst w from r rounds cut end)
+pub record HasRunFirst {D : Type 0} (disks : Disks D) (p q : Point D) (from : ℕ) (r : Registry) (rounds : List Round)
+    (fresh : Bool) (cut : Option Round) (end : ℕ) : Type 0 where
+  pub runs : Runs disks p q (λ w. SaysFirst w from r rounds cut end)
   pub committed : AreAcknowledged q.flusher.count (with_cut rounds cut)
   pub fulls : (before : List Round) → HasFoundFull before p.view.shut → AreFullSince before (with_cut rounds cut)
   pub marks : (before : List Round) → AreMarked p.view before → AreMarked q.view (left_table fresh before rounds cut)
@@ -132,12 +127,8 @@ pub record HasRunFirst {D : Type 0}
 
 -- a fault stopped rounds of a block, before a next one or in it, when the store was at a moment: it is there still, and may be closed,
 -- unless memory ran out for its table
-pub record StopsRounds {D : Type 0}
-    (content : D → Option (List ℕ))
-    (images : D → List ℕ → Type 0)
-    (since : D → ℕ → List ℕ → Type 0)
-    (moment : D → ℕ)
-    (p : Point D) (disk : D) (from : ℕ) (r : Registry) (rounds : List Round) (cut : Option Round) (s : Stopped) : Type 0 where
+pub record StopsRounds {D : Type 0} (disks : Disks D) (p : Point D) (disk : D) (from : ℕ) (r : Registry)
+    (rounds : List Round) (cut : Option Round) (s : Stopped) : Type 0 where
   pub at : Point D
   pub disk_is : at.disk ≡ disk
   pub store : IfSome s.store (λ x. (at ≡ point_at disk x) × CanClose x)
@@ -145,69 +136,47 @@ pub record StopsRounds {D : Type 0}
   pub fresh : Bool
   pub end : ℕ
   pub cut_by : IfSome cut (λ b. IsFirstFault b.lanes s.why)
-  pub ran : HasRunFirst content images since moment p at from r rounds fresh cut end
-  pub whole : (past : Whole) → IsSoundBehind content images p (content disk) past → IsUndamaged s.why
+  pub ran : HasRunFirst disks p at from r rounds fresh cut end
+  pub whole : (past : Whole) → IsSoundBehind disks p (disks.content disk) past → IsUndamaged s.why
 
 -- ---- blocks
 
 -- these blocks ran, each of them without a fault, and were written
-pub record WritesBlocks {D : Type 0}
-    (content : D → Option (List ℕ))
-    (images : D → List ℕ → Type 0)
-    (since : D → ℕ → List ℕ → Type 0)
-    (moment : D → ℕ)
-    (p q : Point D) (from : ℕ) (r : Registry) (begin : Item) (told : Option Files) (text : List script.Block) (to : ℕ) (t : Registry)
-    (old new : Option (List ℕ)) (refused : Bool) : Type 0 where
+pub record WritesBlocks {D : Type 0} (disks : Disks D) (p q : Point D) (from : ℕ) (r : Registry) (begin : Item)
+    (told : Option Files) (text : List script.Block) (to : ℕ) (t : Registry) (old new : Option (List ℕ))
+    (refused : Bool) : Type 0 where
   pub blocks : List Block
   pub are : Pairs (IsBlockOf told) text blocks
-  pub ran : HasRounds content images since moment p q from r (rounds_of blocks) false to t
+  pub ran : HasRounds disks p q from r (rounds_of blocks) false to t
   pub renewed : AreRenewed (rounds_of blocks) false
   pub written : Gained old new (report_text (report_of begin blocks))
   pub refused_is : refused ≡ are_refused blocks
 
 -- all blocks ran, and their items were written
-pub record RunsAll {D : Type 0}
-    (content : D → Option (List ℕ))
-    (images : D → List ℕ → Type 0)
-    (since : D → ℕ → List ℕ → Type 0)
-    (moment : D → ℕ)
-    (p q : Point D) (from : ℕ) (r : Registry) (begin : Item) (told : Option Files) (text : List script.Block)
-    (old new : Option (List ℕ)) (refused : Bool) (end : ℕ) : Type 0 where
+pub record RunsAll {D : Type 0} (disks : Disks D) (p q : Point D) (from : ℕ) (r : Registry) (begin : Item)
+    (told : Option Files) (text : List script.Block) (old new : Option (List ℕ)) (refused : Bool) (end : ℕ)
+    : Type 0 where
   pub blocks : List Block
   pub all : Pairs (IsBlockOf told) text blocks
-  pub ran : HasRunFirst content images since moment p q from r (rounds_of blocks) false None end
+  pub ran : HasRunFirst disks p q from r (rounds_of blocks) false None end
   pub renewed : AreRenewed (rounds_of blocks) false
   pub written : Gained old new (report_text (report_of begin blocks))
   pub refused_is : refused ≡ are_refused blocks
 
 -- a fault stopped them
-pub record RunsSome {D : Type 0}
-    (content : D → Option (List ℕ)) (images : D → List ℕ → Type 0)
-    (since : D → ℕ → List ℕ → Type 0)
-    (moment : D → ℕ)
-    (p : Point D) (disk : D) (from : ℕ) (r : Registry) (begin : Item) (told : Option Files) (text : List script.Block)
-    (old new : Option (List ℕ)) (refused : Bool) (s : Stopped) : Type 0 where
+pub record RunsSome {D : Type 0} (disks : Disks D) (p : Point D) (disk : D) (from : ℕ) (r : Registry) (begin : Item)
+    (told : Option Files) (text : List script.Block) (old new : Option (List ℕ)) (refused : Bool) (s : Stopped)
+    : Type 0 where
   pub blocks : List Block
   pub part : List Round
   pub cut : Option Round
   pub are : AreFirst told text blocks
   pub next : AreNextOf told text (length blocks) (with_cut part cut)
-  pub stops : StopsRounds content images since moment p disk from r (rounds_of blocks ++ part) cut s
+  pub stops : StopsRounds disks p disk from r (rounds_of blocks ++ part) cut s
   pub renewed : AreRenewed (with_cut (rounds_of blocks ++ part) cut) true
   pub written : GainedPart old new (report_text (report_of begin blocks))
   pub refused_is : refused ≡ are_refused blocks
   pub input : s.why ≡ fault.Input → (cut ≡ None) × Gained old new (report_text (report_of begin blocks))
-
--- all blocks ran, and all of the log was committed
-pub record CommitsAll {D : Type 0}
-    (content : D → Option (List ℕ))
-    (images : D → List ℕ → Type 0)
-    (since : D → ℕ → List ℕ → Type 0)
-    (moment : D → ℕ)
-    (p q : Point D) (from : ℕ) (r : Registry) (begin : Item) (told : Option Files) (text : List script.Block)
-    (old new : Option (List ℕ)) (refused : Bool) (end : ℕ) : Type 0 where
-  pub runs : RunsAll content images since moment p q from r begin told text old new refused end
-  pub committed : HasEnd q.view q.flusher.count
 
 -- ---- the end
 

@@ -1,6 +1,7 @@
 -- From a round of a block to the next one.
 use Rattle.std.specs.Prelude.{ℕ, ◌≡◌, ◌+◌, ◌-◌, ◌*◌, ◌<◌, List, Bool, true, false, Option, Some, None, length}
 use Rattle.std.specs.List.{list_any}
+use Rattle.fish_disk.specs.declared.disk.Disk.{Ghosts as Disks}
 use Rattle.fish_feed.specs.Queues.{AreIdle}
 use Rattle.fish_lanes.specs.Blocks.{AreLanes, EachLane}
 use Rattle.fish_lanes.specs.declared.lane.Lane.{Lane}
@@ -34,10 +35,10 @@ FindNoneFull lanes = EachLane (λ i x. list_any says_full x.items ≡ false) lan
 
 -- the store is in the table of before, or in a new one
 abbrev pub IsRenewed
-    : {D : Type 0} → (D → Option (List ℕ)) → (D → List ℕ → Type 0) → (D → ℕ → List ℕ → Type 0) → (D → ℕ) → D → Store → ℕ → Bool → D → Store
+    : {D : Type 0} → Disks D → D → Store → ℕ → Bool → D → Store
     → Type 0
-IsRenewed content images since moment disk s from false disk' t = (disk' ≡ disk) × (t ≡ s)
-IsRenewed content images since moment disk s from true disk' t = RollsOn content images since moment disk s from disk' t
+IsRenewed disks disk s from false disk' t = (disk' ≡ disk) × (t ≡ s)
+IsRenewed disks disk s from true disk' t = RollsOn disks disk s from disk' t
 
 -- 1 where the pass isn't shut
 abbrev pub unshut_by : Option Shut → ℕ
@@ -53,54 +54,40 @@ abbrev pub tables_left : Store → ℕ
 tables_left s = 2 * (4294967296 - s.log.key.number) + unshut (view s.pass)
 
 -- lanes did a round, and go on with another or came to their ends
-pub record TurnsOn
-    {D : Type 0}
-    (content : D → Option (List ℕ))
-    (images : D → List ℕ → Type 0)
-    (since : D → ℕ → List ℕ → Type 0)
-    (moment : D → ℕ)
-    (disk : D) (a : RoundStart) (lanes : List Lane) (said : List Said) (disk' : D) (lanes' : List Lane)
-    (said' : List Said) (t : Turned)
-    : Type 0 where
-  pub go : CanGoOn images disk' t.next.store t.next.from
+pub record TurnsOn {D : Type 0} (disks : Disks D) (disk : D) (a : RoundStart) (lanes : List Lane) (said : List Said)
+    (disk' : D) (lanes' : List Lane) (said' : List Said) (t : Turned) : Type 0 where
+  pub go : CanGoOn disks.images disk' t.next.store t.next.from
   pub lanes_are : AreLanes lanes'
   pub many : length lanes' ≡ length said'
   pub same : length lanes' ≡ length lanes
   pub less : t.more ≡ true → tables_left t.next.store < tables_left a.store
   pub idle : t.more ≡ false → AreIdle lanes'
   pub goes : (d : D) (s : Store) (from : ℕ) (now given : List (List Work))
-      → IsReady content images since moment d s from disk a lanes said now given
-      → GoesIn content images since moment d s from disk' t.next lanes' said' given
+      → IsReady disks d s from disk a lanes said now given
+      → GoesIn disks d s from disk' t.next lanes' said' given
   pub ends : t.more ≡ false → (d : D) (s : Store) (from : ℕ) (now given : List (List Work))
-      → IsReady content images since moment d s from disk a lanes said now given
-      → EndsRounds content images since moment d s from disk' t.next.store t.end said' given
+      → IsReady disks d s from disk a lanes said now given
+      → EndsRounds disks d s from disk' t.next.store t.end said' given
 
 -- the same of rounds up to one after which none goes on
-pub record TurnsAll
-    {D : Type 0}
-    (content : D → Option (List ℕ))
-    (images : D → List ℕ → Type 0)
-    (since : D → ℕ → List ℕ → Type 0)
-    (moment : D → ℕ)
-    (disk : D) (a : RoundStart) (lanes : List Lane) (said : List Said) (disk' : D) (lanes' : List Lane)
-    (said' : List Said) (t : Turned)
-    : Type 0 where
-  pub go : CanGoOn images disk' t.next.store t.next.from
+pub record TurnsAll {D : Type 0} (disks : Disks D) (disk : D) (a : RoundStart) (lanes : List Lane) (said : List Said)
+    (disk' : D) (lanes' : List Lane) (said' : List Said) (t : Turned) : Type 0 where
+  pub go : CanGoOn disks.images disk' t.next.store t.next.from
   pub lanes_are : AreLanes lanes'
   pub many : length lanes' ≡ length said'
   pub same : length lanes' ≡ length lanes
   pub idle : AreIdle lanes'
   pub goes : (d : D) (s : Store) (from : ℕ) (now given : List (List Work))
-      → IsReady content images since moment d s from disk a lanes said now given
-      → GoesIn content images since moment d s from disk' t.next lanes' said' given
+      → IsReady disks d s from disk a lanes said now given
+      → GoesIn disks d s from disk' t.next lanes' said' given
   pub ends : (d : D) (s : Store) (from : ℕ) (now given : List (List Work))
-      → IsReady content images since moment d s from disk a lanes said now given
-      → EndsRounds content images since moment d s from disk' t.next.store t.end said' given
+      → IsReady disks d s from disk a lanes said now given
+      → EndsRounds disks d s from disk' t.next.store t.end said' given
 
 -- a fault stopped them
 abbrev pub StopsTurn
-    : {D : Type 0} → (D → Option (List ℕ)) → (D → List ℕ → Type 0) → (D → ℕ → List ℕ → Type 0) → (D → ℕ) → D → RoundStart → List Lane
+    : {D : Type 0} → Disks D → D → RoundStart → List Lane
     → List Said → D → Stopped → Type 0
-StopsTurn content images since moment disk a lanes said disk' e = (d : _) (s : Store) (from : ℕ) (now given : List (List Work))
-    → IsReady content images since moment d s from disk a lanes said now given
-    → StopsBlock content images since moment d s from given disk' e
+StopsTurn disks disk a lanes said disk' e = (d : _) (s : Store) (from : ℕ) (now given : List (List Work))
+    → IsReady disks d s from disk a lanes said now given
+    → StopsBlock disks d s from given disk' e

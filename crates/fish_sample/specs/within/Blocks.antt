@@ -2,6 +2,7 @@
 use Rattle.std.specs.Prelude.{ℕ, ◌≡◌, ◌+◌, ◌<◌, ◌≤◌, List, [], ◌∷◌, Option, Some, IsSome, codes, length, map}
 use Rattle.std.specs.Prelude.{slice_get, true}
 use Rattle.fish_catalog.specs.declared.row.CatRow.{CatRow}
+use Rattle.fish_disk.specs.declared.disk.Disk.{Ghosts as Disks}
 use Rattle.fish_lang.specs.Canonical.{definition_text}
 use Rattle.fish_lanes.specs.Blocks.{EachLane, EachLanePair, SaysBlock}
 use Rattle.fish_lanes.specs.Controlling.{CanControl}
@@ -51,20 +52,18 @@ pub record IsOfMade (o : Opened) (s : Store) : Type 0 where
   pub cold : s.file.cold ≡ o.cold
 
 -- a store was made: nothing is in it, and nothing was before it
-pub record IsNewStore {D : Type 0} (content : D → Option (List ℕ)) (images : D → List ℕ → Type 0) (disk : D)
-    (s : Store) : Type 0 where
-  pub between : IsBetween images disk s 0
+pub record IsNewStore {D : Type 0} (disks : Disks D) (disk : D) (s : Store) : Type 0 where
+  pub between : IsBetween disks.images disk s 0
   pub rows : s.registrar.catalog ≡ []
   pub past : Whole
   pub nothing : past.log ≡ []
-  pub sound : Sound content images (point_at disk s) past
+  pub sound : Sound disks (point_at disk s) past
 
 -- the store went on in its table
-pub record Goes {D : Type 0} (content : D → Option (List ℕ)) (images : D → List ℕ → Type 0) (disk : D) (s : Store)
-    (disk' : D) (t : Store) : Type 0 where
+pub record Goes {D : Type 0} (disks : Disks D) (disk : D) (s : Store) (disk' : D) (t : Store) : Type 0 where
   pub later : Later (view s.pass) (view t.pass)
-  pub sound : (past : Whole) → Sound content images (point_at disk s) past
-      → Sound content images (point_at disk' t) past
+  pub sound : (past : Whole) → Sound disks (point_at disk s) past
+      → Sound disks (point_at disk' t) past
 
 -- ---- one block
 
@@ -80,14 +79,14 @@ span_of v u from to lanes = record {
 }
 
 -- the lanes did all that they were to do, and what their items say is so of each whole log that may be in the end
-pub record HasRun {D : Type 0} (content : D → Option (List ℕ)) (images : D → List ℕ → Type 0) (disk : D) (s : Store)
-    (from : ℕ) (old : List Lane) (disk' : D) (t : Store) (to : ℕ) (new : List Lane) : Type 0 where
-  pub between : IsBetween images disk' t to
-  pub goes : Goes content images disk s disk' t
+pub record HasRun {D : Type 0} (disks : Disks D) (disk : D) (s : Store) (from : ℕ) (old : List Lane) (disk' : D)
+    (t : Store) (to : ℕ) (new : List Lane) : Type 0 where
+  pub between : IsBetween disks.images disk' t to
+  pub goes : Goes disks disk s disk' t
   pub kept : EachLanePair (λ i x y. y.works ≡ x.works) old new
   pub many : length new ≡ length old
   pub ended : EachLane (λ i x. length (answers x.items) ≡ length x.works) new
-  pub told : (past : Whole) → Sound content images (point_at disk s) past → (from ≤ to)
+  pub told : (past : Whole) → Sound disks (point_at disk s) past → (from ≤ to)
       × WillHold past (view t.pass) (λ w. SaysBlock w (span_of (view s.pass) (view t.pass) from to (length new)) new)
   pub so : (x : Lane) → slice_get new 0 ≡ Some x
       → ItemsFit from (to + 16) (registry_of (view s.pass) s.registrar) x.items
@@ -112,23 +111,23 @@ pub record HasDefinitions (rows : List CatRow) : Type 0 where
   pub are : AreRows definitions rows
 
 -- a store without a definition has them, and no record was stored
-pub record HasDefined {D : Type 0} (content : D → Option (List ℕ)) (images : D → List ℕ → Type 0) (disk : D) (s : Store)
-    (from : ℕ) (disk' : D) (t : Store) (to : ℕ) : Type 0 where
-  pub between : IsBetween images disk' t to
-  pub goes : Goes content images disk s disk' t
-  pub told : (past : Whole) → Sound content images (point_at disk s) past → (from ≤ to)
+pub record HasDefined {D : Type 0} (disks : Disks D) (disk : D) (s : Store) (from : ℕ) (disk' : D) (t : Store) (to : ℕ)
+    : Type 0 where
+  pub between : IsBetween disks.images disk' t to
+  pub goes : Goes disks disk s disk' t
+  pub told : (past : Whole) → Sound disks (point_at disk s) past → (from ≤ to)
       × WillHold past (view t.pass) (λ w. Each IsVoid (part from to w.log)
       × (s.registrar.catalog ≡ [] → HasDefinitions t.registrar.catalog))
 
 -- ---- the records
 
 -- each lane stored its share, and the definitions are the same
-pub record HasStored {D : Type 0} (content : D → Option (List ℕ)) (images : D → List ℕ → Type 0) (number : ℕ)
-    (disk : D) (s : Store) (from : ℕ) (disk' : D) (t : Store) (to : ℕ) : Type 0 where
-  pub between : IsBetween images disk' t to
-  pub goes : Goes content images disk s disk' t
+pub record HasStored {D : Type 0} (disks : Disks D) (number : ℕ) (disk : D) (s : Store) (from : ℕ) (disk' : D)
+    (t : Store) (to : ℕ) : Type 0 where
+  pub between : IsBetween disks.images disk' t to
+  pub goes : Goes disks disk s disk' t
   pub rows : t.registrar.catalog ≡ s.registrar.catalog
-  pub told : (past : Whole) → Sound content images (point_at disk s) past → (from ≤ to)
+  pub told : (past : Whole) → Sound disks (point_at disk s) past → (from ≤ to)
       × WillHold past (view t.pass) (λ w. HasRecords number from to w.log)
 
 -- ---- the counts
@@ -140,12 +139,12 @@ AreSelected number below w = (a : Asked) (from to : ℕ)
     → length (select (map selectable w.log) (evaluation a.definition) a.value from to []) ≡ count_of number a
 
 -- no record was stored, and a text is the summary by these definitions, where selections are as they have to be
-pub record HasCounted {D : Type 0} (content : D → Option (List ℕ)) (images : D → List ℕ → Type 0) (number : ℕ)
-    (disk : D) (s : Store) (from : ℕ) (disk' : D) (t : Store) (text : List ℕ) : Type 0 where
+pub record HasCounted {D : Type 0} (disks : Disks D) (number : ℕ) (disk : D) (s : Store) (from : ℕ) (disk' : D)
+    (t : Store) (text : List ℕ) : Type 0 where
   pub to : ℕ
-  pub between : IsBetween images disk' t to
-  pub goes : Goes content images disk s disk' t
-  pub told : (past : Whole) → Sound content images (point_at disk s) past → (from ≤ to)
+  pub between : IsBetween disks.images disk' t to
+  pub goes : Goes disks disk s disk' t
+  pub told : (past : Whole) → Sound disks (point_at disk s) past → (from ≤ to)
       × WillHold past (view t.pass) (λ w. Each IsVoid (part from to w.log)
       × ((d : Definitions) → AreDefined d → AreRows d s.registrar.catalog → AreSelected number from w
       → text ≡ summary_text d number))
@@ -157,12 +156,12 @@ pub record IsSummary (number : ℕ) (text : List ℕ) : Type 0 where
   pub is : text ≡ summary_text definitions number
 
 -- the store has the records, and the text is their summary
-pub record HasFilled {D : Type 0} (content : D → Option (List ℕ)) (images : D → List ℕ → Type 0) (number : ℕ)
-    (disk : D) (s : Store) (disk' : D) (t : Store) (text : List ℕ) : Type 0 where
+pub record HasFilled {D : Type 0} (disks : Disks D) (number : ℕ) (disk : D) (s : Store) (disk' : D) (t : Store)
+    (text : List ℕ) : Type 0 where
   pub to : ℕ
-  pub between : IsBetween images disk' t to
-  pub goes : Goes content images disk s disk' t
-  pub told : (past : Whole) → Sound content images (point_at disk s) past
+  pub between : IsBetween disks.images disk' t to
+  pub goes : Goes disks disk s disk' t
+  pub told : (past : Whole) → Sound disks (point_at disk s) past
       → WillHold past (view t.pass) (λ w. length w.log ≡ to → IsSampleLog number w.log × IsSummary number text)
 
 -- what is left of it

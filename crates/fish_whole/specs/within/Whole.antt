@@ -1,16 +1,7 @@
--- The whole log of a store, over the tables that hold it one after the other, and what it may be in the end. What
--- private clauses need of it.
-use Rattle.std.specs.Prelude.{ℕ, ◌+◌, ◌≤◌, [], length}
+-- What the whole log of a store may be in the end. What private clauses need of it.
+use Rattle.std.specs.Prelude.{ℕ, ◌+◌, ◌≤◌, length}
 use Rattle.fish_rule.specs.declared.view.View.{View}
 use Rattle.fish_whole.specs.Whole.{MayHold, Whole, WholeFact}
-
--- ---- the whole
-
--- before the first table of a store nothing stands, and there is no definition
-abbrev pub nothing_before : Whole
-nothing_before = record { log = []; rows = λ n. [] }
-
--- ---- what holds in the end
 
 -- the fact holds of each whole whose table leaves all numbers below an end
 abbrev pub MustHoldUpTo : Whole → View → ℕ → WholeFact → Type 0

@@ -73,7 +73,7 @@ returns-clause-lanes g c =
           (vacant_both first c.index-first-0.result c.args.lanes.now others c.requires.lanes
           (subst (λ (z : List Lane). first.seat ≡ (get_or z 0 c.index-first-0.result).seat) front e.first_seat) before e.vacant);
       ended = subst AreEnded again e.ended;
-      stops = subst (EachLane (λ i x. Stops (IsSoundBehind disk.content disk.images (point_at c.args.disk.now c.args.store.now)
+      stops = subst (EachLane (λ i x. Stops (IsSoundBehind disk (point_at c.args.disk.now c.args.store.now)
           (disk.content c.run_lanes.new.disk)) (disk.faults c.args.disk.now) (disk.faults c.run_lanes.new.disk) x)) again e.stops;
       left = left;
       last = subst (SayFullLast v) again e.last;
@@ -103,7 +103,7 @@ returns-clause-items g c =
           first_there (λ (z : Lane). HasRegistered v u r c.run_lanes.new.registrar z c.run_lanes.result) first c.args.lanes.now others
           c.requires.lanes e.registered x (subst (λ (z : List Lane). slice_get (set z 0 first ++ others) 0 ≡ Some x) front at);
       alone = λ x is.
-          alone_first (SaysAloneBy (IsSoundBehind disk.content disk.images (point_at c.args.disk.now c.args.store.now)
+          alone_first (SaysAloneBy (IsSoundBehind disk (point_at c.args.disk.now c.args.store.now)
           (disk.content c.run_lanes.new.disk)) v u r) first c.args.lanes.now c.split_at_mut-first.result.1.now others c.requires.lanes
           c.run_lanes.auto.others e.alone x (subst (λ (z : List Lane). set z 0 first ++ others ≡ x ∷ []) front is);
       plans = λ from end.

@@ -45,7 +45,7 @@ run_all-requires-clause-commit g c κs bounds =
     let disk = g.D.Disk in
     let given = c.give_all.ensures.given in
     let m = view c.give_all.new.control in
-    pass_again disk.content disk.images disk.since disk.moment
+    pass_again disk
     (point_of c.args.disk.now c.args.file.now c.args.log.now c.args.control.now c.args.registrar.now) m
     (learns_same (view c.args.control.now) m given.about given.learned) c.requires.commit
 
@@ -95,12 +95,12 @@ take_all-requires-clause-can g c =
     let did = point_of c.run_all.new.disk c.run_all.new.file c.args.log.now c.run_all.new.control c.run_all.new.registrar in
     let read = point_of c.finish_others.new.disk c.finish_others.new.file c.args.log.now c.run_all.new.control
     c.run_all.new.registrar in
-    let gives = pass_goes disk.content disk.images disk.since disk.moment before m (learns_same v m given.about given.learned) in
-    let stays = pages_stay_at disk.content disk.images disk.since disk.moment disk.faults c.args.log.now.key did
+    let gives = pass_goes disk before m (learns_same v m given.about given.learned) in
+    let stays = pages_stay_at disk c.args.log.now.key did
     c.finish_others.new.disk c.finish_others.new.file.flusher c.finish_others.new.file.cold c.run_all.ensures.can.of.about
     c.finish_others.ensures.flusher c.finish_others.ensures.reads in
-    let reads = here_stays disk.content disk.images disk.since disk.moment did read stays in
-    may_join (all_ran disk.content disk.images disk.since disk.moment before gave did read gives c.run_all.ensures.goes reads
+    let reads = here_stays disk did read stays in
+    may_join (all_ran disk before gave did read gives c.run_all.ensures.goes reads
     c.is_full-full.result c.args.log.now c.args.registrar.now c.run_all.new.registrar c.args.first.now c.run_all.new.first
     c.args.others.now c.give_all.new.lanes
     c.run_all.new.others c.finish_others.new.lanes c.run_all.ensures.can.of.about c.is_full-full.ensures given c.requires.others
@@ -119,15 +119,15 @@ returns-clause-course g c =
     let did = point_of c.run_all.new.disk c.run_all.new.file c.args.log.now c.run_all.new.control c.run_all.new.registrar in
     let read = point_of c.finish_others.new.disk c.finish_others.new.file c.args.log.now c.run_all.new.control
     c.run_all.new.registrar in
-    let gives = pass_goes disk.content disk.images disk.since disk.moment before m (learns_same v m given.about given.learned) in
-    let stays = pages_stay_at disk.content disk.images disk.since disk.moment disk.faults c.args.log.now.key did
+    let gives = pass_goes disk before m (learns_same v m given.about given.learned) in
+    let stays = pages_stay_at disk c.args.log.now.key did
     c.finish_others.new.disk c.finish_others.new.file.flusher c.finish_others.new.file.cold c.run_all.ensures.can.of.about
     c.finish_others.ensures.flusher c.finish_others.ensures.reads in
-    let reads = here_stays disk.content disk.images disk.since disk.moment did read stays in
+    let reads = here_stays disk did read stays in
     record {
       ran = ran;
       done = c.finish_others.new.lanes;
-      run = all_ran disk.content disk.images disk.since disk.moment before gave did read gives c.run_all.ensures.goes reads
+      run = all_ran disk before gave did read gives c.run_all.ensures.goes reads
           c.is_full-full.result c.args.log.now c.args.registrar.now c.run_all.new.registrar c.args.first.now c.run_all.new.first
           c.args.others.now c.give_all.new.lanes
           c.run_all.new.others c.finish_others.new.lanes c.run_all.ensures.can.of.about c.is_full-full.ensures given c.requires.others
@@ -147,17 +147,17 @@ returns-clause-goes g c =
     let did = point_of c.run_all.new.disk c.run_all.new.file c.args.log.now c.run_all.new.control c.run_all.new.registrar in
     let read = point_of c.finish_others.new.disk c.finish_others.new.file c.args.log.now c.run_all.new.control
     c.run_all.new.registrar in
-    let gives = pass_goes disk.content disk.images disk.since disk.moment before m (learns_same v m given.about given.learned) in
-    let stays = pages_stay_at disk.content disk.images disk.since disk.moment disk.faults c.args.log.now.key did
+    let gives = pass_goes disk before m (learns_same v m given.about given.learned) in
+    let stays = pages_stay_at disk c.args.log.now.key did
     c.finish_others.new.disk c.finish_others.new.file.flusher c.finish_others.new.file.cold c.run_all.ensures.can.of.about
     c.finish_others.ensures.flusher c.finish_others.ensures.reads in
-    let reads = here_stays disk.content disk.images disk.since disk.moment did read stays in
+    let reads = here_stays disk did read stays in
     let back = point_of c.finish_others.new.disk c.finish_others.new.file c.args.log.now c.take_all.new.control
     c.run_all.new.registrar in
-    here_both disk.content disk.images disk.since disk.moment before did back
-    (here_both disk.content disk.images disk.since disk.moment before gave did gives c.run_all.ensures.goes)
-    (here_both disk.content disk.images disk.since disk.moment did read back reads
-    (pass_goes disk.content disk.images disk.since disk.moment read (view c.take_all.new.control) c.take_all.ensures.taken.learns))
+    here_both disk before did back
+    (here_both disk before gave did gives c.run_all.ensures.goes)
+    (here_both disk did read back reads
+    (pass_goes disk read (view c.take_all.new.control) c.take_all.ensures.taken.learns))
 
 pub returns-clause-again : goal.returns-clause-again
 returns-clause-again g c fine =
@@ -165,11 +165,11 @@ returns-clause-again g c fine =
     let did = point_of c.run_all.new.disk c.run_all.new.file c.args.log.now c.run_all.new.control c.run_all.new.registrar in
     let read = point_of c.finish_others.new.disk c.finish_others.new.file c.args.log.now c.run_all.new.control
     c.run_all.new.registrar in
-    let stays = pages_stay_at disk.content disk.images disk.since disk.moment disk.faults c.args.log.now.key did
+    let stays = pages_stay_at disk c.args.log.now.key did
     c.finish_others.new.disk c.finish_others.new.file.flusher c.finish_others.new.file.cold c.run_all.ensures.can.of.about
     c.finish_others.ensures.flusher c.finish_others.ensures.reads in
-    pass_again disk.content disk.images disk.since disk.moment read (view c.take_all.new.control) c.take_all.ensures.taken.learns
-    (may_stays disk.content disk.images disk.since disk.moment did read stays (c.run_all.ensures.again.again fine))
+    pass_again disk read (view c.take_all.new.control) c.take_all.ensures.taken.learns
+    (may_stays disk did read stays (c.run_all.ensures.again.again fine))
 
 pub returns-clause-can : goal.returns-clause-can
 returns-clause-can g c = record {
@@ -190,23 +190,23 @@ returns-clause-stops g c =
     let did = point_of c.run_all.new.disk c.run_all.new.file c.args.log.now c.run_all.new.control c.run_all.new.registrar in
     let read = point_of c.finish_others.new.disk c.finish_others.new.file c.args.log.now c.run_all.new.control
     c.run_all.new.registrar in
-    let gives = pass_goes disk.content disk.images disk.since disk.moment before m (learns_same v m given.about given.learned) in
-    let stays = pages_stay_at disk.content disk.images disk.since disk.moment disk.faults c.args.log.now.key did
+    let gives = pass_goes disk before m (learns_same v m given.about given.learned) in
+    let stays = pages_stay_at disk c.args.log.now.key did
     c.finish_others.new.disk c.finish_others.new.file.flusher c.finish_others.new.file.cold c.run_all.ensures.can.of.about
     c.finish_others.ensures.flusher c.finish_others.ensures.reads in
-    let reads = here_stays disk.content disk.images disk.since disk.moment did read stays in
+    let reads = here_stays disk did read stays in
     let k = c.args.log.now.key in
     let end = disk.content c.finish_others.new.disk in
     let start = disk.faults c.args.disk.now in
     let then = disk.faults c.run_all.new.disk in
     let last = disk.faults c.finish_others.new.disk in
-    let Past : Whole → Type 0 = IsSoundBehind disk.content disk.images before end in
+    let Past : Whole → Type 0 = IsSoundBehind disk before end in
     let Was : Whole → Type 0 = WasHere (disk.content c.run_all.new.disk) k c.run_all.new.file.cold end in
     let later = c.finish_others.ensures.reads.cold.later in
     at_places (λ i z. Stops Past start last z) c.run_all.new.first c.take_all.new.lanes
-    (stops_later (IsSoundBehind disk.content disk.images gave (disk.content c.run_all.new.disk)) Past start then last
+    (stops_later (IsSoundBehind disk gave (disk.content c.run_all.new.disk)) Past start then last
     c.run_all.new.first later
-    (behind_given disk.content disk.images disk.since disk.moment before gave did read gives c.run_all.ensures.goes reads)
+    (behind_given disk before gave did read gives c.run_all.ensures.goes reads)
     c.run_all.ensures.stops)
     (λ i y at.
     let size = c.take_all.auto.lanes in
@@ -215,7 +215,7 @@ returns-clause-stops g c =
     stops_fault Past start last x.0 y (c.take_all.ensures.lanes i x.0 y x.1 at).fault
     (stops_before Past start then last x.0 c.run_all.ensures.stops.later
     (stops_later Was Past then last last x.0 (omega arith)
-    (behind_run disk.content disk.images disk.since disk.moment before gave did read gives c.run_all.ensures.goes reads k
+    (behind_run disk before gave did read gives c.run_all.ensures.goes reads k
     c.run_all.ensures.can.of.about) (c.finish_others.ensures.stops i x.0 x.1))))
 
 pub returns-clause-committed : goal.returns-clause-committed

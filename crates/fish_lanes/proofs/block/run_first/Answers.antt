@@ -33,7 +33,7 @@ returns-clause-run g c =
     let last = c.hand_back-lane.result in
     let v = view c.args.control.now in
     let u = view c.run_control-fault.new.pass in
-    let Past : Whole → Type 0 = IsSoundBehind disk.content disk.images
+    let Past : Whole → Type 0 = IsSoundBehind disk
     (point_of c.args.disk.now c.args.file.now c.args.log.now c.args.control.now c.args.registrar.now)
     (disk.content c.run_control-fault.new.disk) in
     record {

@@ -67,7 +67,7 @@ returns-clause-alone g c none =
     let first = course.run.first_did in
     record {
       closed = first.controlled.closed (subst IsAlone (sym given) c.requires.end.1.alone);
-      only = λ end e wait. only_end (IsSoundBehind g.D.Disk.content g.D.Disk.images
+      only = λ end e wait. only_end (IsSoundBehind g.D.Disk
           (point_of c.args.disk.now c.args.file.now c.args.log.now c.args.control.now c.args.registrar.now)
           (g.D.Disk.content c.run_by_passes.new.disk)) (view c.args.control.now) course.run.control course.ran
           (view c.run_by_passes.new.control)
@@ -137,10 +137,10 @@ returns-clause-goes g c =
     let after = point_of c.run_by_passes.new.disk c.run_by_passes.new.file c.args.log.now c.end_block.new.control
     c.end_block.new.registrar in
     let learns = learns_both u ended.bound t (learns_changes u ended.bound ended.changes) ended.settles.learns in
-    let stays = stays_pass disk.content disk.images disk.since disk.moment ran c.end_block.new.registrar.catalog t learns
+    let stays = stays_pass disk ran c.end_block.new.registrar.catalog t learns
     c.end_block.ensures.grows in
-    here_both disk.content disk.images disk.since disk.moment before ran after c.run_by_passes.ensures.goes
-    (here_stays disk.content disk.images disk.since disk.moment ran after stays)
+    here_both disk before ran after c.run_by_passes.ensures.goes
+    (here_stays disk ran after stays)
 
 pub returns-clause-again : goal.returns-clause-again
 returns-clause-again g c fine =
@@ -153,6 +153,6 @@ returns-clause-again g c fine =
     let after = point_of c.run_by_passes.new.disk c.run_by_passes.new.file c.args.log.now c.end_block.new.control
     c.end_block.new.registrar in
     let learns = learns_both u ended.bound t (learns_changes u ended.bound ended.changes) ended.settles.learns in
-    let stays = stays_pass disk.content disk.images disk.since disk.moment ran c.end_block.new.registrar.catalog t learns
+    let stays = stays_pass disk ran c.end_block.new.registrar.catalog t learns
     c.end_block.ensures.grows in
-    may_stays disk.content disk.images disk.since disk.moment ran after stays (c.run_by_passes.ensures.again fine)
+    may_stays disk ran after stays (c.run_by_passes.ensures.again fine)

@@ -43,13 +43,13 @@ loop-work-init g c =
     let r = c.args.registrar.now in
     let disk = g.D.Disk in
     let before = point_of c.args.disk.now c.args.file.now c.args.log.now c.args.pass.now r in
-    let Past : Whole → Type 0 = IsSoundBehind disk.content disk.images before (disk.content c.args.disk.now) in
+    let Past : Whole → Type 0 = IsSoundBehind disk before (disk.content c.args.disk.now) in
     record {
       can = c.requires.can;
       read = λ r. (let bad : false ≡ true = sym c.new-defs.ensures.unread ∙ r in absurd cc);
       below = c.requires.below;
-      goes = here_stays disk.content disk.images disk.since disk.moment before before
-          (stays_pass disk.content disk.images disk.since disk.moment before r.catalog v (learns_self v) (rows_self v r.catalog));
+      goes = here_stays disk before before
+          (stays_pass disk before r.catalog v (learns_self v) (rows_self v r.catalog));
       again = c.requires.commit;
       held = subst (λ (z : List Item). Held Past v r v r [] z) (sym c.requires.empty)
           (held_self v r c.requires.can.start.outside (idle_law v c.requires.can.of.stands c.requires.can.start) c.requires.known);
@@ -64,14 +64,14 @@ returns-then-is_err-clause-goes g c =
     let disk = g.D.Disk in
     let r = c.args.registrar.now in
     let before = point_of c.args.disk.now c.args.file.now c.args.log.now c.args.pass.now r in
-    looked_goes disk.content disk.images disk.since disk.moment before c.loop-work.disk c.loop-work.file c.args.log.now
+    looked_goes disk before c.loop-work.disk c.loop-work.file c.args.log.now
     c.loop-work.pass c.find_boundary.new.pass c.loop-work.registrar c.find_boundary.new.registrar c.loop-work.invariant.goes
     c.find_boundary.ensures.gains.on.learns c.find_boundary.ensures.grows
 
 pub returns-then-is_err-clause-again : goal.returns-then-is_err-clause-again
 returns-then-is_err-clause-again g c fine =
     let disk = g.D.Disk in
-    looked_may disk.content disk.images disk.since disk.moment c.loop-work.disk c.loop-work.file c.args.log.now c.loop-work.pass
+    looked_may disk c.loop-work.disk c.loop-work.file c.args.log.now c.loop-work.pass
     c.find_boundary.new.pass c.loop-work.registrar c.find_boundary.new.registrar c.loop-work.invariant.again
     c.find_boundary.ensures.gains.on.learns c.find_boundary.ensures.grows
 
@@ -87,7 +87,7 @@ returns-then-is_err-clause-run g c =
     let i = c.loop-work.work-index in
     let works = c.args.works.now in
     let w = c.work-item.result in
-    let Past : Whole → Type 0 = IsSoundBehind disk.content disk.images before (disk.content c.loop-work.disk) in
+    let Past : Whole → Type 0 = IsSoundBehind disk before (disk.content c.loop-work.disk) in
     subst (λ (z : List Work × List Item). HasControlled Past v u r s z.0 z.1 cause.Memory)
     (λ j. (
       around works i w c.loop-work-test.true c.work-item.is j,
@@ -110,7 +110,7 @@ run_statement-requires-clause-defs g c =
 pub run_statement-requires-clause-commit : goal.run_statement-requires-clause-commit
 run_statement-requires-clause-commit g c =
     let disk = g.D.Disk in
-    looked_may disk.content disk.images disk.since disk.moment c.loop-work.disk c.loop-work.file c.args.log.now c.loop-work.pass
+    looked_may disk c.loop-work.disk c.loop-work.file c.args.log.now c.loop-work.pass
     c.find_boundary.new.pass c.loop-work.registrar c.find_boundary.new.registrar c.loop-work.invariant.again
     c.find_boundary.ensures.gains.on.learns c.find_boundary.ensures.grows
 
@@ -120,13 +120,13 @@ returns-in-Err-clause-goes g c =
     let r = c.args.registrar.now in
     let before = point_of c.args.disk.now c.args.file.now c.args.log.now c.args.pass.now r in
     let looked = point_of c.loop-work.disk c.loop-work.file c.args.log.now c.find_boundary.new.pass c.find_boundary.new.registrar in
-    let goes = looked_goes disk.content disk.images disk.since disk.moment before c.loop-work.disk c.loop-work.file c.args.log.now
+    let goes = looked_goes disk before c.loop-work.disk c.loop-work.file c.args.log.now
     c.loop-work.pass c.find_boundary.new.pass c.loop-work.registrar c.find_boundary.new.registrar c.loop-work.invariant.goes
     c.find_boundary.ensures.gains.on.learns c.find_boundary.ensures.grows in
     let q = c.run_statement.new.registrar in
     let after = point_of c.run_statement.new.disk c.run_statement.new.file c.args.log.now c.run_statement.new.pass q in
     let step = c.run_statement.ensures.goes in
-    here_both disk.content disk.images disk.since disk.moment before looked after goes step
+    here_both disk before looked after goes step
 
 pub returns-in-Err-clause-again : goal.returns-in-Err-clause-again
 returns-in-Err-clause-again g c fine = c.run_statement.ensures.again
@@ -150,9 +150,9 @@ returns-in-Err-clause-run g c =
     let q = c.run_statement.new.registrar in
     let then = disk.content c.loop-work.disk in
     let last = disk.content c.run_statement.new.disk in
-    let Past : Whole → Type 0 = IsSoundBehind disk.content disk.images before last in
+    let Past : Whole → Type 0 = IsSoundBehind disk before last in
     let step = c.run_statement.ensures.goes in
-    let held = held_fewer (IsSoundBehind disk.content disk.images before then) Past v r u s (take i works) c.find_boundary.new.items
+    let held = held_fewer (IsSoundBehind disk before then) Past v r u s (take i works) c.find_boundary.new.items
     (λ past sound. record { sound = sound.sound; told = step.told_before sound.told })
     (held_polled v r (view c.loop-work.pass) c.loop-work.registrar u s (take i works) c.loop-work.items
     c.find_boundary.new.items inv.held c.find_boundary.ensures.gains c.find_boundary.ensures.loads
@@ -190,15 +190,15 @@ returns-in-Err-clause-whole g c past sound =
     let r = c.args.registrar.now in
     let before = point_of c.args.disk.now c.args.file.now c.args.log.now c.args.pass.now r in
     let looked = point_of c.loop-work.disk c.loop-work.file c.args.log.now c.find_boundary.new.pass c.find_boundary.new.registrar in
-    let goes = looked_goes disk.content disk.images disk.since disk.moment before c.loop-work.disk c.loop-work.file c.args.log.now
+    let goes = looked_goes disk before c.loop-work.disk c.loop-work.file c.args.log.now
     c.loop-work.pass c.find_boundary.new.pass c.loop-work.registrar c.find_boundary.new.registrar c.loop-work.invariant.goes
     c.find_boundary.ensures.gains.on.learns c.find_boundary.ensures.grows in
     let last = disk.content c.run_statement.new.disk in
-    let Past : Whole → Type 0 = IsSoundBehind disk.content disk.images before last in
-    let Looked : Whole → Type 0 = IsSoundBehind disk.content disk.images looked last in
+    let Past : Whole → Type 0 = IsSoundBehind disk before last in
+    let Looked : Whole → Type 0 = IsSoundBehind disk looked last in
     let step = c.run_statement.ensures.goes in
     let here : (past : Whole) → Past past → Looked past =
-    λ past sound. behind_on disk.content disk.images disk.since disk.moment before looked last past goes sound step.told_before in
+    λ past sound. behind_on disk before looked last past goes sound step.told_before in
     c.in-Err.ensures.whole past (here past sound)
 
 pub returns-in-Err-push-clause-goes : goal.returns-in-Err-push-clause-goes
@@ -207,13 +207,13 @@ returns-in-Err-push-clause-goes g c =
     let r = c.args.registrar.now in
     let before = point_of c.args.disk.now c.args.file.now c.args.log.now c.args.pass.now r in
     let looked = point_of c.loop-work.disk c.loop-work.file c.args.log.now c.find_boundary.new.pass c.find_boundary.new.registrar in
-    let goes = looked_goes disk.content disk.images disk.since disk.moment before c.loop-work.disk c.loop-work.file c.args.log.now
+    let goes = looked_goes disk before c.loop-work.disk c.loop-work.file c.args.log.now
     c.loop-work.pass c.find_boundary.new.pass c.loop-work.registrar c.find_boundary.new.registrar c.loop-work.invariant.goes
     c.find_boundary.ensures.gains.on.learns c.find_boundary.ensures.grows in
     let q = c.run_statement.new.registrar in
     let after = point_of c.run_statement.new.disk c.run_statement.new.file c.args.log.now c.run_statement.new.pass q in
     let step = c.run_statement.ensures.goes in
-    here_both disk.content disk.images disk.since disk.moment before looked after goes step
+    here_both disk before looked after goes step
 
 pub returns-in-Err-push-clause-again : goal.returns-in-Err-push-clause-again
 returns-in-Err-push-clause-again g c fine = c.run_statement.ensures.again
@@ -237,9 +237,9 @@ returns-in-Err-push-clause-run g c =
     let q = c.run_statement.new.registrar in
     let then = disk.content c.loop-work.disk in
     let last = disk.content c.run_statement.new.disk in
-    let Past : Whole → Type 0 = IsSoundBehind disk.content disk.images before last in
+    let Past : Whole → Type 0 = IsSoundBehind disk before last in
     let step = c.run_statement.ensures.goes in
-    let held = held_fewer (IsSoundBehind disk.content disk.images before then) Past v r u s (take i works) c.find_boundary.new.items
+    let held = held_fewer (IsSoundBehind disk before then) Past v r u s (take i works) c.find_boundary.new.items
     (λ past sound. record { sound = sound.sound; told = step.told_before sound.told })
     (held_polled v r (view c.loop-work.pass) c.loop-work.registrar u s (take i works) c.loop-work.items
     c.find_boundary.new.items inv.held c.find_boundary.ensures.gains c.find_boundary.ensures.loads
@@ -275,7 +275,7 @@ loop-work-preserved g c =
     let s = c.find_boundary.new.registrar in
     let before = point_of c.args.disk.now c.args.file.now c.args.log.now c.args.pass.now r in
     let looked = point_of c.loop-work.disk c.loop-work.file c.args.log.now c.find_boundary.new.pass c.find_boundary.new.registrar in
-    let goes = looked_goes disk.content disk.images disk.since disk.moment before c.loop-work.disk c.loop-work.file c.args.log.now
+    let goes = looked_goes disk before c.loop-work.disk c.loop-work.file c.args.log.now
     c.loop-work.pass c.find_boundary.new.pass c.loop-work.registrar c.find_boundary.new.registrar c.loop-work.invariant.goes
     c.find_boundary.ensures.gains.on.learns c.find_boundary.ensures.grows in
     let i = c.loop-work.work-index in
@@ -288,12 +288,12 @@ loop-work-preserved g c =
     let then = disk.content c.loop-work.disk in
     let last = disk.content c.run_statement.new.disk in
     let after = point_of c.run_statement.new.disk c.run_statement.new.file c.args.log.now c.run_statement.new.pass q in
-    let Past : Whole → Type 0 = IsSoundBehind disk.content disk.images before last in
-    let Looked : Whole → Type 0 = IsSoundBehind disk.content disk.images looked last in
+    let Past : Whole → Type 0 = IsSoundBehind disk before last in
+    let Looked : Whole → Type 0 = IsSoundBehind disk looked last in
     let step = c.run_statement.ensures.goes in
     let here : (past : Whole) → Past past → Looked past =
-    λ past sound. behind_on disk.content disk.images disk.since disk.moment before looked last past goes sound step.told_before in
-    let held = held_fewer (IsSoundBehind disk.content disk.images before then) Past v r u s (take i works) c.find_boundary.new.items
+    λ past sound. behind_on disk before looked last past goes sound step.told_before in
+    let held = held_fewer (IsSoundBehind disk before then) Past v r u s (take i works) c.find_boundary.new.items
     (λ past sound. record { sound = sound.sound; told = step.told_before sound.told })
     (held_polled v r (view c.loop-work.pass) c.loop-work.registrar u s (take i works) c.loop-work.items
     c.find_boundary.new.items inv.held c.find_boundary.ensures.gains c.find_boundary.ensures.loads
@@ -310,7 +310,7 @@ loop-work-preserved g c =
       can = c.run_statement.ensures.can;
       read = c.run_statement.ensures.defs;
       below = c.run_statement.ensures.below;
-      goes = here_both disk.content disk.images disk.since disk.moment before looked after goes step;
+      goes = here_both disk before looked after goes step;
       again = c.run_statement.ensures.again (λ bad. absurd cc);
       held = subst (λ (z : List Work × List Item). Held Past v r t q z.0 z.1) (λ j. (sym next j, sym c.in-Ok-push.ensures.ok j))
           (held_done v r u s t q (take i works) c.find_boundary.new.items w c.in-Ok.item c.requires.can.of.stands
@@ -341,7 +341,7 @@ returns-clause-run g c =
     let items = c.loop-work.items in
     let held = c.loop-work.invariant.held in
     let before = point_of c.args.disk.now c.args.file.now c.args.log.now c.args.pass.now c.args.registrar.now in
-    let Past : Whole → Type 0 = IsSoundBehind disk.content disk.images before (disk.content c.loop-work.disk) in
+    let Past : Whole → Type 0 = IsSoundBehind disk before (disk.content c.loop-work.disk) in
     subst (λ (z : List Work). HasControlled Past (view c.args.pass.now) (view c.loop-work.pass) c.args.registrar.now
     c.loop-work.registrar z items cause.None)
     (sym (take_size works c.loop-work.work-index (length (answers items)) held.told.size))
@@ -355,7 +355,7 @@ returns-then-finds_full-clause-run g c =
     let items = c.loop-work.items in
     let held = c.loop-work.invariant.held in
     let before = point_of c.args.disk.now c.args.file.now c.args.log.now c.args.pass.now c.args.registrar.now in
-    let Past : Whole → Type 0 = IsSoundBehind disk.content disk.images before (disk.content c.loop-work.disk) in
+    let Past : Whole → Type 0 = IsSoundBehind disk before (disk.content c.loop-work.disk) in
     subst (λ (z : List Work). HasControlled Past (view c.args.pass.now) (view c.loop-work.pass) c.args.registrar.now
     c.loop-work.registrar z items cause.None)
     (sym (take_size works c.loop-work.work-index (length (answers items)) held.told.size))

@@ -23,9 +23,9 @@ invariant-loop-work g l =
       can : CanControl l.log l.pass l.registrar;
       read : IsDefsOf (view l.pass) l.defs;
       below : IsBelow l.log.key l.file.cold;
-      goes : GoesOnHere disk.content disk.images disk.since disk.moment before now;
+      goes : GoesOnHere disk before now;
       again : MayGoOn disk.images now;
-      held : Held (IsSoundBehind disk.content disk.images before (disk.content l.disk)) (view l.fn.pass) l.fn.registrar (view l.pass)
+      held : Held (IsSoundBehind disk before (disk.content l.disk)) (view l.fn.pass) l.fn.registrar (view l.pass)
           l.registrar (take l.work-index l.works) l.items;
       found : AreFound (view l.fn.pass).clock (view l.pass).clock (registry_of (view l.fn.pass) l.fn.registrar) l.items;
       committed : AllOf (IsCommitted l.file.flusher.count) l.items;

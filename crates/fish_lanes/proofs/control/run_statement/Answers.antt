@@ -43,9 +43,9 @@ returns-in-Register-clause-goes g c =
     let r = c.args.registrar.now in
     let before = point_of c.args.disk.now c.args.file.now c.args.log.now c.args.pass.now r in
     let after = point_of c.args.disk.now c.args.file.now c.args.log.now c.register.new.pass c.register.new.registrar in
-    let stays = stays_pass disk.content disk.images disk.since disk.moment before c.register.new.registrar.catalog t
+    let stays = stays_pass disk before c.register.new.registrar.catalog t
     c.register.ensures.gains.on.learns c.register.ensures.grows in
-    here_stays disk.content disk.images disk.since disk.moment before after stays
+    here_stays disk before after stays
 
 pub returns-in-Register-clause-again : goal.returns-in-Register-clause-again
 returns-in-Register-clause-again g c fine =
@@ -54,9 +54,9 @@ returns-in-Register-clause-again g c fine =
     let r = c.args.registrar.now in
     let before = point_of c.args.disk.now c.args.file.now c.args.log.now c.args.pass.now r in
     let after = point_of c.args.disk.now c.args.file.now c.args.log.now c.register.new.pass c.register.new.registrar in
-    let stays = stays_pass disk.content disk.images disk.since disk.moment before c.register.new.registrar.catalog t
+    let stays = stays_pass disk before c.register.new.registrar.catalog t
     c.register.ensures.gains.on.learns c.register.ensures.grows in
-    may_stays disk.content disk.images disk.since disk.moment before after stays c.requires.commit
+    may_stays disk before after stays c.requires.commit
 
 pub returns-in-Register-clause-done : goal.returns-in-Register-clause-done
 returns-in-Register-clause-done g c =
@@ -66,7 +66,7 @@ returns-in-Register-clause-done g c =
     let r = c.args.registrar.now in
     let before = point_of c.args.disk.now c.args.file.now c.args.log.now c.args.pass.now r in
     let q = c.register.new.registrar in
-    let Past : Whole → Type 0 = IsSoundBehind disk.content disk.images before (disk.content c.args.disk.now) in
+    let Past : Whole → Type 0 = IsSoundBehind disk before (disk.content c.args.disk.now) in
     let w = work.Register c.in-Register.name c.in-Register.def in
     subst (λ (z : Work). IfOk c.or_memory.result (IsControlled Past v r t q z)) (sym c.in-Register.is)
     (subst (λ (z : Result Item LaneFault). IfOk z (IsControlled Past v r t q w)) (sym c.or_memory.ensures)
@@ -101,9 +101,9 @@ returns-in-Deregister-clause-goes g c =
     let r = c.args.registrar.now in
     let before = point_of c.args.disk.now c.args.file.now c.args.log.now c.args.pass.now r in
     let after = point_of c.args.disk.now c.args.file.now c.args.log.now c.deregister.new.pass c.deregister.new.registrar in
-    let stays = stays_pass disk.content disk.images disk.since disk.moment before c.deregister.new.registrar.catalog t
+    let stays = stays_pass disk before c.deregister.new.registrar.catalog t
     c.deregister.ensures.gains.on.learns c.deregister.ensures.grows in
-    here_stays disk.content disk.images disk.since disk.moment before after stays
+    here_stays disk before after stays
 
 pub returns-in-Deregister-clause-again : goal.returns-in-Deregister-clause-again
 returns-in-Deregister-clause-again g c fine =
@@ -112,9 +112,9 @@ returns-in-Deregister-clause-again g c fine =
     let r = c.args.registrar.now in
     let before = point_of c.args.disk.now c.args.file.now c.args.log.now c.args.pass.now r in
     let after = point_of c.args.disk.now c.args.file.now c.args.log.now c.deregister.new.pass c.deregister.new.registrar in
-    let stays = stays_pass disk.content disk.images disk.since disk.moment before c.deregister.new.registrar.catalog t
+    let stays = stays_pass disk before c.deregister.new.registrar.catalog t
     c.deregister.ensures.gains.on.learns c.deregister.ensures.grows in
-    may_stays disk.content disk.images disk.since disk.moment before after stays c.requires.commit
+    may_stays disk before after stays c.requires.commit
 
 pub returns-in-Deregister-clause-done : goal.returns-in-Deregister-clause-done
 returns-in-Deregister-clause-done g c =
@@ -124,7 +124,7 @@ returns-in-Deregister-clause-done g c =
     let r = c.args.registrar.now in
     let before = point_of c.args.disk.now c.args.file.now c.args.log.now c.args.pass.now r in
     let q = c.deregister.new.registrar in
-    let Past : Whole → Type 0 = IsSoundBehind disk.content disk.images before (disk.content c.args.disk.now) in
+    let Past : Whole → Type 0 = IsSoundBehind disk before (disk.content c.args.disk.now) in
     let w = work.Deregister c.in-Deregister.name in
     subst (λ (z : Work). IfOk c.or_memory-in-Deregister.result (IsControlled Past v r t q z)) (sym c.in-Deregister.is)
     (subst (λ (z : Result Item LaneFault). IfOk z (IsControlled Past v r t q w)) (sym c.or_memory-in-Deregister.ensures)
@@ -165,7 +165,7 @@ returns-in-Checkpoint-clause-done g c =
     let t = view c.commit.new.pass in
     let r = c.args.registrar.now in
     let before = point_of c.args.disk.now c.args.file.now c.args.log.now c.args.pass.now r in
-    let Past : Whole → Type 0 = IsSoundBehind disk.content disk.images before (disk.content c.commit.new.disk) in
+    let Past : Whole → Type 0 = IsSoundBehind disk before (disk.content c.commit.new.disk) in
     let idle = idle_law v c.requires.can.of.stands c.requires.can.start in
     subst (λ (z : Work). IfOk c.commit.result (IsControlled Past v r t r z)) (sym c.in-Checkpoint.is)
     (free_done Past v r t work.Checkpoint c.commit.result tt c.commit.ensures.reads.learns
@@ -208,11 +208,11 @@ returns-in_default-clause-goes g c =
     let after = point_of c.run_shared.new.disk c.run_shared.new.file c.args.log.now c.run_shared.new.pass r in
     let gain = gained_any (IsHere (g.D.Disk.content c.run_shared.new.disk) c.args.log.now.key c.args.file.now.cold) v t c.args.work.now
     c.run_shared.result c.run_shared.ensures.item c.run_shared.ensures.part in
-    let stays = pages_stay disk.content disk.images disk.since disk.moment disk.faults before after gain.1.gains.on.learns
+    let stays = pages_stay disk before after gain.1.gains.on.learns
     (rows_self v r.catalog) c.run_shared.ensures.flusher refl
-    (subst (λ (z : Key). ReadsPages disk.content disk.images disk.since disk.moment disk.faults z c.args.file.now.cold
+    (subst (λ (z : Key). ReadsPages disk z c.args.file.now.cold
     c.run_shared.new.file.cold c.args.disk.now c.run_shared.new.disk) (sym c.requires.can.of.about) c.run_shared.ensures.reads) in
-    here_stays disk.content disk.images disk.since disk.moment before after stays
+    here_stays disk before after stays
 
 pub returns-in_default-clause-again : goal.returns-in_default-clause-again
 returns-in_default-clause-again g c fine =
@@ -224,11 +224,11 @@ returns-in_default-clause-again g c fine =
     let after = point_of c.run_shared.new.disk c.run_shared.new.file c.args.log.now c.run_shared.new.pass r in
     let gain = gained_any (IsHere (g.D.Disk.content c.run_shared.new.disk) c.args.log.now.key c.args.file.now.cold) v t c.args.work.now
     c.run_shared.result c.run_shared.ensures.item c.run_shared.ensures.part in
-    let stays = pages_stay disk.content disk.images disk.since disk.moment disk.faults before after gain.1.gains.on.learns
+    let stays = pages_stay disk before after gain.1.gains.on.learns
     (rows_self v r.catalog) c.run_shared.ensures.flusher refl
-    (subst (λ (z : Key). ReadsPages disk.content disk.images disk.since disk.moment disk.faults z c.args.file.now.cold
+    (subst (λ (z : Key). ReadsPages disk z c.args.file.now.cold
     c.run_shared.new.file.cold c.args.disk.now c.run_shared.new.disk) (sym c.requires.can.of.about) c.run_shared.ensures.reads) in
-    may_stays disk.content disk.images disk.since disk.moment before after stays c.requires.commit
+    may_stays disk before after stays c.requires.commit
 
 pub returns-in_default-clause-done : goal.returns-in_default-clause-done
 returns-in_default-clause-done g c =
@@ -238,9 +238,9 @@ returns-in_default-clause-done g c =
     let r = c.args.registrar.now in
     let before = point_of c.args.disk.now c.args.file.now c.args.log.now c.args.pass.now r in
     let now = disk.content c.run_shared.new.disk in
-    let here = sound_now disk.content disk.images disk.since disk.moment before now c.args.log.now.key c.requires.can.of.about
+    let here = sound_now disk before now c.args.log.now.key c.requires.can.of.about
     c.run_shared.ensures.reads.cold.content_is in
-    let Past : Whole → Type 0 = IsSoundBehind disk.content disk.images before now in
+    let Past : Whole → Type 0 = IsSoundBehind disk before now in
     let w = c.args.work.now in
     let gain = gained_any (IsHere (g.D.Disk.content c.run_shared.new.disk) c.args.log.now.key c.args.file.now.cold) v t w
     c.run_shared.result c.run_shared.ensures.item c.run_shared.ensures.part in
@@ -270,6 +270,6 @@ returns-in_default-clause-whole g c past s =
     let r = c.args.registrar.now in
     let before = point_of c.args.disk.now c.args.file.now c.args.log.now c.args.pass.now r in
     let now = disk.content c.run_shared.new.disk in
-    let here = sound_now disk.content disk.images disk.since disk.moment before now c.args.log.now.key c.requires.can.of.about
+    let here = sound_now disk before now c.args.log.now.key c.requires.can.of.about
     c.run_shared.ensures.reads.cold.content_is in
     c.run_shared.ensures.whole (here past s).table

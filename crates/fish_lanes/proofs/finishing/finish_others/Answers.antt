@@ -20,7 +20,7 @@ loop-i-init g c =
     record {
       below = c.requires.below;
       flusher = refl;
-      reads = pages_none disk.content disk.images disk.since disk.moment disk.faults c.args.log.now.key c.args.file.now.cold
+      reads = pages_none disk c.args.log.now.key c.args.file.now.cold
           c.args.disk.now;
       each = λ j x y less. absurd (omega arith);
       rest = λ j above. refl;
@@ -74,12 +74,12 @@ loop-i-preserved g c =
     let at : slice_get c.loop-i.lanes i ≡ Some r = read_at c.loop-i.lanes i r (omega arith) c.index-lanes-i.is in
     let at_fn : slice_get c.args.lanes.now i ≡ Some r = inv.rest i (omega arith) ∙ at in
     let Was : Whole → Type 0 = WasHere (disk.content first) k cold (disk.content now) in
-    let told = pages_told disk.content disk.images disk.since disk.moment disk.faults k read after before now step in
+    let told = pages_told disk k read after before now step in
     let so_far : (past : Whole) → Was past → WasHere (disk.content first) k cold (disk.content before) past =
     λ past was. record { here = was.here; told = told was.told } in
     let here : (past : Whole) → Was past → WasHere (disk.content before) k read (disk.content now) past =
     λ past was. record {
-      here = here_on disk.content disk.images disk.since disk.moment disk.faults k cold read first before past inv.reads
+      here = here_on disk k cold read first before past inv.reads
           (told was.told) was.here;
       told = was.told;
     } in
@@ -98,7 +98,7 @@ loop-i-preserved g c =
     record {
       below = c.finish_lane.ensures.below;
       flusher = c.finish_lane.ensures.flusher ∙ inv.flusher;
-      reads = pages_both disk.content disk.images disk.since disk.moment disk.faults k cold read after first before now inv.reads step;
+      reads = pages_both disk k cold read after first before now inv.reads step;
       each = each_more Is c.args.lanes.now c.loop-i.lanes i r y (omega arith) at_fn
           (λ j x z less at_x at_z. (let e = inv.each j x z less at_x at_z in (
             finished_fewer (WasHere (disk.content first) k cold (disk.content before)) Was c.args.full c.args.log.now x z so_far e.0,

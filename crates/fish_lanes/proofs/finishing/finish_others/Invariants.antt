@@ -14,7 +14,7 @@ invariant-loop-i g l =
     record {
       below : IsBelow l.log.key l.file.cold;
       flusher : l.file.flusher ≡ l.fn.file.flusher;
-      reads : ReadsPages disk.content disk.images disk.since disk.moment disk.faults l.log.key l.fn.file.cold l.file.cold l.fn.disk l.disk;
+      reads : ReadsPages disk l.log.key l.fn.file.cold l.file.cold l.fn.disk l.disk;
       each : (j : ℕ) (x y : Lane) → j < l.i → slice_get l.fn.lanes j ≡ Some x → slice_get l.lanes j ≡ Some y
           → HasFinished (WasHere (disk.content l.fn.disk) l.log.key l.fn.file.cold (disk.content l.disk)) l.full l.log x y
           × Stops (WasHere (disk.content l.fn.disk) l.log.key l.fn.file.cold (disk.content l.disk)) (disk.faults l.fn.disk)

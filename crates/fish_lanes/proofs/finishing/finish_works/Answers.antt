@@ -31,7 +31,7 @@ loop-next-init g c =
       read = λ r. (let bad : false ≡ true = sym c.new-defs.ensures.unread ∙ r in absurd cc);
       below = c.requires.below;
       flusher = refl;
-      reads = pages_none disk.content disk.images disk.since disk.moment disk.faults c.args.log.now.key c.args.file.now.cold
+      reads = pages_none disk c.args.log.now.key c.args.file.now.cold
           c.args.disk.now;
       position = sym c.len-next.ensures;
       far = λ start later told before. before;
@@ -66,12 +66,12 @@ loop-next-preserved g c =
     let read = c.loop-next.file.cold in
     let after = c.run_shared.new.file.cold in
     let step = c.run_shared.ensures.reads in
-    let told = pages_told disk.content disk.images disk.since disk.moment disk.faults k read after before now step in
+    let told = pages_told disk k read after before now step in
     let Was : Option (List ℕ) → Whole → Type 0 = λ later. WasHere (disk.content first) k cold later in
     let here : (later : Option (List ℕ)) → (IsSome later → IsSome (disk.content now)) → (past : Whole) → Was later past
     → IsHere (disk.content now) k read past =
     λ later still past was. here_same (disk.content before) (disk.content now) k read past step.cold.content_is (still was.told)
-    (here_on disk.content disk.images disk.since disk.moment disk.faults k cold read first before past inv.reads
+    (here_on disk k cold read first before past inv.reads
     (told (still was.told)) was.here) in
     let x = c.in-Ok.item in
     let done = c.in-Ok.ensures.item in
@@ -83,7 +83,7 @@ loop-next-preserved g c =
       read = c.run_shared.ensures.defs;
       below = c.run_shared.ensures.below;
       flusher = c.run_shared.ensures.flusher ∙ inv.flusher;
-      reads = pages_both disk.content disk.images disk.since disk.moment disk.faults k cold read after first before now inv.reads step;
+      reads = pages_both disk k cold read after first before now inv.reads step;
       position = ap (λ (z : List Item). length z) pushed ∙ length-append old (x ∷ []) ∙ ap (λ (z : ℕ). z + 1) position;
       far = λ start later still began. subst (IsSoFar (Was later) start t works) (sym pushed)
           (far_next start u t works old (inv.far start later (λ some. told (still some)) began) w (omega arith) at x shared
@@ -109,7 +109,7 @@ returns-in-Err-clause-reads g c =
     let read = c.loop-next.file.cold in
     let after = c.run_shared.new.file.cold in
     let step = c.run_shared.ensures.reads in
-    pages_both disk.content disk.images disk.since disk.moment disk.faults k cold read after first before now inv.reads step
+    pages_both disk k cold read after first before now inv.reads step
 
 pub returns-in-Err-clause-flusher : goal.returns-in-Err-clause-flusher
 returns-in-Err-clause-flusher g c =
@@ -142,7 +142,7 @@ returns-in-Err-clause-goes g c start began =
     let read = c.loop-next.file.cold in
     let after = c.run_shared.new.file.cold in
     let step = c.run_shared.ensures.reads in
-    let told = pages_told disk.content disk.images disk.since disk.moment disk.faults k read after before now step in
+    let told = pages_told disk k read after before now step in
     on_fault start t works old c.in-Err.fault c.in-Err.ensures.named
     (far_part start u t works old w c.in-Err.fault (inv.far start (disk.content now) told began) (omega arith) at
     c.in-Err.ensures.named c.in-Err.ensures.part)
@@ -164,12 +164,12 @@ returns-in-Err-clause-whole g c past was =
     let read = c.loop-next.file.cold in
     let after = c.run_shared.new.file.cold in
     let step = c.run_shared.ensures.reads in
-    let told = pages_told disk.content disk.images disk.since disk.moment disk.faults k read after before now step in
+    let told = pages_told disk k read after before now step in
     let Was : Option (List ℕ) → Whole → Type 0 = λ later. WasHere (disk.content first) k cold later in
     let here : (later : Option (List ℕ)) → (IsSome later → IsSome (disk.content now)) → (past : Whole) → Was later past
     → IsHere (disk.content now) k read past =
     λ later still past was. here_same (disk.content before) (disk.content now) k read past step.cold.content_is (still was.told)
-    (here_on disk.content disk.images disk.since disk.moment disk.faults k cold read first before past inv.reads
+    (here_on disk k cold read first before past inv.reads
     (told (still was.told)) was.here) in
     c.in-Err.ensures.whole (here (disk.content now) (λ some. some) past was).table
 
@@ -185,7 +185,7 @@ returns-in-Err-push-clause-reads g c =
     let read = c.loop-next.file.cold in
     let after = c.run_shared.new.file.cold in
     let step = c.run_shared.ensures.reads in
-    pages_both disk.content disk.images disk.since disk.moment disk.faults k cold read after first before now inv.reads step
+    pages_both disk k cold read after first before now inv.reads step
 
 pub returns-in-Err-push-clause-flusher : goal.returns-in-Err-push-clause-flusher
 returns-in-Err-push-clause-flusher g c =
@@ -221,7 +221,7 @@ returns-in-Err-push-clause-goes g c start began =
     let read = c.loop-next.file.cold in
     let after = c.run_shared.new.file.cold in
     let step = c.run_shared.ensures.reads in
-    let told = pages_told disk.content disk.images disk.since disk.moment disk.faults k read after before now step in
+    let told = pages_told disk k read after before now step in
     let Was : Option (List ℕ) → Whole → Type 0 = λ later. WasHere (disk.content first) k cold later in
     let done = c.in-Ok.ensures.item in
     subst (λ (z : List Item). IsOn (Was (disk.content now)) start t works z fault.Memory) (sym c.in-Err-push.ensures.err)

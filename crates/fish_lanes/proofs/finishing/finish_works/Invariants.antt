@@ -23,7 +23,7 @@ invariant-loop-next g l =
       read : IsDefsOf (view l.pass) l.defs;
       below : IsBelow l.log.key l.file.cold;
       flusher : l.file.flusher ≡ l.fn.file.flusher;
-      reads : ReadsPages disk.content disk.images disk.since disk.moment disk.faults l.log.key l.fn.file.cold l.file.cold l.fn.disk
+      reads : ReadsPages disk l.log.key l.fn.file.cold l.file.cold l.fn.disk
           l.disk;
       position : length l.items ≡ l.next;
       far : (start : View) (later : Option (List ℕ)) → (IsSome later → IsSome (disk.content l.disk))

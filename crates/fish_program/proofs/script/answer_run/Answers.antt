@@ -26,6 +26,6 @@ returns-in-Ok-clause-ended g c =
     inr (
       texts,
       read,
-      subst (λ (a : Asked). EndsScript disk.content disk.images disk.since disk.moment c.args.disk.now
+      subst (λ (a : Asked). EndsScript disk c.args.disk.now
           c.run_store-outcome.new.disk a told texts old new ended ended.fault) c.asked_by.ensures.is c.run_store-outcome.ensures.ended,
     )

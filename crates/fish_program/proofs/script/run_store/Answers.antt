@@ -27,14 +27,14 @@ returns-in-Ok-clause-ended g c =
     let out = c.ended.result in
     let o = c.in-Ok.opened in
     let laws = g.met.D.Disk g.world.𝓛 g.world.𝓜 g.world.𝓡 ((λ s x. x), (λ x. x), (λ x. x), λ x. x) in
-    let was = opens disk.content disk.images disk.since disk.moment start mid end c.args.asked o c.in-Ok.ensures.opened
+    let was = opens disk start mid end c.args.asked o c.in-Ok.ensures.opened
     (laws.only_now mid) c.in-Ok.ensures.since c.open_store.ensures.calls c.run_script-ran.ensures.before in
-    let went = went_as disk.content disk.images disk.since disk.moment start mid end c.args.asked told script old new out o ran was
+    let went = went_as disk start mid end c.args.asked told script old new out o ran was
     c.ended.ensures.report c.ended.ensures.refused c.ended.ensures.remains c.run_script-ran.ensures.whole c.run_script-ran.ensures.stopped
     c.run_script-ran.ensures.lost c.run_script-ran.ensures.damaged in
-    subst (λ (f : Fault). EndsScript disk.content disk.images disk.since disk.moment start end c.args.asked told script old new out f)
+    subst (λ (f : Fault). EndsScript disk start end c.args.asked told script old new out f)
     (sym c.ended.ensures.fault)
-    (run_end disk.content disk.images disk.since disk.moment start mid end c.args.asked told script old new out o ran.fault went)
+    (run_end disk start mid end c.args.asked told script old new out o ran.fault went)
 
 pub returns-in-Ok-clause-input : goal.returns-in-Ok-clause-input
 returns-in-Ok-clause-input g c is =
@@ -61,7 +61,7 @@ returns-in-Err-clause-ended g c =
     let old = g.W.Sink.written c.args.out.now in
     let out = c.failed.result in
     let e = c.in-Err.refusal in
-    let none : IsUnopened disk.content disk.images disk.since disk.moment start end c.args.asked e = record {
+    let none : IsUnopened disk start end c.args.asked e = record {
       cause = c.in-Err.ensures.refused;
       reads = c.in-Err.ensures.reads;
       crash = c.open_store.ensures.crash;
@@ -72,6 +72,6 @@ returns-in-Err-clause-ended g c =
       report = c.failed.ensures.report;
       remains = c.failed.ensures.remains;
     } in
-    subst (λ (f : Fault). EndsScript disk.content disk.images disk.since disk.moment start end c.args.asked told script old old out f)
+    subst (λ (f : Fault). EndsScript disk start end c.args.asked told script old old out f)
     (sym (c.failed.ensures.fault ∙ c.from.ensures))
-    (refused_end disk.content disk.images disk.since disk.moment start end end c.args.asked told script old old out e none nothing)
+    (refused_end disk start end end c.args.asked told script old old out e none nothing)

@@ -33,13 +33,13 @@ returns-in-Ok-roll-clause-rolled g c =
     let q = point_at c.commit.new.disk t in
     let same = one_end (view m.pass) m.file.flusher.count c.args.from e.close.of.stands e.all (e.end c.args.from c.requires.go.end) in
     record {
-      runs = runs_both disk.content disk.images disk.since disk.moment p at q (λ w. Unit {0}) (λ w. Unit {0}) (λ w. Unit {0})
+      runs = runs_both disk p at q (λ w. Unit {0}) (λ w. Unit {0}) (λ w. Unit {0})
           (λ w a b. tt)
-          (runs_step disk.content disk.images disk.since disk.moment p at (λ w. Unit {0}) e.goes e.later (λ past sound w may. tt)) h.runs;
-      go = rolled_go disk.content disk.images disk.since disk.moment c.commit.new.disk m t h c.args.from same;
+          (runs_step disk p at (λ w. Unit {0}) e.goes e.later (λ past sound w may. tt)) h.runs;
+      go = rolled_go disk c.commit.new.disk m t h c.args.from same;
       unshut = h.unshut;
       registry =
-          rolled_registry disk.content disk.images disk.since disk.moment c.commit.new.disk m t h c.args.from same
+          rolled_registry disk c.commit.new.disk m t h c.args.from same
           (ap (λ r. r.waiting) e.registrar ∙ c.requires.go.settled)
           ∙ ap (λ (z : Registry). begun true c.args.from z)
           (registry_reads s m e.registrar c.requires.go.can.of.stands e.close.of.stands c.requires.go.end.alone e.reads);
@@ -61,7 +61,7 @@ returns-in-Err-roll-clause-stopped g c =
       store = tt;
       lost = λ none. refl;
       named = (flush.OutOfMemory, refl);
-      runs = runs_step disk.content disk.images disk.since disk.moment p at (λ w. Unit {0}) e.goes e.later (λ past sound w may. tt);
+      runs = runs_step disk p at (λ w. Unit {0}) e.goes e.later (λ past sound w may. tt);
       end = e.end c.args.from c.requires.go.end;
       learns = e.later.learns;
       shut = ap (λ (z : View). z.shut) e.reads.frame;
@@ -82,7 +82,7 @@ returns-in-Err-clause-stopped g c =
       store = (refl, e.close);
       lost = λ none. absurd cc;
       named = e.named;
-      runs = runs_step disk.content disk.images disk.since disk.moment p at (λ w. Unit {0}) e.goes e.later (λ past sound w may. tt);
+      runs = runs_step disk p at (λ w. Unit {0}) e.goes e.later (λ past sound w may. tt);
       end = e.end c.args.from c.requires.go.end;
       learns = e.later.learns;
       shut = ap (λ (z : View). z.shut) e.reads.frame;

@@ -27,7 +27,7 @@ loop-refusal-init g c =
       said = sym (ap length c.requires.said ∙ nothing_length lanes);
       fit = c.requires.fit;
       given = nones lanes;
-      goes = goes_first disk.content disk.images disk.since disk.moment a.disk.now a.store a.from lanes c.requires.lanes
+      goes = goes_first disk a.disk.now a.store a.from lanes c.requires.lanes
           c.requires.idle _ refl refl refl refl a.said.now c.requires.said;
       queues = λ texts h. ungiven g.H.Feed.Source.left (g.H.Host.files a.host.now) texts (nones lanes) a.queues.now
           (nones_length lanes ∙ c.requires.many) (nones_at lanes) h;
@@ -48,7 +48,7 @@ returns-in-Err-clause-stopped g c =
     let why : c.from.result ≡ feed_fault refusal = c.from.ensures in
     record {
       given = inv.given;
-      stops = stops_unread disk.content disk.images disk.since disk.moment a.disk.now a.store a.from l.disk l.start l.lanes l.said inv.given
+      stops = stops_unread disk a.disk.now a.store a.from l.disk l.start l.lanes l.said inv.given
           inv.goes c.from.result (subst IsUndamaged (sym why) (feed_well refusal)) inv.go;
       may = λ texts h. c.in-Err.ensures.failed texts inv.given (inv.queues texts h);
     }
@@ -89,10 +89,10 @@ returns-in_err-turned-clause-stopped g c =
     let lanes : List Lane = c.give.new.lanes in
     let given = both inv.given (works_of lanes) in
     let why : Stopped = c.in_err-turned.field-0.0 in
-    let ready = ready_given disk.content disk.images disk.since disk.moment a.disk.now a.store a.from l.disk l.start l.lanes l.said
+    let ready = ready_given disk a.disk.now a.store a.from l.disk l.start l.lanes l.said
     inv.given inv.goes lanes c.in-Ok.ensures.lanes in
     err_known c.from_residual.result
-    (StopsParts disk.content disk.images disk.since disk.moment a.disk.now a.store a.from left (g.H.Host.files a.host.now) a.queues.now
+    (StopsParts disk a.disk.now a.store a.from left (g.H.Host.files a.host.now) a.queues.now
     c.run_turns.new.disk told c.give.new.queues) why c.from_residual.ensures.1
     (record {
       given = given;
@@ -116,7 +116,7 @@ returns-then-not-has_more-clause-ended g c =
     let inv = l.invariant in
     let lanes : List Lane = c.give.new.lanes in
     let given = both inv.given (works_of lanes) in
-    let ready = ready_given disk.content disk.images disk.since disk.moment a.disk.now a.store a.from l.disk l.start l.lanes l.said
+    let ready = ready_given disk a.disk.now a.store a.from l.disk l.start l.lanes l.said
     inv.given inv.goes lanes c.in-Ok.ensures.lanes in
     record {
       given = given;
@@ -141,7 +141,7 @@ loop-refusal-preserved g c =
     let on = c.in_ok-turned.ensures.on in
     let lanes : List Lane = c.give.new.lanes in
     let given : List (List Work) = both inv.given (works_of lanes) in
-    let ready = ready_given disk.content disk.images disk.since disk.moment a.disk.now a.store a.from l.disk l.start l.lanes l.said
+    let ready = ready_given disk a.disk.now a.store a.from l.disk l.start l.lanes l.said
     inv.given inv.goes lanes c.in-Ok.ensures.lanes in
     record {
       go = on.go;

@@ -21,7 +21,7 @@ invariant-loop-refusal g l = record {
   said : length l.lanes ≡ length l.said;
   fit : AreFit g.H.Feed.Source.faults true l.queues;
   given : List (List Work);
-  goes : GoesIn g.D.Disk.content g.D.Disk.images g.D.Disk.since g.D.Disk.moment l.fn.disk l.fn.store l.fn.from l.disk l.start l.lanes
+  goes : GoesIn g.D.Disk l.fn.disk l.fn.store l.fn.from l.disk l.start l.lanes
       l.said given;
   queues : (texts : List (List Statement)) → AreUngiven (g.H.Host.files l.fn.host) g.H.Feed.Source.left texts l.fn.queues
       → Triples (IsQueue (g.H.Host.files l.host) g.H.Feed.Source.left) texts given l.queues;

@@ -47,9 +47,9 @@ returns-in-Ok-clause-ended g c =
     let opened = subst (AreUngiven (files c.open_lanes.new.host) left a.texts.now) (sym c.as_mut_slice.ensures.value)
     c.in-Ok.ensures.queues in
     IfOk-weaker c.run_parts-ended.result
-    (EndsBlock disk.content disk.images disk.since disk.moment a.disk.now a.store a.from left (files c.open_lanes.new.host) queues
+    (EndsBlock disk a.disk.now a.store a.from left (files c.open_lanes.new.host) queues
     c.run_parts-ended.new.disk mid)
-    (EndsLanes disk.content disk.images disk.since disk.moment a.disk.now a.store a.from a.texts.now c.run_parts-ended.new.disk new)
+    (EndsLanes disk a.disk.now a.store a.from a.texts.now c.run_parts-ended.new.disk new)
     (λ e h. record {
       given = h.given;
       rounds = h.rounds;
@@ -77,9 +77,9 @@ returns-in-Ok-clause-stopped g c =
     let opened = subst (AreUngiven (files c.open_lanes.new.host) left a.texts.now) (sym c.as_mut_slice.ensures.value)
     c.in-Ok.ensures.queues in
     IfErr-weaker c.run_parts-ended.result
-    (StopsParts disk.content disk.images disk.since disk.moment a.disk.now a.store a.from left (files c.open_lanes.new.host) queues
+    (StopsParts disk a.disk.now a.store a.from left (files c.open_lanes.new.host) queues
     c.run_parts-ended.new.disk mid rest)
-    (StopsLanes disk.content disk.images disk.since disk.moment a.disk.now a.store a.from a.texts.now c.run_parts-ended.new.disk new)
+    (StopsLanes disk a.disk.now a.store a.from a.texts.now c.run_parts-ended.new.disk new)
     (λ e h.
     let may = subst (Triples (MayEnd mid left) a.texts.now h.given) (sym all) (h.may a.texts.now opened) in
     record {
@@ -114,6 +114,6 @@ returns-in-Err-clause-stopped g c =
     let a = c.args in
     let refusal = c.in-Err.refusal in
     let why : c.from.result ≡ feed_fault refusal = c.from.ensures in
-    stops_unopened disk.content disk.images disk.since disk.moment a.disk.now a.store a.from
+    stops_unopened disk a.disk.now a.store a.from
     (record { store = Some a.store; why = c.from.result }) refl
     (subst IsUndamaged (sym why) (feed_well refusal)) c.requires.go a.texts.now (g.H.Host.files c.open_lanes.new.host)

@@ -38,7 +38,7 @@ returns-in-Ok-say_nothing-clause-ended g c =
     let value = ap length slice.ensures.value in
     let len = slice.ensures.len in
     let kept = c.run_given.auto.said in
-    subst (λ (z : List Said). EndsParts disk.content disk.images disk.since disk.moment a.disk.now a.store a.from g.H.Feed.Source.left
+    subst (λ (z : List Said). EndsParts disk a.disk.now a.store a.from g.H.Feed.Source.left
     (g.H.Host.files a.host.now) a.queues.now c.run_given.new.disk (g.H.Host.files c.run_given.new.host) turned.next.store turned.end z)
     (sym (written_back said.len c.run_given.new.said said.items (omega (value, len, kept, arith)) (omega (value, kept, arith))))
     c.in_ok-turned-in-Ok-say_nothing.ensures.ended
@@ -51,7 +51,7 @@ returns-in-Ok-clause-stopped g c =
     let told = g.H.Host.files a.host.now in
     record {
       given = nones queues;
-      stops = stops_none disk.content disk.images disk.since disk.moment a.disk.now a.store a.from c.out_of_memory.result
+      stops = stops_none disk a.disk.now a.store a.from c.out_of_memory.result
           c.out_of_memory.ensures.store c.out_of_memory.ensures.why c.requires.go (nones queues);
       may = λ texts h. may_all g.H.Feed.Source.left told texts (nones queues) queues
           (ungiven g.H.Feed.Source.left told texts (nones queues) queues (nones_length queues) (nones_at queues) h);
@@ -68,7 +68,7 @@ returns-clause-stopped g c =
     let told = g.H.Host.files a.host.now in
     record {
       given = nones queues;
-      stops = stops_none disk.content disk.images disk.since disk.moment a.disk.now a.store a.from c.out_of_memory-in-Err.result
+      stops = stops_none disk a.disk.now a.store a.from c.out_of_memory-in-Err.result
           c.out_of_memory-in-Err.ensures.store c.out_of_memory-in-Err.ensures.why c.requires.go (nones queues);
       may = λ texts h. may_all g.H.Feed.Source.left told texts (nones queues) queues
           (ungiven g.H.Feed.Source.left told texts (nones queues) queues (nones_length queues) (nones_at queues) h);

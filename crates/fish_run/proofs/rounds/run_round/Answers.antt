@@ -12,7 +12,7 @@ pub returns-clause-leaves : goal.returns-clause-leaves
 returns-clause-leaves g c =
     let disk = g.D.Disk in
     let b = c.run_block in
-    let Past : Whole → Type 0 = Behind disk.content disk.images c.args.disk.now c.args.store.now b.new.disk in
+    let Past : Whole → Type 0 = Behind disk c.args.disk.now c.args.store.now b.new.disk in
     leaves_of Past b.new.store.file.flusher.count (view c.args.store.now.pass) (view b.new.store.pass) c.args.store.now.registrar
     b.new.store.registrar c.args.from c.args.lanes.now b.new.lanes b.result c.requires.lanes b.auto.lanes c.requires.go.end
     (λ past p k span many. b.ensures.items.sound past p k span (omega (many, b.auto.lanes, arith)))

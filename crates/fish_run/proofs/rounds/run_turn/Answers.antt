@@ -26,7 +26,7 @@ returns-in-Err-clause-stopped g c = λ d s from now given ready.
     let a = c.args in
     let b = c.run_round-end in
     let e = b.ensures in
-    stops_cut disk.content disk.images disk.since disk.moment d s from a.disk.now a.start a.lanes.now a.said.now now
+    stops_cut disk d s from a.disk.now a.start a.lanes.now a.said.now now
     given ready
     c.requires.lanes b.new.disk b.new.store b.new.lanes b.result b.auto.lanes
     e.lanes.kept e.store.log e.store.goes e.store.later e.store.ends e.leaves
@@ -36,7 +36,7 @@ pub returns-in-Err-clause-disk : goal.returns-in-Err-clause-disk
 returns-in-Err-clause-disk g c = λ is.
     let disk = g.D.Disk in
     let b = c.run_round-end in
-    let Past : Whole → Type 0 = Behind disk.content disk.images c.args.disk.now c.args.start.store b.new.disk in
+    let Past : Whole → Type 0 = Behind disk c.args.disk.now c.args.start.store b.new.disk in
     lane_rose Past (disk.faults c.args.disk.now) (disk.faults b.new.disk) b.new.lanes c.in-Err.why b.ensures.lanes.stops
     c.in-Err.ensures.first is
 
@@ -57,10 +57,10 @@ returns-in_err-next-clause-stopped g c =
     let whole : AreWhole b.new.lanes = c.in-Ok.ensures.whole in
     let why : Stopped = c.in_err-next.field-0.0 in
     err_known c.from_residual.result
-    (StopsTurn disk.content disk.images disk.since disk.moment a.disk.now a.start a.lanes.now a.said.now c.renew.new.disk) why
+    (StopsTurn disk a.disk.now a.start a.lanes.now a.said.now c.renew.new.disk) why
     c.from_residual.ensures.1
     (λ d s from now given ready.
-    stops_roll disk.content disk.images disk.since disk.moment d s from a.disk.now a.start a.lanes.now a.said.now now
+    stops_roll disk d s from a.disk.now a.start a.lanes.now a.said.now now
     given ready
     c.requires.lanes b.new.disk b.new.store b.new.lanes b.result b.auto.lanes
     e.lanes.kept e.store.log e.store.goes e.store.later e.store.ends e.leaves whole e.close
@@ -91,8 +91,8 @@ returns-in-Ok-step_all-clause-on g c =
     let more : Bool = c.go_on-more.result in
     let fresh : Bool = more && nat_lt c.base.result.number b.result.to in
     let above = above_base c.base.result.number b.result.to b.new.store.log.key.number more c.base.ensures.0 in
-    let go : CanGoOn disk.images c.renew.new.disk c.in_ok-next.next b.result.to = renewed_go disk.content disk.images disk.since
-    disk.moment b.new.disk c.renew.new.disk b.new.store c.in_ok-next.next b.result.to (e.go whole) fresh c.in_ok-next.ensures.next in
+    let go : CanGoOn disk.images c.renew.new.disk c.in_ok-next.next b.result.to = renewed_go disk b.new.disk c.renew.new.disk b.new.store
+    c.in_ok-next.next b.result.to (e.go whole) fresh c.in_ok-next.ensures.next in
     let h : HasStepped fresh a.start.fresh a.start.bound a.said.now c.step_all.new.said b.new.lanes c.step_all.new.lanes
     = c.in-Ok-step_all.ensures in
     let rises = b.ensures.store.ends.above in
@@ -117,18 +117,18 @@ returns-in-Ok-step_all-clause-on g c =
       same = (let lanes = c.step_all.auto.lanes in let ran = b.auto.lanes in omega arith);
       idle = λ last. idle_next a.lanes.now b.new.lanes c.requires.lanes (kept_pairs a.lanes.now b.new.lanes b.auto.lanes e.lanes.kept) fresh
           c.step_all.new.lanes h.next (and_false more (nat_lt c.base.result.number b.result.to) last) (c.go_on-more.ensures.done last);
-      less = fewer_tables disk.content disk.images disk.since disk.moment b.new.disk c.renew.new.disk a.start.store b.new.store
+      less = fewer_tables disk b.new.disk c.renew.new.disk a.start.store b.new.store
           c.in_ok-next.next c.base.result.number b.result.to b.new.lanes e.store.log c.base.ensures.0 (omega arith)
           e.lanes.left e.lanes.goes_on more
           c.go_on-more.ensures.left c.in_ok-next.ensures.next;
       goes = λ d s from now given ready.
-          goes_more disk.content disk.images disk.since disk.moment d s from a.disk.now a.start a.lanes.now a.said.now now
+          goes_more disk d s from a.disk.now a.start a.lanes.now a.said.now now
           given ready
           c.requires.lanes b.new.disk b.new.store b.new.lanes b.result b.auto.lanes
           e.lanes.kept e.store.log e.store.goes e.store.later e.store.ends e.leaves whole e.close
           fresh c.renew.new.disk c.in_ok-next.next c.in_ok-next.ensures.next above c.step_all.new.lanes c.step_all.new.said h asked;
       ends = λ last d s from now given ready.
-          ends_rounds disk.content disk.images disk.since disk.moment d s from a.disk.now a.start a.lanes.now a.said.now now
+          ends_rounds disk d s from a.disk.now a.start a.lanes.now a.said.now now
           given ready
           c.requires.lanes b.new.disk b.new.store b.new.lanes b.result b.auto.lanes
           e.lanes.kept e.store.log e.store.goes e.store.later e.store.ends e.leaves whole e.close
@@ -144,12 +144,12 @@ returns-in-Err-step_all-clause-stopped g c = λ d s from now given ready.
     let e = b.ensures in
     let whole : AreWhole b.new.lanes = c.in-Ok.ensures.whole in
     let fresh : Bool = c.go_on-more.result && nat_lt c.base.result.number b.result.to in
-    stops_then disk.content disk.images disk.since disk.moment d s from a.disk.now a.start a.lanes.now a.said.now now
+    stops_then disk d s from a.disk.now a.start a.lanes.now a.said.now now
     given ready
     c.requires.lanes b.new.disk b.new.store b.new.lanes b.result b.auto.lanes
     e.lanes.kept e.store.log e.store.goes e.store.later e.store.ends e.leaves whole e.close
     fresh c.renew.new.disk c.in_ok-next.next c.in_ok-next.ensures.next
     (above_base c.base.result.number b.result.to b.new.store.log.key.number c.go_on-more.result c.base.ensures.0)
     c.out_of_memory.result c.out_of_memory.ensures.store c.out_of_memory.ensures.why
-    (renewed_go disk.content disk.images disk.since disk.moment b.new.disk c.renew.new.disk b.new.store c.in_ok-next.next b.result.to
+    (renewed_go disk b.new.disk c.renew.new.disk b.new.store c.in_ok-next.next b.result.to
     (e.go whole) fresh c.in_ok-next.ensures.next)

@@ -39,7 +39,7 @@ loop-turned-preserved g c =
       goes = λ d s from now given ready.
           let r = inv.goes d s from now given ready in (
             nones c.run_turn.new.lanes,
-            ready_none disk.content disk.images disk.since disk.moment d s from c.run_turn.new.disk c.in_ok-turned.turned.next
+            ready_none disk d s from c.run_turn.new.disk c.in_ok-turned.turned.next
                 c.run_turn.new.lanes c.run_turn.new.said given (on.goes d s from r.0 given r.1),
           );
       disk = omega arith;
@@ -68,7 +68,7 @@ returns-in_err-turned-clause-stopped g c =
     let a = c.args in
     let why : Stopped = c.in_err-turned.field-0.0 in
     err_known c.from_residual.result
-    (StopsTurn disk.content disk.images disk.since disk.moment a.disk.now a.start a.lanes.now a.said.now c.run_turn.new.disk) why
+    (StopsTurn disk a.disk.now a.start a.lanes.now a.said.now c.run_turn.new.disk) why
     c.from_residual.ensures.1
     (λ d s from now given ready.
     let r = c.loop-turned.invariant.goes d s from now given ready in c.in_err-turned.ensures.stopped d s from r.0 given r.1)

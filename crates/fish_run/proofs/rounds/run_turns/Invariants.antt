@@ -15,8 +15,8 @@ invariant-loop-turned g l = record {
   many : length l.lanes ≡ length l.said;
   same : length l.lanes ≡ length l.fn.lanes;
   goes : (d : g.row.D.Denot) (s : Store) (from : ℕ) (now given : List (List Work))
-      → IsReady g.D.Disk.content g.D.Disk.images g.D.Disk.since g.D.Disk.moment d s from l.fn.disk l.fn.start l.fn.lanes l.fn.said now given
-      → (next : List (List Work)) × IsReady g.D.Disk.content g.D.Disk.images g.D.Disk.since g.D.Disk.moment d s from l.disk l.start l.lanes
+      → IsReady g.D.Disk d s from l.fn.disk l.fn.start l.fn.lanes l.fn.said now given
+      → (next : List (List Work)) × IsReady g.D.Disk d s from l.disk l.start l.lanes
       l.said next given;
   disk : g.D.Disk.faults l.fn.disk ≤ g.D.Disk.faults l.disk;
 }

@@ -37,10 +37,10 @@ loop-block-init g c =
     let now = g.W.Sink.written c.write_opened.new.out in
     record {
       go = subst (CanGoOn disk.images c.args.disk.now s) (sym c.requires.count) new.go;
-      writes = subst (λ (z : Registry). WritesBlocks disk.content disk.images disk.since disk.moment p p c.args.count first begin told []
+      writes = subst (λ (z : Registry). WritesBlocks disk p p c.args.count first begin told []
           c.args.count z old now c.args.refused.now) (sym (new_registry disk.images c.args.disk.now s new))
-          (writes_first disk.content disk.images disk.since disk.moment c.args.count first begin p told old now c.args.refused.now
-          (rounds_self disk.content disk.images disk.since disk.moment p c.args.count first) c.in-Ok.ensures.written
+          (writes_first disk c.args.count first begin p told old now c.args.refused.now
+          (rounds_self disk p c.args.count first) c.in-Ok.ensures.written
           c.requires.accepted);
       told = still_self told;
       later = (omega arith, (c.write_opened.ensures.cause.later, omega arith));
@@ -83,9 +83,9 @@ loop-block-preserved g c =
     let fell' = now.1.1 in
     record {
       go = one.go;
-      writes = subst (λ (z : List Block). WritesBlocks disk.content disk.images disk.since disk.moment p q c.args.count first begin new z
+      writes = subst (λ (z : List Block). WritesBlocks disk p q c.args.count first begin new z
           b.count t (written c.args.out.now) (written c.run_one.new.out) c.run_one.new.refused) (sym next)
-          (writes_more disk.content disk.images disk.since disk.moment c.args.count first begin p m q a.count
+          (writes_more disk c.args.count first begin p m q a.count
           (registry_of (view a.store.pass) a.store.registrar) old new c.run_one.ensures.content (written c.args.out.now)
           (written c.loop-block.out) (written c.run_one.new.out) text x b.count t c.loop-block.refused c.run_one.new.refused one.block
           inv.writes one.is one.ran one.renewed one.written one.refused);
@@ -106,14 +106,14 @@ returns-in-Err-clause-some g c =
     let e = c.stopped.result in
     let refusal = c.in-Err.refusal in
     let why : e.why ≡ write_fault refusal = c.stopped.ensures.why ∙ c.from.ensures in
-    stops_first disk.content disk.images disk.since disk.moment from first (first_item c.args.made from) p c.args.disk.now
+    stops_first disk from first (first_item c.args.made from) p c.args.disk.now
     (g.H.Host.files c.args.host.now) c.args.script.now (g.W.Sink.written c.args.out.now) (g.W.Sink.written c.write_opened.new.out)
     c.args.refused.now e
-    (stops_with disk.content disk.images disk.since disk.moment p c.args.disk.now s from from first [] e c.stopped.ensures.store
+    (stops_with disk p c.args.disk.now s from from first [] e c.stopped.ensures.store
     (close_of disk.images c.args.disk.now s s.log.key.number new.go)
     (subst IsUndamaged (sym why) (write_well refusal))
-    (first_of disk.content disk.images disk.since disk.moment p p from from first first []
-    (rounds_self disk.content disk.images disk.since disk.moment p from first)
+    (first_of disk p p from from first first []
+    (rounds_self disk p from first)
     (subst (HasEnd (view s.pass)) (sym c.requires.count) new.go.end))) (λ input. write_other refusal (sym why ∙ input))
     c.in-Err.ensures.part c.requires.accepted
 
@@ -143,9 +143,9 @@ returns-in_err-lasts-clause-some g c =
     let e = c.in_err-lasts.field-0.0 in
     let stop = c.in_err-lasts.ensures.stopped in
     err_known c.from_residual.result
-    (StopsRun disk.content disk.images disk.since disk.moment c.args.disk.now c.run_one.new.disk c.args.store c.args.count begin new
+    (StopsRun disk c.args.disk.now c.run_one.new.disk c.args.store c.args.count begin new
     c.args.script.now (written c.args.out.now) (written c.run_one.new.out) c.run_one.new.refused) e c.from_residual.ensures.1
-    (stops_more disk.content disk.images disk.since disk.moment c.args.count first begin p m m a.count
+    (stops_more disk c.args.count first begin p m m a.count
     (registry_of (view a.store.pass) a.store.registrar) old new c.run_one.ensures.content (written c.args.out.now)
     (written c.loop-block.out) (written c.run_one.new.out) c.args.script.now c.loop-block.block-index c.block-item.result
     c.loop-block.refused c.run_one.new.refused c.run_one.new.disk stop.rounds stop.cut e (omega (c.loop-block-test.true, arith))
@@ -183,10 +183,10 @@ returns-clause-all g c =
     record {
       close = close_of disk.images c.loop-block.disk s b.count inv.go;
       go = λ is. inv.go;
-      runs = runs_all disk.content disk.images disk.since disk.moment c.args.count first (first_item c.args.made c.args.count) p q
+      runs = runs_all disk c.args.count first (first_item c.args.made c.args.count) p q
           (g.H.Host.files c.loop-block.host) c.args.script.now c.loop-block.block-index b.count t (g.W.Sink.written c.args.out.now)
           (g.W.Sink.written c.loop-block.out) c.loop-block.refused (omega arith) inv.go.end inv.writes
-          (λ (rounds : List Round) h. first_of disk.content disk.images disk.since disk.moment p q c.args.count b.count first t rounds h
+          (λ (rounds : List Round) h. first_of disk p q c.args.count b.count first t rounds h
           inv.go.end);
       committed = λ is. absurd cc;
     }

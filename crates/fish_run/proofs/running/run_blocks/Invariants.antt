@@ -15,7 +15,7 @@ use Rattle.fish_run.proofs.running.run_blocks.Given as goal
 abbrev pub invariant-loop-block : goal.invariant-loop-block
 invariant-loop-block g l = record {
   go : CanGoOn g.D.Disk.images l.disk l.lasts.store l.lasts.count;
-  writes : WritesBlocks g.D.Disk.content g.D.Disk.images g.D.Disk.since g.D.Disk.moment (point_at l.fn.disk l.fn.store)
+  writes : WritesBlocks g.D.Disk (point_at l.fn.disk l.fn.store)
       (point_at l.disk l.lasts.store) l.fn.count (first_registry l.fn.store.registrar.catalog) (first_item l.fn.made l.fn.count)
       (g.H.Host.files l.host) (take l.block-index l.fn.script) l.lasts.count (registry_of (view l.lasts.store.pass) l.lasts.store.registrar)
       (g.W.Sink.written l.fn.out) (g.W.Sink.written l.out) l.refused;

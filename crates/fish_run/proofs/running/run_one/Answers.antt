@@ -34,9 +34,9 @@ returns-in_err-store-clause-stopped g c =
     let e = c.in_err-store.field-0.0 in
     let stop = c.in_err-store.ensures.stopped in
     err_known c.from_residual.result
-    (StopsOne disk.content disk.images disk.since disk.moment c.args.disk.now c.run_lanes.new.disk c.args.lasts told c.args.block.now
+    (StopsOne disk c.args.disk.now c.run_lanes.new.disk c.args.lasts told c.args.block.now
     written written c.args.refused.now c.args.refused.now) e c.from_residual.ensures.1
-    (one_cut disk.content disk.images disk.since disk.moment c.args.disk.now c.args.lasts told c.args.block.now c.requires.go
+    (one_cut disk c.args.disk.now c.args.lasts told c.args.block.now c.requires.go
     c.run_lanes.new.disk stop.given written c.args.refused.now e stop.stops
     (subst (λ (z : List (List Statement)). AreRounds told z (with_cut stop.stops.rounds stop.stops.cut)) c.as_slice-texts.ensures stop.are))
 
@@ -61,7 +61,7 @@ returns-in-Ok-clause-ended g c =
     let end = c.in_ok-store.ensures.ended in
     let done = subst (λ (z : List (List Statement)). Pairs (AreDone told) z end.given) c.as_slice-texts.ensures end.done in
     let items = c.as_slice.ensures.value in
-    one_ended disk.content disk.images disk.since disk.moment c.args.disk.now c.args.lasts told c.args.block.now c.requires.go
+    one_ended disk c.args.disk.now c.args.lasts told c.args.block.now c.requires.go
     c.run_lanes.new.disk d end.given done end.rounds old new c.args.refused.now c.tell-told.new.refused _ refl
     (subst (λ (z : List Said). Gained old new (report_text (said_items c.args.block.now.several c.args.lasts.count d.end z))) items
     c.in-Ok.ensures.written)
@@ -80,7 +80,7 @@ returns-in-Err-clause-stopped g c =
     let e = c.stopped.result in
     let refusal = c.in-Err.refusal in
     let why : e.why ≡ write_fault refusal = c.stopped.ensures.why ∙ c.from.ensures in
-    one_unwritten disk.content disk.images disk.since disk.moment c.args.disk.now c.args.lasts told c.args.block.now c.requires.go
+    one_unwritten disk c.args.disk.now c.args.lasts told c.args.block.now c.requires.go
     c.run_lanes.new.disk d end.given done end.rounds old new c.args.refused.now c.tell-told.new.refused e c.stopped.ensures.store
     (subst IsUndamaged (sym why) (write_well refusal)) (λ input. write_other refusal (sym why ∙ input))
     (subst (λ (z : List Said). GainedPart old new (report_text (said_items c.args.block.now.several c.args.lasts.count d.end z))) items

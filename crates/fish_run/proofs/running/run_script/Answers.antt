@@ -18,7 +18,7 @@ pub run_store-requires-clause-new : goal.run_store-requires-clause-new
 run_store-requires-clause-new g c κs within =
     let h = c.requires.opened in
     let e = c.of_opened-store.ensures in
-    new_store g.D.Disk.content g.D.Disk.images c.args.disk.now h.0 h.1 c.args.opened h.2 c.of_opened-store.result e.log e.pass e.first
+    new_store g.D.Disk c.args.disk.now h.0 h.1 c.args.opened h.2 c.of_opened-store.result e.log e.pass e.first
     e.rows e.flusher e.cold
 
 -- ---- all blocks ran
@@ -37,19 +37,19 @@ returns-in-Ok-clause-whole g c none =
     let old = g.W.Sink.written c.args.out.now in
     let mid = g.W.Sink.written b.new.out in
     let op = c.requires.opened in
-    let new : IsNewStore disk.images first s = new_store disk.content disk.images first op.0 op.1 o op.2 s e.log e.pass e.first e.rows
+    let new : IsNewStore disk.images first s = new_store disk first op.0 op.1 o op.2 s e.log e.pass e.first e.rows
     e.flusher e.cold in
     let l = c.in-Ok.field-0 in
     let h = c.in-Ok.ensures.all in
     let k = c.close in
     let now = g.W.Sink.written k.new.out in
     shown_some (λ (r : Remains). IsClosed (view l.store.pass) r × Finishes (Ok l.count) k.result.fault mid now)
-    (λ (r : Remains). IsWhole disk.content disk.images disk.since disk.moment first b.new.disk o told text r old now k.result.refused)
+    (λ (r : Remains). IsWhole disk first b.new.disk o told text r old now k.result.refused)
     k.result.remains
     (λ lost. (let bad : None ≡ Some fault.Memory = sym none ∙ (k.ensures.lost lost).0 in absurd cc)) k.ensures.shown
-    (λ r f. subst (λ (z : Bool). IsWhole disk.content disk.images disk.since disk.moment first b.new.disk o told text r old now z)
+    (λ r f. subst (λ (z : Bool). IsWhole disk first b.new.disk o told text r old now z)
     (sym k.ensures.refused)
-    (ends_whole disk.content disk.images disk.since disk.moment laws.as_read first o (point_at first s)
+    (ends_whole disk laws.as_read first o (point_at first s)
     (point_opened first s o e.log e.pass e.rows e.flusher e.cold) s.registrar.catalog e.rows new.unshut
     (subst (λ (z : Log). z.key.buckets ≡ 2 ^ z.shape.bucket_bits) e.log new.go.table.buckets)
     (new.go.can.of.about ∙ ap (λ (z : Log). z.key) e.log) b.new.disk told text old mid
@@ -69,18 +69,18 @@ returns-in-Ok-clause-stopped g c why fault_is r is =
     let old = g.W.Sink.written c.args.out.now in
     let mid = g.W.Sink.written b.new.out in
     let op = c.requires.opened in
-    let new : IsNewStore disk.images first s = new_store disk.content disk.images first op.0 op.1 o op.2 s e.log e.pass e.first e.rows
+    let new : IsNewStore disk.images first s = new_store disk first op.0 op.1 o op.2 s e.log e.pass e.first e.rows
     e.flusher e.cold in
     let l = c.in-Ok.field-0 in
     let h = c.in-Ok.ensures.all in
     let k = c.close in
     let now = g.W.Sink.written k.new.out in
     shown_is (λ (r : Remains). IsClosed (view l.store.pass) r × Finishes (Ok l.count) k.result.fault mid now)
-    (λ (r : Remains). IsStopped disk.content disk.images disk.since disk.moment first b.new.disk o told text r old now k.result.refused
+    (λ (r : Remains). IsStopped disk first b.new.disk o told text r old now k.result.refused
     why) k.result.remains r is k.ensures.shown
-    (λ f. subst (λ (z : Bool). IsStopped disk.content disk.images disk.since disk.moment first b.new.disk o told text r old now z why)
+    (λ f. subst (λ (z : Bool). IsStopped disk first b.new.disk o told text r old now z why)
     (sym k.ensures.refused)
-    (ends_late disk.content disk.images disk.since disk.moment laws.as_read first o (point_at first s)
+    (ends_late disk laws.as_read first o (point_at first s)
     (point_opened first s o e.log e.pass e.rows e.flusher e.cold) s.registrar.catalog e.rows new.unshut
     (subst (λ (z : Log). z.key.buckets ≡ 2 ^ z.shape.bucket_bits) e.log new.go.table.buckets)
     (new.go.can.of.about ∙ ap (λ (z : Log). z.key) e.log) b.new.disk told text old mid
@@ -100,17 +100,17 @@ returns-in-Ok-clause-lost g c none =
     let old = g.W.Sink.written c.args.out.now in
     let mid = g.W.Sink.written b.new.out in
     let op = c.requires.opened in
-    let new : IsNewStore disk.images first s = new_store disk.content disk.images first op.0 op.1 o op.2 s e.log e.pass e.first e.rows
+    let new : IsNewStore disk.images first s = new_store disk first op.0 op.1 o op.2 s e.log e.pass e.first e.rows
     e.flusher e.cold in
     let l = c.in-Ok.field-0 in
     let h = c.in-Ok.ensures.all in
     let k = c.close in (
       (k.ensures.lost none).0,
-      subst (λ (z : _). IsLost disk.content disk.images disk.since disk.moment first b.new.disk o told text old (g.W.Sink.written z)
+      subst (λ (z : _). IsLost disk first b.new.disk o told text old (g.W.Sink.written z)
           k.result.refused) (sym (k.ensures.lost none).1)
-          (subst (λ (z : Bool). IsLost disk.content disk.images disk.since disk.moment first b.new.disk o told text old mid z)
+          (subst (λ (z : Bool). IsLost disk first b.new.disk o told text old mid z)
           (sym k.ensures.refused)
-          (lost_all disk.content disk.images disk.since disk.moment laws.as_read first o (point_at first s)
+          (lost_all disk laws.as_read first o (point_at first s)
           (point_opened first s o e.log e.pass e.rows e.flusher e.cold) s.registrar.catalog e.rows new.unshut
           (subst (λ (z : Log). z.key.buckets ≡ 2 ^ z.shape.bucket_bits) e.log new.go.table.buckets)
           (new.go.can.of.about ∙ ap (λ (z : Log). z.key) e.log) b.new.disk told text old mid
@@ -131,7 +131,7 @@ returns-in-Some-clause-whole g c none =
     let mid = g.W.Sink.written c.run_store.new.out in
     let now = g.W.Sink.written k.new.out in
     shown_some (λ (r : Remains). IsClosed (view c.in-Some.store.pass) r × Finishes (Err stop.why) k.result.fault mid now)
-    (λ (r : Remains). IsWhole disk.content disk.images disk.since disk.moment c.args.disk.now c.run_store.new.disk c.args.opened
+    (λ (r : Remains). IsWhole disk c.args.disk.now c.run_store.new.disk c.args.opened
     (g.H.Host.files c.run_store.new.host) c.args.script.now r (g.W.Sink.written c.args.out.now) now k.result.refused) k.result.remains
     (λ lost. (let bad : None ≡ Some fault.Memory = sym none ∙ (k.ensures.lost lost).0 in absurd cc)) k.ensures.shown
     (λ r f. (let bad : Some stop.why ≡ None = sym f.1.0 ∙ none in absurd cc))
@@ -150,7 +150,7 @@ returns-in-Some-clause-stopped g c why fault_is r is =
     let old = g.W.Sink.written c.args.out.now in
     let mid = g.W.Sink.written b.new.out in
     let op = c.requires.opened in
-    let new : IsNewStore disk.images first s = new_store disk.content disk.images first op.0 op.1 o op.2 s e.log e.pass e.first e.rows
+    let new : IsNewStore disk.images first s = new_store disk first op.0 op.1 o op.2 s e.log e.pass e.first e.rows
     e.flusher e.cold in
     let x = c.in-Some.store in
     let stop = c.in-Err.field-0 in
@@ -158,11 +158,11 @@ returns-in-Some-clause-stopped g c why fault_is r is =
     let k = c.close-in-Some in
     let now = g.W.Sink.written k.new.out in
     shown_is (λ (r : Remains). IsClosed (view x.pass) r × Finishes (Err stop.why) k.result.fault mid now)
-    (λ (r : Remains). IsStopped disk.content disk.images disk.since disk.moment first b.new.disk o told text r old now k.result.refused
+    (λ (r : Remains). IsStopped disk first b.new.disk o told text r old now k.result.refused
     why) k.result.remains r is k.ensures.shown
-    (λ f. subst (λ (z : Bool). IsStopped disk.content disk.images disk.since disk.moment first b.new.disk o told text r old now z why)
+    (λ f. subst (λ (z : Bool). IsStopped disk first b.new.disk o told text r old now z why)
     (sym k.ensures.refused)
-    (ends_stopped disk.content disk.images disk.since disk.moment laws.as_read first o (point_at first s)
+    (ends_stopped disk laws.as_read first o (point_at first s)
     (point_opened first s o e.log e.pass e.rows e.flusher e.cold) s.registrar.catalog e.rows new.unshut
     (subst (λ (z : Log). z.key.buckets ≡ 2 ^ z.shape.bucket_bits) e.log new.go.table.buckets)
     (new.go.can.of.about ∙ ap (λ (z : Log). z.key) e.log) b.new.disk told text old mid
@@ -182,18 +182,18 @@ returns-in-Some-clause-lost g c none =
     let old = g.W.Sink.written c.args.out.now in
     let mid = g.W.Sink.written b.new.out in
     let op = c.requires.opened in
-    let new : IsNewStore disk.images first s = new_store disk.content disk.images first op.0 op.1 o op.2 s e.log e.pass e.first e.rows
+    let new : IsNewStore disk.images first s = new_store disk first op.0 op.1 o op.2 s e.log e.pass e.first e.rows
     e.flusher e.cold in
     let x = c.in-Some.store in
     let stop = c.in-Err.field-0 in
     let some = c.in-Err.ensures.some in
     let k = c.close-in-Some in (
       (k.ensures.lost none).0,
-      subst (λ (z : _). IsLost disk.content disk.images disk.since disk.moment first b.new.disk o told text old (g.W.Sink.written z)
+      subst (λ (z : _). IsLost disk first b.new.disk o told text old (g.W.Sink.written z)
           k.result.refused) (sym (k.ensures.lost none).1)
-          (subst (λ (z : Bool). IsLost disk.content disk.images disk.since disk.moment first b.new.disk o told text old mid z)
+          (subst (λ (z : Bool). IsLost disk first b.new.disk o told text old mid z)
           (sym k.ensures.refused)
-          (lost_some disk.content disk.images disk.since disk.moment laws.as_read first o (point_at first s)
+          (lost_some disk laws.as_read first o (point_at first s)
           (point_opened first s o e.log e.pass e.rows e.flusher e.cold) s.registrar.catalog e.rows new.unshut
           (subst (λ (z : Log). z.key.buckets ≡ 2 ^ z.shape.bucket_bits) e.log new.go.table.buckets)
           (new.go.can.of.about ∙ ap (λ (z : Log). z.key) e.log) b.new.disk told text old mid
@@ -214,14 +214,14 @@ returns-in-Some-clause-damaged g c content =
     let old = g.W.Sink.written c.args.out.now in
     let mid = g.W.Sink.written b.new.out in
     let op = c.requires.opened in
-    let new : IsNewStore disk.images first s = new_store disk.content disk.images first op.0 op.1 o op.2 s e.log e.pass e.first e.rows
+    let new : IsNewStore disk.images first s = new_store disk first op.0 op.1 o op.2 s e.log e.pass e.first e.rows
     e.flusher e.cold in
     let x = c.in-Some.store in
     let stop = c.in-Err.field-0 in
     let some = c.in-Err.ensures.some in
     let k = c.close-in-Some in
     well_closed stop.why k.result.fault
-    (well_some disk.content disk.images disk.since disk.moment laws.as_read first o (point_at first s)
+    (well_some disk laws.as_read first o (point_at first s)
     (point_opened first s o e.log e.pass e.rows e.flusher e.cold) s.registrar.catalog e.rows new.unshut
     (subst (λ (z : Log). z.key.buckets ≡ 2 ^ z.shape.bucket_bits) e.log new.go.table.buckets)
     (new.go.can.of.about ∙ ap (λ (z : Log). z.key) e.log) b.new.disk told text old mid
@@ -243,12 +243,12 @@ returns-in-None-clause-lost g c none =
     let old = g.W.Sink.written c.args.out.now in
     let mid = g.W.Sink.written b.new.out in
     let op = c.requires.opened in
-    let new : IsNewStore disk.images first s = new_store disk.content disk.images first op.0 op.1 o op.2 s e.log e.pass e.first e.rows
+    let new : IsNewStore disk.images first s = new_store disk first op.0 op.1 o op.2 s e.log e.pass e.first e.rows
     e.flusher e.cold in
     let stop = c.in-Err.field-0 in
     let some = c.in-Err.ensures.some in (
       ap Some (some.stops.lost c.in-None.is),
-      lost_some disk.content disk.images disk.since disk.moment laws.as_read first o (point_at first s)
+      lost_some disk laws.as_read first o (point_at first s)
           (point_opened first s o e.log e.pass e.rows e.flusher e.cold) s.registrar.catalog e.rows new.unshut
           (subst (λ (z : Log). z.key.buckets ≡ 2 ^ z.shape.bucket_bits) e.log new.go.table.buckets)
           (new.go.can.of.about ∙ ap (λ (z : Log). z.key) e.log) b.new.disk told text old mid

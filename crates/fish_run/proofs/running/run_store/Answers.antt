@@ -35,14 +35,14 @@ returns-in-Err-clause-some g c =
     let old = g.W.Sink.written c.args.out.now in
     let new = g.W.Sink.written c.run_blocks.new.out in
     let e : Stopped = record { store = Some last; why = why } in
-    let all = all_later disk.content disk.images disk.since disk.moment c.args.count first begin p m q told c.args.script.now old new
+    let all = all_later disk c.args.count first begin p m q told c.args.script.now old new
     c.run_blocks.new.refused l.count h.runs
-    (runs_on disk.content disk.images disk.since disk.moment m q c.commit.ensures.goes c.commit.ensures.later)
+    (runs_on disk m q c.commit.ensures.goes c.commit.ensures.later)
     c.commit.ensures.goes.learns (c.commit.ensures.end l.count (h.go (λ is. absurd cc)).end)
     (ap (λ (z : Log). z.shape) c.commit.ensures.log) in
-    all_stopped disk.content disk.images disk.since disk.moment c.args.count first begin p q c.commit.new.disk told c.args.script.now old
+    all_stopped disk c.args.count first begin p q c.commit.new.disk told c.args.script.now old
     new c.run_blocks.new.refused l.count e all
-    (stops_with disk.content disk.images disk.since disk.moment p c.commit.new.disk last c.args.count l.count first
+    (stops_with disk p c.commit.new.disk last c.args.count l.count first
     (rounds_of all.blocks) e refl c.commit.ensures.close (commit_well why named) all.ran)
     (commit_other why named)
 
@@ -72,10 +72,10 @@ returns-in-Ok-clause-all g c =
     record {
       close = c.commit.ensures.close;
       go = λ other. absurd (other refl);
-      runs = all_later disk.content disk.images disk.since disk.moment c.args.count (first_registry c.args.store.registrar.catalog)
+      runs = all_later disk c.args.count (first_registry c.args.store.registrar.catalog)
           (first_item c.args.made c.args.count) p m q (g.H.Host.files c.run_blocks.new.host) c.args.script.now
           (g.W.Sink.written c.args.out.now) (g.W.Sink.written c.run_blocks.new.out) c.run_blocks.new.refused l.count h.runs
-          (runs_on disk.content disk.images disk.since disk.moment m q c.commit.ensures.goes c.commit.ensures.later)
+          (runs_on disk m q c.commit.ensures.goes c.commit.ensures.later)
           c.commit.ensures.goes.learns (c.commit.ensures.end l.count (h.go (λ is. absurd cc)).end)
           (ap (λ (z : Log). z.shape) c.commit.ensures.log);
       committed = λ is. c.in-Ok.ensures.all;

@@ -10,7 +10,7 @@ use Rattle.fish_sample.proofs.filling.run_scanning.Goals as goal
 
 pub returns : goal.returns
 returns g c =
-    counted_of g.D.Disk.content g.D.Disk.images c.args.disk.now c.run_lanes.new.disk c.args.store.now c.run_lanes.new.store c.args.from
+    counted_of g.D.Disk c.args.disk.now c.run_lanes.new.disk c.args.store.now c.run_lanes.new.store c.args.from
     _ c.args.lanes.now c.run_lanes.new.lanes c.args.number c.requires.between c.in_ok-run_lanes.ensures c.requires.lane
     c.index-lanes-0.result c.index-lanes-0.is
     (ap (λ (z : Lane). list_all is_scanned z.items) c.index-lanes-0.is ∙ ap (list_all is_scanned) (sym c.as_slice-items.ensures)

@@ -23,7 +23,7 @@ returns g c =
     let first = first_there lanes (let some = c.requires.lanes.some in omega arith) in
     let span = span_is (view s.pass) (view t.pass) c.args.from b.result.to (length lanes) c.requires.between.end in
     record {
-      between = between_after lanes whole disk.content disk.images c.args.disk.now s b.new.disk t c.args.lanes.now c.args.from b.result
+      between = between_after lanes whole disk c.args.disk.now s b.new.disk t c.args.lanes.now c.args.from b.result
           unbound e.items.registered first.0 first.1 e.store.can e.store.again e.store.below e.store.ends;
       goes = record { later = e.store.later; sound = λ past sound. e.store.goes.sound past sound (c.requires.content b.new.disk) };
       kept = kept_works lanes whole c.args.lanes.now e.lanes.kept;
@@ -32,6 +32,6 @@ returns g c =
       told = λ past sound. e.items.sound past (record { sound = sound; told = c.requires.content b.new.disk })
           (span_of (view s.pass) (view t.pass) c.args.from b.result.to (length lanes)) span many;
       so = λ x at. (e.items.registered x at).so (span_of (view s.pass) (view t.pass) c.args.from b.result.to (length lanes)) span;
-      registry = registry_is lanes whole disk.content disk.images c.args.disk.now s b.new.disk t c.args.lanes.now c.args.from b.result
+      registry = registry_is lanes whole disk c.args.disk.now s b.new.disk t c.args.lanes.now c.args.from b.result
           unbound e.items.registered;
     }

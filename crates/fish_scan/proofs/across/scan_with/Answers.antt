@@ -27,13 +27,13 @@ use Rattle.fish_scan.proofs.across.scan_with.Goals as goal
 
 pub returns-in_err-planned-clause-cold : goal.returns-in_err-planned-clause-cold
 returns-in_err-planned-clause-cold g c =
-    stays_none g.D.Disk.content g.D.Disk.images g.D.Disk.since g.D.Disk.moment g.D.Disk.faults c.args.cold.now c.args.disk.now
+    stays_none g.D.Disk c.args.cold.now c.args.disk.now
 
 pub returns-in_err-planned-clause-kept : goal.returns-in_err-planned-clause-kept
 returns-in_err-planned-clause-kept g c h =
-    carried_last g.D.Disk.content g.D.Disk.images g.D.Disk.since g.D.Disk.moment g.D.Disk.faults c.args.cold.now c.args.cold.now
+    carried_last g.D.Disk c.args.cold.now c.args.cold.now
     c.args.disk.now c.args.disk.now
-    (stays_none g.D.Disk.content g.D.Disk.images g.D.Disk.since g.D.Disk.moment g.D.Disk.faults c.args.cold.now c.args.disk.now) h
+    (stays_none g.D.Disk c.args.cold.now c.args.disk.now) h
 
 pub returns-in_err-planned-clause-refused : goal.returns-in_err-planned-clause-refused
 returns-in_err-planned-clause-refused g c =
@@ -111,7 +111,7 @@ returns-in-Ok-clause-answer g c h =
 
 pub returns-in-Ok-clause-kept : goal.returns-in-Ok-clause-kept
 returns-in-Ok-clause-kept g c h =
-    carried_last g.D.Disk.content g.D.Disk.images g.D.Disk.since g.D.Disk.moment g.D.Disk.faults c.args.cold.now
+    carried_last g.D.Disk c.args.cold.now
     c.read_across-read.new.cold c.args.disk.now c.read_across-read.new.disk c.read_across-read.ensures.cold h
 
 -- ---- refused on the way
@@ -124,7 +124,7 @@ returns-in-Err-clause-defs g c = defs_later _ _ c.plan_scan.new.known c.read_acr
 
 pub returns-in-Err-clause-kept : goal.returns-in-Err-clause-kept
 returns-in-Err-clause-kept g c h =
-    carried_last g.D.Disk.content g.D.Disk.images g.D.Disk.since g.D.Disk.moment g.D.Disk.faults c.args.cold.now
+    carried_last g.D.Disk c.args.cold.now
     c.read_across-read.new.cold c.args.disk.now c.read_across-read.new.disk c.read_across-read.ensures.cold h
 
 pub returns-in-Err-clause-refused : goal.returns-in-Err-clause-refused

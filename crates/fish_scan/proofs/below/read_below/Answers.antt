@@ -19,7 +19,7 @@ pub loop-piece-init : goal.loop-piece-init
 loop-piece-init g c = record {
   of = c.requires.pass;
   extends = extends_self (view c.args.pass.now);
-  stays = stays_none g.D.Disk.content g.D.Disk.images g.D.Disk.since g.D.Disk.moment g.D.Disk.faults c.args.cold.now c.args.disk.now;
+  stays = stays_none g.D.Disk c.args.cold.now c.args.disk.now;
   read = λ h. below_none h.prior (view c.args.pass.now) (definition_of c.args.query.now.def) c.args.query.now.value
       c.args.pieces.now c.args.query.now.reach.from (last_below c.args.log.now.key c.args.query.now.reach) c.args.rows.now
       c.args.parses.now c.args.loads.now c.requires.fill;
@@ -43,7 +43,7 @@ loop-piece-preserved g c =
     record {
       of = c.read_older_piece.ensures.pass;
       extends = extends_both _ _ _ inv.extends c.read_older_piece.ensures.extends;
-      stays = stays_both g.D.Disk.content g.D.Disk.images g.D.Disk.since g.D.Disk.moment g.D.Disk.faults c.args.cold.now
+      stays = stays_both g.D.Disk c.args.cold.now
           c.loop-piece.cold c.read_older_piece.new.cold c.args.disk.now c.loop-piece.disk c.read_older_piece.new.disk inv.stays step;
       read = λ h.
           subst (λ (z : ℕ). ReadsBelow h.prior (view c.args.pass.now) (definition_of c.args.query.now.def) c.args.query.now.value
@@ -56,10 +56,10 @@ loop-piece-preserved g c =
           c.read_older_piece.new.rows c.args.parses.now c.loop-piece.parses c.read_older_piece.new.parses c.args.loads.now
           c.loop-piece.loads c.read_older_piece.new.loads c.read_older_piece.ensures.extends.learns
           (slice_get-get_or c.args.pieces.now c.loop-piece.piece-index (Index 0 0 0) c.loop-piece-test.true)
-          (inv.read (back g.D.Disk.content g.D.Disk.images g.D.Disk.since g.D.Disk.moment g.D.Disk.faults c.loop-piece.cold
+          (inv.read (back g.D.Disk c.loop-piece.cold
           c.read_older_piece.new.cold c.loop-piece.disk c.read_older_piece.new.disk step h))
-          (c.in_ok-read_older_piece.ensures.read (ahead g.D.Disk.content g.D.Disk.images g.D.Disk.since g.D.Disk.moment
-          g.D.Disk.faults c.args.cold.now c.loop-piece.cold c.read_older_piece.new.cold c.args.disk.now c.loop-piece.disk
+          (c.in_ok-read_older_piece.ensures.read (ahead g.D.Disk c.args.cold.now c.loop-piece.cold c.read_older_piece.new.cold
+          c.args.disk.now c.loop-piece.disk
           c.read_older_piece.new.disk inv.stays step h)));
     }
 
@@ -68,8 +68,8 @@ returns-in_err-read_older_piece-clause-extends g c =
     extends_both _ _ _ c.loop-piece.invariant.extends c.read_older_piece.ensures.extends
 
 pub returns-in_err-read_older_piece-clause-cold : goal.returns-in_err-read_older_piece-clause-cold
-returns-in_err-read_older_piece-clause-cold g c = stays_both g.D.Disk.content g.D.Disk.images g.D.Disk.since g.D.Disk.moment
-    g.D.Disk.faults c.args.cold.now c.loop-piece.cold c.read_older_piece.new.cold c.args.disk.now c.loop-piece.disk
+returns-in_err-read_older_piece-clause-cold g c = stays_both g.D.Disk c.args.cold.now c.loop-piece.cold c.read_older_piece.new.cold
+    c.args.disk.now c.loop-piece.disk
     c.read_older_piece.new.disk c.loop-piece.invariant.stays c.read_older_piece.ensures.cold
 
 pub returns-in_err-read_older_piece-clause-fault : goal.returns-in_err-read_older_piece-clause-fault
@@ -90,8 +90,8 @@ returns-in_err-read_older_piece-clause-damage g c =
 pub returns-in_err-read_older_piece-clause-whole : goal.returns-in_err-read_older_piece-clause-whole
 returns-in_err-read_older_piece-clause-whole g c h =
     err_as c.from_residual.result IsUndamaged _ c.from_residual.ensures.1
-    (c.in_err-read_older_piece.ensures.whole (ahead g.D.Disk.content g.D.Disk.images g.D.Disk.since g.D.Disk.moment
-    g.D.Disk.faults c.args.cold.now c.loop-piece.cold c.read_older_piece.new.cold c.args.disk.now c.loop-piece.disk
+    (c.in_err-read_older_piece.ensures.whole (ahead g.D.Disk c.args.cold.now c.loop-piece.cold c.read_older_piece.new.cold c.args.disk.now
+    c.loop-piece.disk
     c.read_older_piece.new.disk c.loop-piece.invariant.stays c.read_older_piece.ensures.cold h))
 
 pub returns-clause-read : goal.returns-clause-read

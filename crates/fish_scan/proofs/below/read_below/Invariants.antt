@@ -12,7 +12,7 @@ abbrev pub invariant-loop-piece : goal.invariant-loop-piece
 invariant-loop-piece g l = record {
   of : IsPassOf l.log l.pass;
   extends : Extends (view l.fn.pass) (view l.pass);
-  stays : StaysCold g.D.Disk.content g.D.Disk.images g.D.Disk.since g.D.Disk.moment g.D.Disk.faults l.fn.cold l.cold l.fn.disk l.disk;
+  stays : StaysCold g.D.Disk l.fn.cold l.cold l.fn.disk l.disk;
   read : (h : CarriesTable (g.D.Disk.content l.disk) l.log.key l.fn.cold) → ReadsBelow h.prior (view l.fn.pass)
       (definition_of l.query.def) l.query.value l.pieces l.query.reach.from (last_below l.log.key l.query.reach) (view l.pass)
       l.piece-index l.fn.rows l.rows l.fn.parses l.parses l.fn.loads l.loads;

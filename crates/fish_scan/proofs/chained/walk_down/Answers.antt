@@ -25,7 +25,7 @@ no_node o node one is = cc
 
 pub down-init : goal.down-init
 down-init g c = record {
-  stays = stays_none g.D.Disk.content g.D.Disk.images g.D.Disk.since g.D.Disk.moment g.D.Disk.faults c.args.cold.now c.args.disk.now;
+  stays = stays_none g.D.Disk c.args.cold.now c.args.disk.now;
   lower = c.requires.lower;
   under = omega arith;
   least = (let some = c.requires.some in let older = c.requires.older in omega arith);
@@ -41,11 +41,11 @@ down-init g c = record {
 pub returns-in-Ok-None-clause-walked : goal.returns-in-Ok-None-clause-walked
 returns-in-Ok-None-clause-walked g c k h b head bucket covered =
     let inv = c.down.invariant in
-    let walk = stays_reads g.D.Disk.content g.D.Disk.images g.D.Disk.since g.D.Disk.moment g.D.Disk.faults c.down.cold
+    let walk = stays_reads g.D.Disk c.down.cold
     c.cold_walk.new.self c.down.disk c.cold_walk.new.disk c.cold_walk.result c.cold_walk.ensures.reads in
-    let before = back g.D.Disk.content g.D.Disk.images g.D.Disk.since g.D.Disk.moment g.D.Disk.faults c.down.cold
+    let before = back g.D.Disk c.down.cold
     c.cold_walk.new.self c.down.disk c.cold_walk.new.disk walk h in
-    let now = ahead g.D.Disk.content g.D.Disk.images g.D.Disk.since g.D.Disk.moment g.D.Disk.faults c.args.cold.now c.down.cold
+    let now = ahead g.D.Disk c.args.cold.now c.down.cold
     c.cold_walk.new.self c.args.disk.now c.down.disk c.cold_walk.new.disk inv.stays walk h in
     let down = inv.down k before b head in
     let older = c.requires.older in
@@ -74,11 +74,11 @@ returns-in-Err-clause-damage g c = damage_of c.args.stretch.now.from c.args.base
 pub returns-in-Err-clause-whole : goal.returns-in-Err-clause-whole
 returns-in-Err-clause-whole g c k h b head =
     let inv = c.down.invariant in
-    let walk = stays_reads g.D.Disk.content g.D.Disk.images g.D.Disk.since g.D.Disk.moment g.D.Disk.faults c.down.cold
+    let walk = stays_reads g.D.Disk c.down.cold
     c.cold_walk.new.self c.down.disk c.cold_walk.new.disk c.cold_walk.result c.cold_walk.ensures.reads in
-    let before = back g.D.Disk.content g.D.Disk.images g.D.Disk.since g.D.Disk.moment g.D.Disk.faults c.down.cold
+    let before = back g.D.Disk c.down.cold
     c.cold_walk.new.self c.down.disk c.cold_walk.new.disk walk h in
-    let now = ahead g.D.Disk.content g.D.Disk.images g.D.Disk.since g.D.Disk.moment g.D.Disk.faults c.args.cold.now c.down.cold
+    let now = ahead g.D.Disk c.args.cold.now c.down.cold
     c.cold_walk.new.self c.args.disk.now c.down.disk c.cold_walk.new.disk inv.stays walk h in
     let down = inv.down k before b head in
     elim (ℕ_discrete c.down.place 0) [
@@ -92,17 +92,17 @@ returns-in-Err-clause-whole g c k h b head =
 pub returns-in_err-to-clause-whole : goal.returns-in_err-to-clause-whole
 returns-in_err-to-clause-whole g c k h b head =
     let inv = c.down.invariant in
-    let walk = stays_reads g.D.Disk.content g.D.Disk.images g.D.Disk.since g.D.Disk.moment g.D.Disk.faults c.down.cold
+    let walk = stays_reads g.D.Disk c.down.cold
     c.cold_walk.new.self c.down.disk c.cold_walk.new.disk c.cold_walk.result c.cold_walk.ensures.reads in
-    let last = back g.D.Disk.content g.D.Disk.images g.D.Disk.since g.D.Disk.moment g.D.Disk.faults c.cold_walk.new.self
+    let last = back g.D.Disk c.cold_walk.new.self
     c.visit-last.new.cold c.cold_walk.new.disk c.visit-last.new.disk c.visit-last.ensures.cold h in
-    let before = back g.D.Disk.content g.D.Disk.images g.D.Disk.since g.D.Disk.moment g.D.Disk.faults c.down.cold
+    let before = back g.D.Disk c.down.cold
     c.cold_walk.new.self c.down.disk c.cold_walk.new.disk walk last in
-    let now = ahead g.D.Disk.content g.D.Disk.images g.D.Disk.since g.D.Disk.moment g.D.Disk.faults c.args.cold.now c.down.cold
+    let now = ahead g.D.Disk c.args.cold.now c.down.cold
     c.cold_walk.new.self c.args.disk.now c.down.disk c.cold_walk.new.disk inv.stays walk last in
-    let both = stays_both g.D.Disk.content g.D.Disk.images g.D.Disk.since g.D.Disk.moment g.D.Disk.faults c.args.cold.now c.down.cold
+    let both = stays_both g.D.Disk c.args.cold.now c.down.cold
     c.cold_walk.new.self c.args.disk.now c.down.disk c.cold_walk.new.disk inv.stays walk in
-    let after = ahead g.D.Disk.content g.D.Disk.images g.D.Disk.since g.D.Disk.moment g.D.Disk.faults c.args.cold.now
+    let after = ahead g.D.Disk c.args.cold.now
     c.cold_walk.new.self c.visit-last.new.cold c.args.disk.now c.cold_walk.new.disk c.visit-last.new.disk
     both c.visit-last.ensures.cold h in
     let down = inv.down k before b head in
@@ -119,9 +119,9 @@ returns-in_err-to-clause-whole g c k h b head =
 pub down-preserved : goal.down-preserved
 down-preserved g c =
     let inv = c.down.invariant in
-    let walk = stays_reads g.D.Disk.content g.D.Disk.images g.D.Disk.since g.D.Disk.moment g.D.Disk.faults c.down.cold
+    let walk = stays_reads g.D.Disk c.down.cold
     c.cold_walk.new.self c.down.disk c.cold_walk.new.disk c.cold_walk.result c.cold_walk.ensures.reads in
-    let both = stays_both g.D.Disk.content g.D.Disk.images g.D.Disk.since g.D.Disk.moment g.D.Disk.faults c.args.cold.now c.down.cold
+    let both = stays_both g.D.Disk c.args.cold.now c.down.cold
     c.cold_walk.new.self c.args.disk.now c.down.disk c.cold_walk.new.disk inv.stays walk in
     let node = c.in-Ok-Some.node in
     let link = subst (λ (o : Option ColdNode). IfSome o (IsLinkable c.down.place c.down.below c.args.stretch.now.from))
@@ -133,20 +133,20 @@ down-preserved g c =
     let under = inv.under in
     let place = inv.lower some in
     record {
-      stays = stays_both g.D.Disk.content g.D.Disk.images g.D.Disk.since g.D.Disk.moment g.D.Disk.faults c.args.cold.now
+      stays = stays_both g.D.Disk c.args.cold.now
           c.cold_walk.new.self c.visit-last.new.cold c.args.disk.now c.cold_walk.new.disk c.visit-last.new.disk
           both c.visit-last.ensures.cold;
       lower = λ more. omega arith;
       under = omega arith;
       least = omega arith;
       down = λ k h b head.
-          let last = back g.D.Disk.content g.D.Disk.images g.D.Disk.since g.D.Disk.moment g.D.Disk.faults c.cold_walk.new.self
+          let last = back g.D.Disk c.cold_walk.new.self
           c.visit-last.new.cold c.cold_walk.new.disk c.visit-last.new.disk c.visit-last.ensures.cold h in
-          let before = back g.D.Disk.content g.D.Disk.images g.D.Disk.since g.D.Disk.moment g.D.Disk.faults c.down.cold
+          let before = back g.D.Disk c.down.cold
           c.cold_walk.new.self c.down.disk c.cold_walk.new.disk walk last in
-          let now = ahead g.D.Disk.content g.D.Disk.images g.D.Disk.since g.D.Disk.moment g.D.Disk.faults c.args.cold.now c.down.cold
+          let now = ahead g.D.Disk c.args.cold.now c.down.cold
           c.cold_walk.new.self c.args.disk.now c.down.disk c.cold_walk.new.disk inv.stays walk last in
-          let after = ahead g.D.Disk.content g.D.Disk.images g.D.Disk.since g.D.Disk.moment g.D.Disk.faults c.args.cold.now
+          let after = ahead g.D.Disk c.args.cold.now
           c.cold_walk.new.self c.visit-last.new.cold c.args.disk.now c.cold_walk.new.disk c.visit-last.new.disk
           both c.visit-last.ensures.cold h in
           let down = inv.down k before b head in

@@ -10,7 +10,7 @@ use Rattle.fish_scan.proofs.chained.walk_down.Given as goal
 
 abbrev pub invariant-down : goal.invariant-down
 invariant-down g l = record {
-  stays : StaysCold g.D.Disk.content g.D.Disk.images g.D.Disk.since g.D.Disk.moment g.D.Disk.faults l.fn.cold l.cold l.fn.disk l.disk;
+  stays : StaysCold g.D.Disk l.fn.cold l.cold l.fn.disk l.disk;
   lower : l.place ≢ 0 → l.place < 4 * l.fn.cold.base.line;
   under : l.below ≤ l.base;
   least : l.stretch.from ≤ l.below;

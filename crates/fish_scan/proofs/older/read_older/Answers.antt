@@ -14,7 +14,7 @@ pub loop-number-init : goal.loop-number-init
 loop-number-init g c = record {
   above = c.requires.some;
   below = omega arith;
-  stays = stays_none g.D.Disk.content g.D.Disk.images g.D.Disk.since g.D.Disk.moment g.D.Disk.faults c.args.cold.now c.args.disk.now;
+  stays = stays_none g.D.Disk c.args.cold.now c.args.disk.now;
   read = λ k h. read_older_none h (definition_of c.args.query.now.def) c.args.query.now.value c.args.stretch.now.to c.args.rows.now
       c.args.parses.now c.args.loads.now;
 }
@@ -39,23 +39,23 @@ loop-number-preserved g c =
     record {
       above = omega arith;
       below = omega arith;
-      stays = stays_both g.D.Disk.content g.D.Disk.images g.D.Disk.since g.D.Disk.moment g.D.Disk.faults c.args.cold.now
+      stays = stays_both g.D.Disk c.args.cold.now
           c.loop-number.cold c.read_older_at.new.cold c.args.disk.now c.loop-number.disk c.read_older_at.new.disk inv.stays step;
       read = λ k h. read_older_more h (definition_of c.args.query.now.def) c.args.query.now.value n c.args.stretch.now.to
           c.args.rows.now c.loop-number.rows c.read_older_at.new.rows c.args.parses.now c.loop-number.parses
           c.read_older_at.new.parses c.args.loads.now c.loop-number.loads c.read_older_at.new.loads (omega arith)
           (subst (λ (z : ℕ). HasReadOlder h.prior (definition_of c.args.query.now.def) c.args.query.now.value z c.args.stretch.now.to
           c.args.rows.now c.loop-number.rows c.args.parses.now c.loop-number.parses c.args.loads.now c.loop-number.loads) next
-          (inv.read k (back g.D.Disk.content g.D.Disk.images g.D.Disk.since g.D.Disk.moment g.D.Disk.faults c.loop-number.cold
+          (inv.read k (back g.D.Disk c.loop-number.cold
           c.read_older_at.new.cold c.loop-number.disk c.read_older_at.new.disk step h)))
-          (c.in_ok-read_older_at.ensures.read k (ahead g.D.Disk.content g.D.Disk.images g.D.Disk.since g.D.Disk.moment
-          g.D.Disk.faults c.args.cold.now c.loop-number.cold c.read_older_at.new.cold c.args.disk.now c.loop-number.disk
+          (c.in_ok-read_older_at.ensures.read k (ahead g.D.Disk c.args.cold.now c.loop-number.cold c.read_older_at.new.cold
+          c.args.disk.now c.loop-number.disk
           c.read_older_at.new.disk inv.stays step h));
     }
 
 pub returns-in_err-read_older_at-clause-cold : goal.returns-in_err-read_older_at-clause-cold
-returns-in_err-read_older_at-clause-cold g c = stays_both g.D.Disk.content g.D.Disk.images g.D.Disk.since g.D.Disk.moment
-    g.D.Disk.faults c.args.cold.now c.loop-number.cold c.read_older_at.new.cold c.args.disk.now c.loop-number.disk
+returns-in_err-read_older_at-clause-cold g c = stays_both g.D.Disk c.args.cold.now c.loop-number.cold c.read_older_at.new.cold
+    c.args.disk.now c.loop-number.disk
     c.read_older_at.new.disk c.loop-number.invariant.stays c.read_older_at.ensures.cold
 
 pub returns-in_err-read_older_at-clause-fault : goal.returns-in_err-read_older_at-clause-fault
@@ -75,8 +75,8 @@ returns-in_err-read_older_at-clause-damage g c =
 pub returns-in_err-read_older_at-clause-whole : goal.returns-in_err-read_older_at-clause-whole
 returns-in_err-read_older_at-clause-whole g c k h =
     err_as c.from_residual.result IsUndamaged _ c.from_residual.ensures.1
-    (c.in_err-read_older_at.ensures.whole k (ahead g.D.Disk.content g.D.Disk.images g.D.Disk.since g.D.Disk.moment
-    g.D.Disk.faults c.args.cold.now c.loop-number.cold c.read_older_at.new.cold c.args.disk.now c.loop-number.disk
+    (c.in_err-read_older_at.ensures.whole k (ahead g.D.Disk c.args.cold.now c.loop-number.cold c.read_older_at.new.cold c.args.disk.now
+    c.loop-number.disk
     c.read_older_at.new.disk c.loop-number.invariant.stays c.read_older_at.ensures.cold h))
 
 pub returns-clause-read : goal.returns-clause-read

@@ -11,7 +11,7 @@ abbrev pub invariant-loop-number : goal.invariant-loop-number
 invariant-loop-number g l = record {
   above : l.stretch.from ≤ l.number;
   below : l.number ≤ l.stretch.to;
-  stays : StaysCold g.D.Disk.content g.D.Disk.images g.D.Disk.since g.D.Disk.moment g.D.Disk.faults l.fn.cold l.cold l.fn.disk l.disk;
+  stays : StaysCold g.D.Disk l.fn.cold l.cold l.fn.disk l.disk;
   read : (k : Key) (h : CarriesTable (g.D.Disk.content l.disk) k l.fn.cold) → HasReadOlder h.prior (definition_of l.query.def)
       l.query.value l.number l.stretch.to l.fn.rows l.rows l.fn.parses l.parses l.fn.loads l.loads;
 }

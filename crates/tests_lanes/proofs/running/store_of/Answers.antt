@@ -6,5 +6,5 @@ pub returns-in-Ok : goal.returns-in-Ok
 returns-in-Ok g c =
     let h = c.in-Ok.ensures.opened in
     let e = c.of_opened.ensures in
-    between_opened g.D.Disk.content g.D.Disk.images c.open_store.new.disk h.commit h.log c.in-Ok.opened h.opened c.of_opened.result e.log
+    between_opened g.D.Disk c.open_store.new.disk h.commit h.log c.in-Ok.opened h.opened c.of_opened.result e.log
     e.pass e.first e.rows e.flusher e.cold

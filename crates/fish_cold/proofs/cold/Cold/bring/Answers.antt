@@ -10,7 +10,7 @@ returns-then-is_some g c =
       held = (λ _. (found.0, sym c.held.ensures ∙ found.1), λ _. refl);
       fresh = tt;
       untouched = λ _. (refl, refl);
-      outside = nothing_read g.D.Disk.content g.D.Disk.images g.D.Disk.since g.D.Disk.moment c.args.disk.now;
+      outside = nothing_read g.D.Disk c.args.disk.now;
       cause = record { later = omega arith; failed = λ h. absurd cc };
       whole = tt;
     }

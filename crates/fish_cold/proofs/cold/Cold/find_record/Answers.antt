@@ -9,5 +9,5 @@ pub returns-in-Some-clause-looks : goal.returns-in-Some-clause-looks
 returns-in-Some-clause-looks g c start h older =
     let same = same_Some (c.in-Some.page, c.in-Some.at) (page_of start.line, c.args.number - start.number)
     (sym c.in-Some.is ∙ c.place_of.ensures.found start h older) in
-    subst (λ p. Looks g.D.Disk.content g.D.Disk.images g.D.Disk.since g.D.Disk.moment g.D.Disk.faults p c.args.self.now c.record_on.new.self
+    subst (λ p. Looks g.D.Disk p c.args.self.now c.record_on.new.self
     c.args.disk.now c.record_on.new.disk c.record_on.result) (ap (λ (x : ℕ × ℕ). x.0) same) c.record_on.ensures.looks

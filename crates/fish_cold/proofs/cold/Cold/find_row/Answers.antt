@@ -26,7 +26,7 @@ returns-in-Ok-clause-entry g c =
 pub returns-in-Ok-clause-looks : goal.returns-in-Ok-clause-looks
 returns-in-Ok-clause-looks g c =
     let lower = c.requires.lower in
-    looks_answered g.D.Disk.content g.D.Disk.images g.D.Disk.since g.D.Disk.moment g.D.Disk.faults
+    looks_answered g.D.Disk
     (c.args.node.now.place / 131072) c.args.self.now
     c.answer.new.self c.args.disk.now c.bring.new.disk c.in-Ok.fresh c.args.node.now.number c.row_on-read.result c.answer.result
     c.used-held.result.now c.in-Ok.ensures (omega arith) c.row_on-read.ensures.damage c.used-held.ensures c.answer.ensures

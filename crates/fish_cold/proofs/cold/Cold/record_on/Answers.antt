@@ -27,6 +27,6 @@ returns-in-Ok-clause-entry g c =
 pub returns-in-Ok-clause-looks : goal.returns-in-Ok-clause-looks
 returns-in-Ok-clause-looks g c =
     let within = c.requires in
-    looks_answered g.D.Disk.content g.D.Disk.images g.D.Disk.since g.D.Disk.moment g.D.Disk.faults c.args.page c.args.self.now
+    looks_answered g.D.Disk c.args.page c.args.self.now
     c.answer.new.self c.args.disk.now c.bring.new.disk c.in-Ok.fresh c.args.number c.entry_on-read.result c.answer.result
     c.used-held.result.now c.in-Ok.ensures (omega arith) c.entry_on-read.ensures.damage c.used-held.ensures c.answer.ensures

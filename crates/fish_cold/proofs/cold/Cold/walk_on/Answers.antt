@@ -27,7 +27,7 @@ returns-in-Ok-clause-linkable g c =
 pub returns-in-Ok-clause-looks : goal.returns-in-Ok-clause-looks
 returns-in-Ok-clause-looks g c =
     let lower = c.requires in
-    looks_answered g.D.Disk.content g.D.Disk.images g.D.Disk.since g.D.Disk.moment g.D.Disk.faults
+    looks_answered g.D.Disk
     (c.args.asked.place / 131072) c.args.self.now
     c.answer.new.self c.args.disk.now c.bring.new.disk c.in-Ok.fresh c.args.asked.below c.node_on-found.result c.answer.result
     c.used-held.result.now c.in-Ok.ensures (omega arith) c.node_on-found.ensures.damage c.used-held.ensures c.answer.ensures

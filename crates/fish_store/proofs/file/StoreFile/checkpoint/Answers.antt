@@ -33,7 +33,7 @@ returns-clause-again g c unbroken =
     let p = point_of c.args.disk.now c.args.self.now c.args.log.now c.args.pass.now c.args.registrar.now in
     let q = point_of c.checkpoint.new.disk (record c.args.self.now { flusher = c.checkpoint.new.flusher }) c.args.log.now
     c.checkpoint.new.pass c.args.registrar.now in
-    again_checkpoint disk.content disk.images disk.since disk.moment p q c.checkpoint.ensures.reads refl refl refl c.requires.may.live
+    again_checkpoint disk p q c.checkpoint.ensures.reads refl refl refl c.requires.may.live
     c.requires.may.may g.met.D.Disk.as_read g.met.D.Disk.told
     (subst (λ (z : List CatRow). (e : Commit) (old : List Entry)
     (h : Carries (disk.images c.args.disk.now) c.args.self.now.flusher (view c.args.pass.now) c.args.log.now.shape z e old)
@@ -49,7 +49,7 @@ pub returns-clause-goes : goal.returns-clause-goes
 returns-clause-goes g c =
     let disk = g.D.Disk in
     let p = point_of c.args.disk.now c.args.self.now c.args.log.now c.args.pass.now c.args.registrar.now in
-    here_checkpoint disk.content disk.images disk.since disk.moment p _ c.checkpoint.ensures.reads refl refl refl c.requires.may.live
+    here_checkpoint disk p _ c.checkpoint.ensures.reads refl refl refl c.requires.may.live
     c.requires.may.may g.met.D.Disk.as_read g.met.D.Disk.told
     (subst (λ (z : List CatRow). (e : Commit) (old : List Entry)
     (h : Carries (disk.images c.args.disk.now) c.args.self.now.flusher (view c.args.pass.now) c.args.log.now.shape z e old)

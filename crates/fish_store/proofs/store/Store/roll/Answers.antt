@@ -35,7 +35,7 @@ returns-in_ok-opened-in-Ok g c =
     let o = c.in_ok-opened-in-Ok.opened in
     let new = c.of_opened.ensures in
     record {
-      rolled = has_rolled disk.content disk.images disk.since disk.moment c.args.disk.now old c.requires.may c.in-Ok.version
+      rolled = has_rolled disk c.args.disk.now old c.requires.may c.in-Ok.version
           c.in-Ok.ensures o
           (subst (λ (s : Shape). BeginsAt old.file.flusher s old.registrar.catalog c.in-Ok.version false o) c.shape-shape.ensures
           (subst (λ (rows : List CatRow). BeginsAt old.file.flusher c.shape-shape.result rows c.in-Ok.version false o)
