@@ -3,8 +3,6 @@ use Rattle.std.proofs.Common.{◌≡◌, ℕ, zero, suc, ◌+◌, ◌<◌, ◌�
 use Rattle.std.proofs.Common.{map, refl, sym, ap, subst, arith, slice_get, All, get_or}
 use Rattle.std.specs.Prelude.{filter}
 use Rattle.std.specs.List.Sorted.{IsStrictlyIncreasing}
-use Rattle.std.proofs.lemmas.List.Elements.{All-filter, All-map}
-use Rattle.fish_catalog.specs.Canonical.{IsCanonical}
 use Rattle.fish_catalog.specs.Listing.{IsListing, active_texts, is_on, listed_of}
 use Rattle.fish_catalog.specs.Rows.{is_active}
 use Rattle.fish_catalog.specs.Limits.{most_rows}
@@ -31,12 +29,6 @@ pub active_of_catalog : (rows : List CatRow) →
 active_of_catalog [] = refl
 active_of_catalog (row ∷ rows) =
     texts_more (is_active row) row (filter is_on (map listed_of rows)) (filter is_active rows) (active_of_catalog rows)
-
--- the text of an active definition is canonical
-pub active_canonical : (ls : List Listed) → IsListing ls → All (λ t. IsCanonical t.1) (active_texts ls)
-active_canonical ls h =
-    All-map (λ (t : ℕ × List ℕ). IsCanonical t.1) text_of (filter is_on ls)
-    (All-filter is_on (λ l. IsCanonical l.def) ls h.texts)
 
 -- the ids ascend from a least one on, below 256
 abbrev AscendFrom : ℕ → List Listed → Type 0

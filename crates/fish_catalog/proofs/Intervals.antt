@@ -74,14 +74,6 @@ below_next rows def n row xs ys h there id (inr none) = subst (AreBelow rows def
   rise = h.rise;
 })
 
--- at first there is none
-pub below_none : (rows : List CatRow) (def : List ℕ) → AreBelow rows def 0 []
-below_none rows def = record {
-  sound = λ i x at. absurd cc;
-  complete = λ x is less. absurd (omega arith);
-  rise = λ i j x y at_i at_j less. absurd cc;
-}
-
 -- and at last all are there
 pub below_all : (rows : List CatRow) (def : List ℕ) (n : ℕ) (xs : List Interval) → length rows ≤ n → AreBelow rows def n xs
     → AreIntervals rows def xs

@@ -2,7 +2,6 @@
 use Rattle.std.proofs.Common.{◌≡◌, ℕ, zero, suc, ◌+◌, ◌<◌, ◌≤◌, List, [], ◌∷◌, Option, Some, slice_get, MatchOption, All}
 use Rattle.std.proofs.Common.{length, take, sym, inl, inr, arith, refl, get_or, subst, ◌∙◌, below_more}
 use Rattle.std.proofs.lemmas.Bool.{cases_lt}
-use Rattle.std.proofs.lemmas.List.{length-take}
 use Rattle.std.proofs.lemmas.Option.{same_Some, slice_get_read, slice_get_within, slice_get-get_or}
 use Rattle.fish_catalog.specs.within.Restoring.{AreApart, IsAlone}
 use Rattle.fish_catalog.specs.Rows.{IsActive, IsRow}
@@ -54,15 +53,6 @@ apart_all rows alone j k one other at_j at_k active other_active same =
         | inr here ↦ omega arith
       ]
     ]
-
--- and then so is each before another
-pub apart_alone : (rows : List CatRow) (n : ℕ) (row : CatRow) → AreApart rows → slice_get rows n ≡ Some row → IsActive row
-    → IsAlone (take n rows) row.name
-apart_alone rows n row apart at active k other there other_active same =
-    let e : k ≡ n = apart k n other row (from_front n rows k other there) at other_active active same in
-    let few = slice_get_within (take n rows) k other there in
-    let size = length-take n rows in
-    omega arith
 
 -- what holds of each row by its position holds of all
 pub all_rows : (rows : List CatRow) → ((k : ℕ) → k < length rows → (row : CatRow) → slice_get rows k ≡ Some row → IsRow row)

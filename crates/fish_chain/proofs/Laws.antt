@@ -5,7 +5,6 @@ use Rattle.fish_claim.proofs.Filled.{refilled}
 use Rattle.fish_claim.specs.Fills.{IsFilled}
 use Rattle.fish_layout.specs.Cleared.{body_of}
 use Rattle.fish_layout.specs.Header.{keys_of}
-use Rattle.fish_rule.specs.ChainSteps.{HasNode}
 use Rattle.fish_rule.specs.declared.view.Flight.{Flight}
 use Rattle.fish_rule.specs.declared.view.View.{View}
 
@@ -20,7 +19,3 @@ linked_filled v u f bucket filled more is =
     let c = is.changed in
     refilled v u f is.words (suc f.linked) filled c.learns (ap (λ (z : View). z.lane) c.known)
     (ap (λ (z : View). z.epoch) c.known) (ap (λ (z : View). z.flight) c.known) c.long c.body (omega arith)
-
--- what was known to be linked still is
-pub linked_kept : (v u : View) (f : Flight) (bucket b p : ℕ) → IsLinked v f bucket u → HasNode v b p → HasNode u b p
-linked_kept v u f bucket b p is node = is.changed.learns.nodes (record { bucket = b; place = p }) node

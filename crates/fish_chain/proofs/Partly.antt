@@ -1,9 +1,8 @@
 -- A record whose entries are linked one by one, each into the bucket of its key.
-use Rattle.std.proofs.Common.{◌≡◌, ℕ, ◌<◌, suc, List, length, sym, ap, ◌∙◌, subst, arith, Some}
+use Rattle.std.proofs.Common.{◌≡◌, ℕ, ◌<◌, List, length, sym, ap, ◌∙◌, subst, Some}
 use Rattle.std.specs.List.{slice_get}
 use Rattle.fish_layout.proofs.Buckets.{bucket_of-body}
-use Rattle.fish_chain.proofs.Laws.{linked_filled, linked_flight}
-use Rattle.fish_chain.specs.Links.{CanLink, IsLinked}
+use Rattle.fish_chain.specs.Links.{CanLink}
 use Rattle.fish_claim.proofs.Filled.{body_keys, filled_publish}
 use Rattle.fish_claim.specs.Fills.{IsFilled}
 use Rattle.fish_layout.specs.Body.{IsBody}
@@ -43,17 +42,6 @@ module _ (p : BodyParts) (c : ℕ) (v : View) (s : IsPartly p c v) where
         ∙ ap (λ (z : ℕ → ℕ). bucket_of v.about.buckets z c) s.same
         ∙ bucket_of-body v.about.buckets c k s.made found ∙ hashed;
     below = below;
-  }
-
-  -- and then one more is
-  pub partly_more : (u : View) (bucket : ℕ) → c < length p.keys → IsLinked v s.flight bucket u → IsPartly p (suc c) u
-  partly_more u bucket less is = record {
-    flight = linked_flight v u s.flight bucket is;
-    filled = linked_filled v u s.flight bucket s.filled (let e = entries in let n = s.count in omega arith) is;
-    count = ap suc s.count;
-    words = s.words;
-    made = s.made;
-    same = is.changed.body ∙ s.same;
   }
 
   -- once all are, it may be published

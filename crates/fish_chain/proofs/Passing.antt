@@ -48,10 +48,6 @@ pub record HasPassed (v u : View) (b first from to : ℕ) : Type 0 where
   pub few : ((to ≡ end) × (u.clock.loads ≤ v.clock.loads + 2 * length passed))
       ⊎ ((to ≡ 0) × (u.clock.loads ≤ v.clock.loads + 2 * length passed + 1))
 
--- nothing is passed at first
-pub passed_none : (v : View) (b first from : ℕ) → HasPassed v v b first from from
-passed_none v b first from = record { passed = []; end = from; down = refl; few = inl (refl, omega arith) }
-
 -- where a walk has not ended, its end is where it stands
 stands_there : (v u : View) (b first from mid : ℕ) (h : HasPassed v u b first from mid) → 0 < mid
     → (mid ≡ h.end) × (u.clock.loads ≤ v.clock.loads + 2 * length h.passed)

@@ -226,14 +226,6 @@ word_read v f i x among words less known u learns w r seat at =
     let line : low (w.dir f.number) ≡ r.start f.number = (region_found r f found).0.line in
     ap (λ (z : ℕ). body w.log z i) line ∙ stands
 
--- the same of a word at a line
-pub word_there : (v : View) (f : Found) (line n i x : ℕ) → Among f v.learned.found → f.kind ≢ Mark → f.line ≡ line
-    → f.number ≡ n → i < f.lines * 4 → Among (record { place = line * 4 + i; value = x }) v.learned.known
-    → Always v (IsWordIn n i x)
-word_there v f line n i x among words at is less known =
-    subst (λ (z : ℕ). Always v (IsWordIn z i x)) is (word_read v f i x among words less
-    (subst (λ (z : ℕ). Among (record { place = z * 4 + i; value = x }) v.learned.known) (sym at) known))
-
 -- ---- bytes of a word
 
 -- bytes before a word and those in it are the record's

@@ -67,21 +67,6 @@ module _ (v u : View) (lines n a : ℕ) (is : u ≡ after_claim_lines v lines n 
       } in
       subst (λ (z : View). CanPublishRegion z f) (sym same) may
 
-  -- a mark may be published with nothing
-  pub can_publish_mark : CanClaimLines v → kind_of v.about.end a (a + lines) ≡ Mark → CanPublishRegion u (flight_at n a lines)
-  can_publish_mark can kind =
-      let w : View = after_claim_lines v lines n a in
-      let f : Flight = flight_at n a lines in
-      let may : CanPublishRegion w f = record {
-        live = can.live;
-        flying = refl;
-        version = can.version;
-        entered = can.entered;
-        ready = subst (λ (z : Kind). IsReady (KnowsActive v.about w.learned) can.version z v.lane f)
-            (sym kind) refl;
-      } in
-      subst (λ (z : View). CanPublishRegion z f) (sym is) may
-
   -- once it is, the pass is shut by the claim
   pub mark_shuts : (t : View) → kind_of v.about.end a (a + lines) ≡ Mark → t ≡ after_publish_region u (flight_at n a lines)
       → t.shut ≡ Some (record { line = a; lines = lines; end = v.about.end })

@@ -1,6 +1,6 @@
 -- The words of a record go into its region one by one.
 use Rattle.std.proofs.Common.{◌≡◌, ℕ, ◌+◌, ◌<◌, ◌≤◌, suc, List, [], ◌∷◌, ◌++◌, length, get_or, take, refl, sym, ap, ◌∙◌}
-use Rattle.std.proofs.Common.{subst, arith, Some, Option, add-one, add-zero, length-append}
+use Rattle.std.proofs.Common.{subst, arith, Some, Option, add-one, length-append}
 use Rattle.std.proofs.Math.Seq.{take-suc}
 use Rattle.fish_claim.specs.Fills.{CanFill, IsFilled, filled_view, with_words}
 use Rattle.fish_rule.proofs.laws.Regions.{kind-inside}
@@ -16,13 +16,6 @@ pub in_region : (o : Option Flight) (f : Flight) (r : Region) → o ≡ Some f �
 in_region o f r flying is = (let e : Some r ≡ Some (region_of f) = is ∙ ap region_in flying in cc)
 
 module _ (v : View) (f : Flight) (words : List ℕ) (can : CanFill v f words) where
-  -- with no word stored the view is as it was
-  pub filled_none : v ≡ filled_view v f []
-  filled_none = λ i. record v {
-    flight = (can.flying ∙ ap (λ (z : List ℕ). Some (with_words f z)) can.unfilled) i;
-    clock = record v.clock { steps = sym (add-zero v.clock.steps) i };
-  }
-
   -- the next word may be stored
   pub can_store_next : (u : View) (i : ℕ) → u ≡ filled_view v f (take i words) → length (take i words) ≡ i
       → i < length words

@@ -11,19 +11,14 @@ use Rattle.std.proofs.Math.Decide.{ℕ_discrete}
 use Rattle.lru.proofs.CallerLemmas.{Contains-lookup, Contains-put_entries}
 use Rattle.fish_disk.specs.declared.disk.Disk.{Ghosts as Disks}
 use Rattle.fish_layout.specs.Pages.{page_of}
-use Rattle.fish_cold.specs.Answers.{Answers, IsDamageOf, LoadsWords, Walks}
 use Rattle.fish_cold.specs.within.Answers.{IsReadingOf}
-use Rattle.fish_layout.specs.declared.parts.BodyParts.{BodyParts}
-use Rattle.fish_layout.specs.declared.parts.KeyPart.{KeyPart}
-use Rattle.fish_cold.specs.Cached.{IsReadFrom, Looks, ReadsAtMost, Uses, base_page, held_in}
+use Rattle.fish_cold.specs.Cached.{IsReadFrom, Looks, Uses, base_page, held_in}
 use Rattle.fish_cold.specs.within.Cached.{Answered, Brings}
-use Rattle.fish_cold.proofs.Untouched.{nothing_read}
 use Rattle.fish_cold.specs.Caching.{IsPageIn}
-use Rattle.fish_cold.specs.within.Caching.{IsUndamaged}
 use Rattle.fish_cold.specs.declared.cold.Cold.{Cold}
 use Rattle.fish_cold.specs.declared.page.Page.{Page}
 use Rattle.fish_cold.specs.declared.refusal.ColdRefusal.{ColdRefusal}
-use Rattle.fish_cold.specs.declared.refusal.ColdRefusal.TheVariants.{Damaged, DiskFault, OutOfMemory}
+use Rattle.fish_cold.specs.declared.refusal.ColdRefusal.TheVariants.{DiskFault, OutOfMemory}
 
 -- a page that is held and one beside the list are different
 module _ (c : List ℕ) (number : ℕ) (page : Page) (old new : Cold) (u : Uses number page old new) where
@@ -165,9 +160,6 @@ kept_used number old new (Some c) fresh page low brought is used =
 pub err_is : {T : Type 0} (e : ColdRefusal) → IsErrOf {T = T} {E = ColdRefusal} (Err e) DiskFault → e ≡ DiskFault
 err_is {T} e h = cc
 
-pub is_err : {T : Type 0} (e : ColdRefusal) → e ≡ DiskFault → IsErrOf {T = T} {E = ColdRefusal} (Err e) DiskFault
-is_err {T} e h = ap Err h
-
 no_err : {T : Type 0} (x : T) → IsErrOf {T = T} {E = ColdRefusal} (Ok x) DiskFault → ⊥
 no_err {T} x h = cc
 
@@ -192,20 +184,6 @@ module _
   no_fault n read e whole (inl same) is =
       subst (λ r. IfErr r (IsReadingOf n)) (same ∙ ap Err is) whole
   no_fault n read e whole (inr same) is = absurd (cc (sym same ∙ is))
-
-  -- where nothing is brought, nothing is answered
-  pub looks_refused : (e : ColdRefusal) → Brings disks number old disk next (Err e) → new ≡ old
-      → Looks {T = T} disks number old new disk next (Err e)
-  looks_refused e b same = record {
-    used = tt;
-    refused = same;
-    cached = λ held. absurd (refused_held e ((b.untouched held).1));
-    kept = kept_same old new (disks.content next) same;
-    outside = b.outside;
-    cause = record { later = b.cause.later; failed = λ h. b.cause.failed (is_err e (err_is e h)) };
-  } where
-    refused_held : (e : ColdRefusal) → ◌≡◌ {A = Result (Option Page) ColdRefusal} (Err e) (Ok None) → ⊥
-    refused_held e h = cc
 
   -- a page that was brought or is held was used
   pub looks_answered : (fresh : Option Page) (n : ℕ) (read result : Result T ColdRefusal) (page : Page)
@@ -242,33 +220,6 @@ answered_as number fresh old new read (Err e) P a is want = elim a.err [
   | inr memory ↦ subst (λ r. P (Err r)) (sym memory) want
 ]
 
--- a refusal that says nothing of the words
-pub answers_undamaged : (number : ℕ) (rest : List ℕ) (old new : ℕ) (e : ColdRefusal) → IsUndamaged e
-    → Answers number rest (Err e) × LoadsWords rest old new (Err e)
-answers_undamaged number rest old new (Damaged n) h = absurd h
-answers_undamaged number rest old new DiskFault h = (tt, tt)
-answers_undamaged number rest old new OutOfMemory h = (tt, tt)
-
-pub walks_undamaged : (place from : ℕ) (p : BodyParts) (j : ℕ) (k : KeyPart) (e : ColdRefusal) → IsUndamaged e
-    → Walks place from p j k (Err e)
-walks_undamaged place from p j k (Damaged n) h = absurd h
-walks_undamaged place from p j k DiskFault h = tt
-walks_undamaged place from p j k OutOfMemory h = tt
-
-pub damage_undamaged : (number : ℕ) (e : ColdRefusal) → IsUndamaged e → IsDamageOf number e
-damage_undamaged number (Damaged n) h = absurd h
-damage_undamaged number DiskFault h = tt
-damage_undamaged number OutOfMemory h = tt
-
-pub reading_damage : (number : ℕ) (e : ColdRefusal) → IsReadingOf number e → IsDamageOf number e
-reading_damage number (Damaged n) h = h
-reading_damage number DiskFault h = absurd h
-reading_damage number OutOfMemory h = tt
-
-pub if_some_all : {X : Type 0} (o : Option X) (P : X → Type 0) → ((x : X) → P x) → IfSome o P
-if_some_all None P h = tt
-if_some_all (Some x) P h = h x
-
 -- what the page that was used says, where the content of the disk is known
 pub if_some_used : (o : Option (List ℕ)) (number : ℕ) (old : Cold) (fresh : Option Page) (page : Page) (P : List ℕ → Type 0)
     → IfSome fresh (λ p. IfSome o (λ c. IsPageIn old.base.line old.starts c number p))
@@ -277,50 +228,3 @@ pub if_some_used : (o : Option (List ℕ)) (number : ℕ) (old : Cold) (fresh : 
 if_some_used None number old fresh page P brought is h = tt
 if_some_used (Some c) number old fresh page P brought is h =
     h c (λ read. used_read c number old fresh page (told_page c number old fresh brought) read is)
-
--- a page that was looked at or none
-pub reads_of : {D T : Type 0} (disks : Disks D) (number : ℕ) (old new : Cold) (disk next : D) (result : Result T ColdRefusal)
-    → Looks disks number old new disk next result
-    → ReadsAtMost disks old new disk next result
-reads_of disks number old new disk next (Ok x) h = record {
-  base = h.used.2.base;
-  starts = h.used.2.starts;
-  refused = tt;
-  kept = h.kept;
-  outside = h.outside;
-  cause = h.cause;
-}
-reads_of disks number old new disk next (Err e) h = record {
-  base = ap (λ (z : Cold). z.base) h.refused;
-  starts = ap (λ (z : Cold). z.starts) h.refused;
-  refused = h.refused;
-  kept = h.kept;
-  outside = h.outside;
-  cause = h.cause;
-}
-
-reads_kept : (o : Option (List ℕ)) (cold : Cold) → IfSome o (λ c. IsReadFrom c cold → IsReadFrom c cold)
-reads_kept None cold = tt
-reads_kept (Some c) cold = λ read. read
-
-pub reads_none : {D T : Type 0} (disks : Disks D) (old : Cold) (disk : D) (n : ℕ)
-    → ReadsAtMost {T = T} disks old old disk disk (Err (Damaged n))
-reads_none disks old disk n = record {
-  base = refl;
-  starts = refl;
-  refused = refl;
-  kept = reads_kept (disks.content disk) old;
-  outside = nothing_read disks disk;
-  cause = record { later = omega arith; failed = λ h. absurd cc };
-}
-
-pub reads_end : {D T : Type 0} (disks : Disks D) (old : Cold) (disk : D) (x : T)
-    → ReadsAtMost disks old old disk disk (Ok x)
-reads_end disks old disk x = record {
-  base = refl;
-  starts = refl;
-  refused = tt;
-  kept = reads_kept (disks.content disk) old;
-  outside = nothing_read disks disk;
-  cause = record { later = omega arith; failed = λ h. absurd cc };
-}

@@ -21,7 +21,3 @@ nothing_read disks d = record {
 pub copied_some : (o : Option (Bor Page)) → is_some o ≡ true → (p : Page) × (option_copied o ≡ Some p)
 copied_some None h = absurd (cc h)
 copied_some (Some b) h = (b.now, refl)
-
-pub copied_none : (o : Option (Bor Page)) (p : Page) → (is_some o ≡ true → ⊥) → option_copied o ≡ Some p → ⊥
-copied_none None p h is = cc is
-copied_none (Some b) p h is = h refl

@@ -1,5 +1,5 @@
 -- All rows of a text, row by row: the number of rows that `csv`'s definition counts down is always enough.
-use Rattle.std.specs.Prelude.{◌-◌, ◌||◌, ◌⊎◌, Option, None, if◌then◌else◌}
+use Rattle.std.specs.Prelude.{◌-◌, ◌||◌, Option, None, if◌then◌else◌}
 use Rattle.std.proofs.Common.{◌≡◌, ◌==◌, ◌<◌, ◌≤◌, ◌+◌, ◌++◌, ◌∷◌, ◌∙◌, [], ℕ, List, Bool, Some, zero, suc, refl, sym}
 use Rattle.std.proofs.Common.{ap, true, false, length, take, drop, add-one, arith, inl, inr}
 use Rattle.std.proofs.lemmas.Bool.{cases_Bool, eqb-true}
@@ -15,11 +15,6 @@ use Rattle.fish_csv.specs.Reading.{rows_in}
 use Rattle.fish_csv.specs.declared.machine.Position.TheVariants as position
 use Rattle.fish_csv.proofs.Inside.{inside-ends, inside-leaves, is_inside}
 use Rattle.fish_csv.proofs.Steps.{row-end, row-other}
-
--- one of two choices is what a choice is
-either-is : {A : Type 0} (b : Bool) (x y q : A) → (if b then x else y) ≡ q → ((b ≡ true) × (x ≡ q)) ⊎ ((b ≡ false) × (y ≡ q))
-either-is true x y q e = inl (refl, e)
-either-is false x y q e = inr (refl, e)
 
 -- a text in which a row has begun has that row, and the machine stands between rows after it
 begun : (s : State) (fields : List (List ℕ)) (field xs : List ℕ) → is_inside s ≡ true

@@ -1,6 +1,6 @@
 -- What a torn write leaves alone, and what a whole write puts where.
 use Rattle.std.proofs.Common.{◌≡◌, ℕ, ◌+◌, ◌-◌, ◌≤◌, ◌⊎◌, inl, inr, List, ◌++◌, length, take, drop, refl, ap, sym, ◌∙◌}
-use Rattle.std.proofs.Common.{subst, arith, append_assoc, length-append, length-drop, take-append-drop}
+use Rattle.std.proofs.Common.{subst, arith, append_assoc, length-append, length-drop}
 use Rattle.std.specs.Prelude.{Option, Some, None, IfSome, IsSome}
 use mathlib.Core.Bool.{true≢false}
 use Rattle.std.proofs.lemmas.List.{length-take-le, take-take, take_at, drop_at, drop-drop, drop-take}
@@ -104,18 +104,6 @@ pub put_within : (at n : ℕ) (piece old new : List ℕ) →
 put_within at n piece old new within short same =
     subst (λ (l : List ℕ). Torn at n old l) (sym same)
     (torn_more at (length piece) n old (put_at at piece old) short (put_torn at piece old within))
-
--- where a write left all of its piece, the piece was put
-pub torn_put : (at : ℕ) (piece old new : List ℕ) →
-    Torn at (length piece) old new → part at (length piece) new ≡ piece → new ≡ put_at at piece old
-torn_put at piece old new torn same =
-    let rest : drop at new ≡ piece ++ drop (at + length piece) old =
-    sym (take-append-drop (length piece) (drop at new))
-    ∙ ap (λ (l : List ℕ). l ++ drop (length piece) (drop at new)) same
-    ∙ ap (λ (l : List ℕ). piece ++ l) (drop-drop (length piece) at new ∙ torn.after) in
-    sym (take-append-drop at new)
-    ∙ ap (λ (l : List ℕ). l ++ drop at new) torn.before
-    ∙ ap (λ (l : List ℕ). take at old ++ l) rest
 
 -- what is told after a write that is done is a torn write of what was told
 pub written_torn : (old new : Option (List ℕ)) (at : ℕ) (piece : List ℕ) →

@@ -1,10 +1,10 @@
 -- The definitions that a lane keeps may go to another thread. The search for it, which is done anew wherever a thread
 -- is given a lane, doesn't go deep enough by itself.
 use Rattle.std.proofs.Crossing.{crosses}
-use denote.Param.Send.{IsSend, recorded_send, sendable, struct_send}
+use denote.Param.Send.{IsSend, sendable, struct_send}
 use denote.Struct.Declared.{shape}
 use Rattle.fish_catalog.proofs.listed.Listed.TheSendSync.{the_send as listed_send}
-use Rattle.fish_epoch.specs.contracts.definitions.Defs.{the_field as defs_field, the_row as defs_row}
+use Rattle.fish_epoch.specs.contracts.definitions.Defs.{the_field as defs_field}
 use Rattle.fish_epoch.specs.contracts.definitions.Defs.{the_type as defs_type}
 use Rattle.fish_epoch.specs.contracts.definitions.Known.{the_field as known_field}
 use Rattle.fish_lang.proofs.definition.Cond.TheLaws.TheKnot.{send-Cond}
@@ -24,7 +24,3 @@ known_send = search (sendable, crosses, listed_send, active_send) depth 40
 -- their fields, with the reader's memory
 pub defs_field_send : IsSend defs_field.row
 defs_field_send = struct_send (shape defs_type) (known_send, (reader_send, tt))
-
--- and all of them
-pub defs_send : IsSend defs_row
-defs_send = recorded_send _ _ _ defs_type.to_one defs_field_send

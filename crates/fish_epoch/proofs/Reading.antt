@@ -11,10 +11,10 @@ use Rattle.fish_catalog.specs.Listing.{IsListing, ended_at, listed_in, listed_of
 use Rattle.fish_catalog.specs.Words.{row_word, was_active}
 use Rattle.fish_catalog.specs.declared.listed.Listed.{Listed}
 use Rattle.fish_catalog.specs.declared.row.CatRow.{CatRow}
-use Rattle.fish_layout.proofs.Clearing.{choose_first, choose_second}
+use Rattle.fish_layout.proofs.Clearing.{choose_first}
 use Rattle.fish_rule.proofs.laws.Lists.{all_among}
 use Rattle.fish_rule.proofs.laws.Clocks.{later_ticked}
-use Rattle.fish_rule.proofs.laws.Learning.{ahead, extends_both, extends_self, learns_self}
+use Rattle.fish_rule.proofs.laws.Learning.{ahead, extends_both, learns_self}
 use Rattle.fish_rule.proofs.laws.Versions.{definitions_next, length_registered, listing_law}
 use Rattle.fish_rule.specs.RegistrySteps.{after_load_registry}
 use Rattle.fish_rule.specs.Logs.{Learns}
@@ -30,10 +30,6 @@ use Rattle.fish_epoch.specs.within.Rows.{HasRow, HasRowWords}
 use Rattle.fish_epoch.specs.declared.definitions.Known.{Known}
 
 -- ---- views
-
--- a view only reads of itself
-pub reads_self : (v : View) → OnlyReads v v
-reads_self v = record { extends = extends_self v; version = refl; count = refl; found = refl; loads = refl }
 
 -- and what only reads of what only reads
 pub reads_both : (a b c : View) → OnlyReads a b → OnlyReads b c → OnlyReads a c
@@ -153,13 +149,6 @@ words_more v u id position x ws wide room is row h = record {
     firsts r there i from upto (no ne) =
         let t = h.first r there i from (omega arith) in (t.0, else_ i ne ∙ t.1)
 
--- no word is read yet
-pub words_none : (v : View) (id : ℕ) (f : ℕ → ℕ) → HasRowWords v id 2 f
-words_none v id f = record {
-  among = λ i from upto. absurd (omega arith);
-  first = λ row there i from upto. absurd (omega arith);
-}
-
 -- the definition that a row's words spell, by the words read
 pub row_read : (u : View) (id : ℕ) (f : ℕ → ℕ) (l : Listed) → HasRowWords u id 39 f → l ≡ listed_in f id true → HasRow u id l
 row_read u id f l words is g read = is ∙ listed_same f (row_in g id) id true (λ i from upto.
@@ -230,16 +219,6 @@ module _ (v u : View) (before x : ℕ) (ls : List Listed) (learns : Learns v u)
         ap (λ (z : List Listed). length z) (made_by g has) in
         let more = length_registered g x ls less in
         omega arith;
-  }
-
-  -- any other operation ends one
-  pub made_ended : ¬ (x < 512) → KnowsDefinitions u.about u.learned (suc before) (ended_at (x % 256) ls)
-  made_ended more = record {
-    from = subst (λ (z : Key). z.version ≤ suc before) (sym learns.about) (omega arith);
-    reached = next_reached;
-    are = λ g has. made_by g has
-        ∙ choose_second (dec_lt x 512) (ls ++ listed_in (row_in g (length ls)) (length ls) true ∷ []) (ended_at (x % 256) ls)
-        more;
   }
 
   -- the definition that was registered comes after the others

@@ -17,17 +17,6 @@ use Rattle.fish_epoch.specs.Entering.{HasEntered, OnlyEnters}
 
 -- ---- views
 
--- a view keeps to itself
-pub enters_self : (v : View) → OnlyEnters v v
-enters_self v = record {
-  learns = learns_self v;
-  clock = later_self v.clock;
-  frame = refl;
-  count = refl;
-  found = refl;
-  loads = refl;
-}
-
 -- what keeps to what keeps to it keeps to it
 pub enters_both : (a b c : View) → OnlyEnters a b → OnlyEnters b c → OnlyEnters a c
 enters_both a b c e f = record {

@@ -1,42 +1,20 @@
 -- Works that a lane may do, and queues of them.
-use Rattle.std.proofs.Common.{◌≡◌, ◌≢◌, ◌⊎◌, ℕ, List, [], ◌∷◌, ◌++◌, append_assoc, inl, inr, refl, sym, ap, ◌∙◌, subst}
-use Rattle.std.proofs.Common.{Bool, true, false, Option, None, Some, ◌+◌, ◌<◌, arith}
+use Rattle.std.proofs.Common.{◌≡◌, ◌⊎◌, ℕ, List, [], ◌∷◌, ◌++◌, append_assoc, inl, inr, refl, sym, ap, ◌∙◌, subst}
+use Rattle.std.proofs.Common.{Bool, false, Option, None, Some, ◌+◌, ◌<◌, arith}
 use Rattle.std.specs.Prelude.{Err, IfErr, IfOk, IsErr, Ok, Result, option_to_list}
 use Rattle.fish_feed.specs.Queues.{AreFit, AreFitTodos, IsFit, IsFitTodo, IsQueue, MayDo, MayDoAll, MayEnd}
-use Rattle.fish_feed.specs.Works.{AreAnew, AreAnewAfterFirst, AreDone, IsAnew, IsWorkOf, StoresNone, bytes_in, bytes_of}
+use Rattle.fish_feed.specs.Works.{AreAnew, AreAnewAfterFirst, AreDone, IsAnew, StoresNone, bytes_in, bytes_of}
 use Rattle.fish_feed.specs.declared.queue.Queue.{Queue}
 use Rattle.fish_feed.specs.declared.queue.Todo.{Todo}
 use Rattle.fish_lanes.specs.declared.work.Work.{Work}
 use Rattle.fish_lanes.specs.declared.work.Work.TheVariants as work
-use Rattle.fish_lines.specs.declared.resuming.Begin.{Begin}
 use Rattle.fish_lines.specs.declared.resuming.Begin.TheVariants.{After}
 use Rattle.fish_outside.specs.Content.{Files}
 use Rattle.fish_script.specs.declared.script.Statement.{Statement}
-use Rattle.fish_script.specs.declared.script.Statement.TheVariants as does
-use Rattle.fish_value.specs.declared.field.Form.{Form}
-
--- any lane may store a file
-pub ingest_may : (first : Bool) (form : Form) (begin : Begin) (name file : List ℕ) → MayDo first (work.Ingest form begin name file)
-ingest_may true form begin name file = tt
-ingest_may false form begin name file = tt
 
 pub may_push : (first : Bool) (ws : List Work) (w : Work) → MayDoAll first ws → MayDo first w → MayDoAll first (ws ++ w ∷ [])
 may_push first [] w h one = (one, tt)
 may_push first (x ∷ ws) w h one = (h.0, may_push first ws w h.1 one)
-
--- what a statement without a file has a lane do stores no file
-pub work_stores : (s : Statement) (w : Work) → IsWorkOf s w → StoresNone w
-work_stores (does.Register name def) w h = λ form begin name file is.
-    absurd (let bad : work.Register _ h.0 ≡ work.Ingest form begin name file = sym h.1 ∙ is in cc)
-work_stores (does.Deregister name) w h = λ form begin name file is.
-    absurd (let bad : work.Deregister _ ≡ work.Ingest form begin name file = sym h ∙ is in cc)
-work_stores (does.Ingest form header file) w h = elim h [ ]
-work_stores (does.Scan name value from to way) w h = λ form begin name file is.
-    absurd (let bad : work.Scan _ ≡ work.Ingest form begin name file = sym h ∙ is in cc)
-work_stores (does.Explain name value from to way) w h = λ form begin name file is.
-    absurd (let bad : work.Explain _ ≡ work.Ingest form begin name file = sym h ∙ is in cc)
-work_stores does.Checkpoint w h = λ form begin name file is.
-    absurd (let bad : work.Checkpoint ≡ work.Ingest form begin name file = sym h ∙ is in cc)
 
 -- and is no part of a file
 pub stores_anew : (w : Work) → StoresNone w → IsAnew w
@@ -49,14 +27,6 @@ stores_bytes (work.Ingest form begin name file) h = absurd (h form begin name fi
 stores_bytes (work.Scan ask) h = refl
 stores_bytes (work.Explain ask) h = refl
 stores_bytes work.Checkpoint h = refl
-
--- nor is what a file gives of which nothing was given
-pub first_anew : (form : Form) (begin : Begin) (name file : List ℕ) → begin ≢ After → IsAnew (work.Ingest form begin name file)
-first_anew form begin name file before = λ form' name' file' is. before (ap begin_of is)
-  where
-    begin_of : Work → Begin
-    begin_of (work.Ingest f b n bytes) = b
-    begin_of w = begin
 
 pub anew_push : (ws : List Work) (w : Work) → AreAnew ws → IsAnew w → AreAnew (ws ++ w ∷ [])
 anew_push [] w h one = (one, tt)
@@ -122,9 +92,6 @@ module _ {F : Type 0} (told : Option Files) (left : F → Option (List ℕ)) (ss
 
   pub may_queue : (ws : List Work) → IsQueue told left ss (given ++ ws) q → MayEnd told left ss given q
   may_queue ws h = (ws, inl h)
-
-  pub may_done : (ws : List Work) → AreDone told ss (given ++ ws) → MayEnd told left ss given q
-  may_done ws h = (ws, inr h)
 
 -- ---- results
 

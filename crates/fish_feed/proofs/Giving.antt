@@ -4,7 +4,7 @@ use Rattle.std.proofs.Common.{length, get_or, inl, inr}
 use Rattle.std.proofs.Common.{append-nil, append_assoc, refl, sym, ap, ◌∙◌, subst, arith}
 use Rattle.std.specs.Prelude.{Err, IfSome, IsErrOf, IsSome, Result}
 use Rattle.fish_feed.proofs.Queues.{dones_later, queue_end, queue_later, queue_none}
-use Rattle.fish_feed.specs.Queues.{AreIdle, GoesDown, HasQueue, IsGiven, IsQueue, LanesMayDo, MayDoAll, MayEnd, both}
+use Rattle.fish_feed.specs.Queues.{AreIdle, HasQueue, IsGiven, IsQueue, LanesMayDo, MayDoAll, MayEnd, both}
 use Rattle.fish_feed.specs.Queues.{current_left, left_of, left_of_all, todos_left, works_of}
 use Rattle.fish_outside.specs.Reading.{HasReadCause}
 use Rattle.fish_feed.specs.Parts.{longest_given}
@@ -46,20 +46,6 @@ pairs_none R S [] [] h = tt
 pairs_none R S [] (y ∷ ys) h = elim h [ ]
 pairs_none R S (x ∷ xs) [] h = elim h [ ]
 pairs_none R S (x ∷ xs) (y ∷ ys) h = elim h [ ]
-
--- where the first goes down and the others do, all do
-pub down_both : (a b x y : ℕ) → GoesDown a b → GoesDown x y → GoesDown (a + x) (b + y)
-down_both zero b x y h k =
-    let one = h.down in
-    let more = k.down in
-    record {
-      down = omega (one, more, arith);
-      falls = λ some. let less = k.falls (omega (some, arith)) in omega (one, less, arith);
-    }
-down_both (suc a) b x y h k =
-    let one = h.falls (omega arith) in
-    let more = k.down in
-    record { down = omega (one, more, arith); falls = λ some. omega (one, more, arith) }
 
 module _ {F : Type 0} (left : F → Option (List ℕ)) where
   queue_since : (old new : Option Files) → SameFiles old new → (ss : List Statement) (given : List Work) (q : Queue F)

@@ -1,11 +1,10 @@
 -- Queues of lanes of which nothing was given.
-use Rattle.std.proofs.Common.{◌≡◌, ◌<◌, ℕ, zero, suc, List, [], ◌∷◌, true, false, None, Option, Some, arith, length, refl, slice_get, subst}
+use Rattle.std.proofs.Common.{◌≡◌, ◌<◌, ℕ, zero, suc, List, [], ◌∷◌, true, false, Option, Some, arith, length, slice_get, subst}
 use Rattle.fish_feed.proofs.Fit.{is_first}
 use Rattle.fish_feed.proofs.Queues.{queue_later}
-use Rattle.fish_feed.specs.Queues.{HasQueue, IsDue, IsQueue}
+use Rattle.fish_feed.specs.Queues.{IsQueue}
 use Rattle.fish_feed.specs.Works.{Pairs}
 use Rattle.fish_feed.specs.declared.queue.Queue.{Queue}
-use Rattle.fish_feed.specs.declared.queue.Todo.{Todo}
 use Rattle.fish_outside.specs.Content.{Files, SameFiles}
 use Rattle.fish_script.specs.Script.{AreFree, is_control}
 use Rattle.fish_script.specs.declared.script.Statement.{Statement}
@@ -21,20 +20,6 @@ module _ {F : Type 0} (left : F → Option (List ℕ)) where
   opened_later old new still (ss ∷ texts) [] h = elim h [ ]
   opened_later old new still (ss ∷ texts) (q ∷ queues) h =
       (queue_later left old new still ss [] q.current q.todos.items h.0, opened_later old new still texts queues h.1)
-
-  -- all of a lane's statements are to be given
-  pub opened : (told : Option Files) (ss : List Statement) (todos : List (Todo F)) → Pairs (IsDue told left) ss todos
-      → HasQueue told left ss [] None todos
-  opened told ss todos h = record {
-    done = [];
-    next = ss;
-    first = [];
-    then = [];
-    statements = refl;
-    works = refl;
-    are = refl;
-    goes = (refl, h);
-  }
 
 -- a statement of free ones is free
 pub free_at : (ss : List Statement) (i : ℕ) (s : Statement) → slice_get ss i ≡ Some s → AreFree ss → is_control s ≡ false

@@ -6,7 +6,6 @@ use Rattle.std.proofs.lemmas.Str.{IsUtf8-from_is_utf8}
 use Rattle.serde_json.specs.Data.{Data}
 use Rattle.serde_json.specs.Read.{read}
 use Rattle.fish_value.specs.Json.{reading}
-use Rattle.fish_value.specs.declared.field.Field.TheVariants.{Missing}
 use Rattle.fish_json.specs.Reading.{at_path, items, items_in, items_of, field, field_in, field_of, if_object, record_of}
 use Rattle.fish_value.specs.Limits.{longest_payload}
 
@@ -21,11 +20,6 @@ pub items_of_record : (b : List ℕ) (path : List (List ℕ)) (d : Data) → rec
     → items b path ≡ items_in path d
 unfolding items items_in
 items_of_record b path d e = ap (λ r. items_of (option_and_then (at_path path) r)) e
-
--- bytes that are no record have nothing at any path
-pub field_of_none : (b : List ℕ) (path : List (List ℕ)) → record_of b ≡ None → field b path ≡ Missing
-unfolding field
-field_of_none b path e = ap (λ r. field_of (option_and_then (at_path path) r)) e
 
 tested : (short text : Bool) (o : Option Data) (d : Data)
     → (if short then option_and_then if_object (if text then o else None) else None) ≡ Some d → text ≡ true

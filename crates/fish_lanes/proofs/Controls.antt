@@ -32,7 +32,6 @@ use Rattle.fish_lanes.specs.declared.work.LaneFault.{LaneFault}
 use Rattle.fish_lanes.specs.declared.work.LaneFault.TheVariants as fault
 use Rattle.fish_lanes.specs.declared.work.Work.{Work}
 use Rattle.fish_lanes.specs.declared.work.Work.TheVariants as work
-use Rattle.fish_lang.specs.declared.definition.Def.{Def}
 use Rattle.fish_registry.specs.Knowing.{Knows}
 use Rattle.fish_registry.specs.declared.registrar.Registrar.{Registrar}
 use Rattle.fish_report.specs.declared.item.Item.{Item}
@@ -297,17 +296,6 @@ pub gained_any : (Past : Whole → Type 0) {E : Type 0} (v t : View) (w : Work) 
     → (count : ℕ) × GainsFirst v t (content_of w) count
 gained_any Past v t w (Ok x) ok err = (count_of x, ok.gained)
 gained_any Past v t w (Err e) ok err = err
-
--- it is one where it neither registers nor ends one
-pub free_of : (w : Work)
-    → ((name : List ℕ) (def : Def) → w ≡ work.Register name def → ⊥)
-    → ((name : List ℕ) → w ≡ work.Deregister name → ⊥) → IsFree w
-free_of (work.Register name def) no_register no_end = absurd (no_register name def refl)
-free_of (work.Deregister name) no_register no_end = absurd (no_end name refl)
-free_of (work.Ingest form begin name file) no_register no_end = tt
-free_of (work.Scan ask) no_register no_end = tt
-free_of (work.Explain ask) no_register no_end = tt
-free_of work.Checkpoint no_register no_end = tt
 
 -- what they answer is answered at the version of the definitions, which the call hasn't changed
 only_version : (u t : View) (r : Registry) (version : ℕ) → r.version ≡ u.learned.version → t.learned.version ≡ u.learned.version

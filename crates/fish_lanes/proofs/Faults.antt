@@ -1,22 +1,17 @@
 -- Why a statement has no item.
-use Rattle.std.proofs.Common.{◌≡◌, ◌≢◌, None, Some, Result, Ok, Err, ◌∙◌, refl}
-use Rattle.std.proofs.lemmas.Option.{same_Some}
+use Rattle.std.proofs.Common.{◌≡◌, None, Result, Ok, Err, refl}
 use Rattle.std.specs.Prelude.{IfErr, IfOk}
 use Rattle.fish_lanes.proofs.Parts.{scan_gains}
-use Rattle.fish_lanes.specs.within.Causes.{fault_of, or_memory, or_stop}
+use Rattle.fish_lanes.specs.within.Causes.{or_memory, or_stop}
 use Rattle.fish_lanes.specs.within.Doing.{IsPart, IsStopped}
 use Rattle.fish_lanes.specs.declared.statements.Stop.{Stop}
 use Rattle.fish_lanes.specs.declared.statements.Stop.TheVariants as stop
-use Rattle.fish_lanes.specs.declared.work.LaneFault.{LaneFault}
-use Rattle.fish_lanes.specs.declared.work.LaneFault.TheVariants as fault
 use Rattle.fish_lanes.specs.declared.work.Work.{Work}
 use Rattle.fish_lanes.specs.declared.work.Work.TheVariants as work
 use Rattle.fish_rule.specs.declared.view.Epoch.TheVariants.{Out}
 use Rattle.fish_rule.specs.declared.view.View.{View}
 use Rattle.fish_scan.specs.Scans.{OnlyScans}
 use Rattle.fish_scan.specs.declared.ask.Ask.{Ask}
-use Rattle.fish_scan.specs.declared.refusal.ScanRefusal.{ScanRefusal}
-use Rattle.fish_scan.specs.declared.refusal.ScanRefusal.TheVariants as refusal
 
 -- ---- without memory
 
@@ -52,14 +47,3 @@ scan_stopped v u ask (Err stop.Older) outside idle only = (ask, refl, only)
 pub other_part : (v u : View) (w : Work) (why : Stop) → ((ask : Ask) → w ≡ work.Scan ask → ⊥) → IsStopped v u w why → IsPart v u w
 other_part v u w stop.Memory no_scan h = h
 other_part v u w stop.Older no_scan h = absurd (no_scan h.0 h.1)
-
--- one that the file stopped has a fault
-pub fault_named : (r : ScanRefusal) (why : LaneFault) → fault_of r ≡ Some why → why ≢ fault.None
-fault_named refusal.DiskFault why is none = (let bad : fault.Disk ≡ fault.None = same_Some fault.Disk why is ∙ none in absurd cc)
-fault_named (refusal.Damaged number) why is none =
-    (let bad : fault.Damaged number ≡ fault.None = same_Some (fault.Damaged number) why is ∙ none in absurd cc)
-fault_named (refusal.UnknownName version) why is none = absurd cc
-fault_named (refusal.EmptyRange from to) why is none = absurd cc
-fault_named (refusal.NotCovered from to) why is none = absurd cc
-fault_named (refusal.ColdRange base) why is none = absurd cc
-fault_named refusal.OutOfMemory why is none = absurd cc

@@ -97,11 +97,6 @@ pub found_full : (u : View) (items : List Item) → HasFound u items → WasShut
 found_full u items (inl h) shut = absurd (not_both u h.0 shut)
 found_full u items (inr h) shut = h.1
 
--- a step that shuts no pass leaves it so
-pub found_on : (u t : View) (items : List Item) → t.shut ≡ u.shut → HasFound u items → HasFound t items
-found_on u t items same (inl h) = inl (same ∙ h.0, h.1)
-found_on u t items same (inr h) = inr ((h.0.0, same ∙ h.0.1), h.1)
-
 found_last : (u : View) (items : List Item) → HasFound u items → AreFullLast items
 found_last u items (inl h) = inl h.1
 found_last u items (inr h) = inr h.1

@@ -32,7 +32,6 @@ use Rattle.fish_rule.specs.declared.view.Shut.{Shut}
 use Rattle.fish_rule.specs.declared.view.View.{View}
 use Rattle.fish_value.specs.declared.field.Form.{Form}
 use Rattle.fish_scan.specs.Scans.{OnlyScans}
-use Rattle.fish_walk.specs.Settling.{OnlySettles}
 
 -- nothing is gained at first
 pub gains_self : (v : View) → v.epoch ≡ Out → v.flight ≡ None → Gains v v []
@@ -117,24 +116,6 @@ gains_scans v u outside idle h = record {
     out = ap (λ (z : View). z.out) h.frame;
   };
   outside = h.outside outside;
-  idle = ap (λ (z : View). z.flight) h.frame ∙ idle;
-  own = ap (λ (z : View). z.own) h.frame ∙ sym (append-nil v.own);
-  ascends = h.learns.count;
-  told = tt;
-  shut = λ s e. ap (λ (z : View). z.shut) h.frame ∙ e;
-  marks = marks_same v u h.learns (ap (λ (z : View). z.shut) h.frame);
-}
-
--- by a call that settles
-pub gains_settles : (v u : View) → v.epoch ≡ Out → v.flight ≡ None → OnlySettles v u → Gains v u []
-gains_settles v u outside idle h = record {
-  on = record {
-    learns = h.learns;
-    clock = h.clock;
-    lane = ap (λ (z : View). z.lane) h.frame;
-    out = ap (λ (z : View). z.out) h.frame;
-  };
-  outside = ap (λ (z : View). z.epoch) h.frame ∙ outside;
   idle = ap (λ (z : View). z.flight) h.frame ∙ idle;
   own = ap (λ (z : View). z.own) h.frame ∙ sym (append-nil v.own);
   ascends = h.learns.count;

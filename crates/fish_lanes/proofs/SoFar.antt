@@ -4,7 +4,7 @@ use Rattle.std.proofs.Common.{Ok, Err, Result, inl, inr, arith, length-append, N
 use Rattle.std.proofs.lemmas.List.{take_more}
 use Rattle.std.specs.Prelude.{IfOk}
 use Rattle.fish_lang.specs.declared.definition.Def.{Def}
-use Rattle.fish_lanes.proofs.Advancing.{answers_more, run_cut, told_fewer, told_more, told_on}
+use Rattle.fish_lanes.proofs.Advancing.{answers_more, run_cut, told_more, told_on}
 use Rattle.fish_lanes.proofs.Controls.{plans_on}
 use Rattle.fish_lanes.proofs.Done.{told_self}
 use Rattle.fish_lanes.proofs.Gaining.{gains_scans, gains_start}
@@ -105,15 +105,6 @@ controlled_fewer P Q u r t s w x fewer h = record {
   tail = h.tail;
   rolls = h.rolls;
   does = h.does;
-}
-
--- so far as it is after some pasts, it is after each of these
-pub far_fewer : (P Q : Whole → Type 0) (v u : View) (works : List Work) (items : List Item) → ((past : Whole) → Q past → P past)
-    → IsSoFar P v u works items → IsSoFar Q v u works items
-far_fewer P Q v u works items fewer h = record {
-  told = told_fewer P Q v u (take (length items) works) (answers items) fewer h.told;
-  said = h.said;
-  few = h.few;
 }
 
 -- ---- steps

@@ -31,11 +31,6 @@ take-token : IsToken (kind.Keyword word.Take)
 unfolding token_of keyword_of condition_word literal_word
 take-token = (codes "take", refl)
 
--- `each` is a token
-each-token : IsToken (kind.Keyword word.Each)
-unfolding token_of keyword_of condition_word literal_word
-each-token = (codes "each", refl)
-
 by-token : IsToken (kind.Keyword word.By)
 unfolding token_of keyword_of condition_word literal_word
 by-token = (codes "by", refl)
@@ -59,10 +54,6 @@ ident-token = (codes "a", refl)
 number-token : IsToken (kind.Number false (Some (pos 1)))
 unfolding token_of keyword_of condition_word literal_word plain_word int_of
 number-token = (codes "1", refl)
-
-dot-token : IsToken kind.Dot
-unfolding token_of sign_token
-dot-token = (codes ".", refl)
 
 close-token : IsToken kind.Close
 unfolding token_of sign_token

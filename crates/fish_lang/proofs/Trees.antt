@@ -163,30 +163,6 @@ completed-before h (in_joint j) a = refl
 completed-before h (behind_and c j) a = simp append_assoc
 completed-before h (under_not k) a = completed-before h k (not_neg a) ∙ simp append_assoc
 
--- the condition that ends with a part of an `or`
-abbrev pub ended : Joint → Conj → Cond
-ended (in_whole w) c = one_conj c
-ended (behind_or a w) c = more_conjs a c
-
-abbrev pub whole_of : Joint → Whole
-whole_of (in_whole w) = w
-whole_of (behind_or a w) = w
-
-pub ended-before : (h : Head) (j : Joint) (c : Conj) → joint_before h j
-    ++ conj_terminals (joint_nesting (joint_state j)) c ≡ whole_before h (whole_of j)
-    ++ cond_terminals (whole_nesting (whole_state (whole_of j))) (ended j c)
-ended-before h (in_whole w) c = refl
-ended-before h (behind_or a w) c = simp append_assoc
-
-pub ended-state : (j : Joint) (c : Conj) → machine.or_with (joint_state j) (conj_formula c)
-    ≡ cond_formula (ended j c)
-ended-state (in_whole w) c = refl
-ended-state (behind_or a w) c = refl
-
-pub whole_of-state : (j : Joint) → machine.whole_of (joint_state j) ≡ whole_state (whole_of j)
-whole_of-state (in_whole w) = refl
-whole_of-state (behind_or a w) = refl
-
 -- a whole derivation round a part, and the tokens after the part
 abbrev pub with_cond : Head → Cond → Derivation
 with_cond (take_when p) c = take_def p (Some c)

@@ -160,24 +160,6 @@ unlinked_key (x ∷ ks) zero k found =
     ap (λ y. Some (alone y)) (same_Some x k found)
 unlinked_key (x ∷ ks) (suc c) k found = unlinked_key ks c k found
 
--- the id in the words of a record's key entry is its key's
-pub entry_id-body : {p : BodyParts} {ws : List ℕ} (c : ℕ) (k : KeyPart) → IsBody p ws →
-    slice_get p.keys c ≡ Some k → entry_id (body_of ws (entry_at c + 1)) ≡ k.id
-entry_id-body {p} {ws} c k h found =
-    entry_id-key c (record k { prev = 0 }) (spelled_body ws h) (unlinked_key p.keys c k found)
-
--- the number in the words of a record's key entry is the record's
-pub entry_number-body : {p : BodyParts} {ws : List ℕ} (c : ℕ) (k : KeyPart) → IsBody p ws →
-    slice_get p.keys c ≡ Some k → entry_number (body_of ws (entry_at c + 1)) ≡ p.number
-entry_number-body {p} {ws} c k h found =
-    entry_number-key c (record k { prev = 0 }) (spelled_body ws h) (unlinked_key p.keys c k found)
-
--- the value's bytes in the words of a record's key entry are its key's
-pub value_in-body : {p : BodyParts} {ws : List ℕ} (c : ℕ) (k : KeyPart) → IsBody p ws →
-    slice_get p.keys c ≡ Some k → value_in (body_of ws) c ≡ value_bytes k.value
-value_in-body {p} {ws} c k h found =
-    value_in-key c (record k { prev = 0 }) (spelled_body ws h) (unlinked_key p.keys c k found)
-
 -- the bucket of a record's key entry is that of its key's hash
 pub bucket_of-body : {p : BodyParts} {ws : List ℕ} (buckets c : ℕ) (k : KeyPart) → IsBody p ws →
     slice_get p.keys c ≡ Some k →

@@ -69,10 +69,6 @@ form_of-void lines h = ap form_of (omega arith) ∙ form_of-header (void_fits li
 pub keys_of-void : (lines : ℕ) → lines < 2 ^ 16 → keys_of (void_word lines) ≡ 0
 keys_of-void lines h = ap keys_of (omega arith) ∙ keys_of-header (void_fits lines h)
 
--- a void's header has no payload
-pub length_of-void : (lines : ℕ) → lines < 2 ^ 16 → length_of (void_word lines) ≡ 0
-length_of-void lines h = ap length_of (omega arith) ∙ length_of-header (void_fits lines h)
-
 -- two forms with one code are one
 pub same_form : (f g : Form) → form_code f ≡ form_code g → g ≡ f
 same_form Json Json e = refl

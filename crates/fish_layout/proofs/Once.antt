@@ -173,10 +173,3 @@ spelled_once {p} {q} {e} sp sq number =
     let hp : IsBody p (body_words p) = record { proper = sp.proper; is = refl } in
     let hq : IsBody q (body_words p) = record { proper = sq.proper; is = spelled_words sp sq } in
     body_once hp hq number
-
--- the numbers that are spelled, where there is a key, are the same
-pub spelled_number : {p q : BodyParts} {e : ℕ → ℕ} → Spells p e → Spells q e → 0 < length p.keys → p.number ≡ q.number
-spelled_number {p} {q} {e} sp sq some =
-    let hp : IsBody p (body_words p) = record { proper = sp.proper; is = refl } in
-    let hq : IsBody q (body_words p) = record { proper = sq.proper; is = spelled_words sp sq } in
-    body_number hp hq some

@@ -43,25 +43,9 @@ spelled_head {p} {e} s = s.words 0 ∙ body_head p
 pub spelled_lines : {p : BodyParts} {e : ℕ → ℕ} → Spells p e → lines_of (e 0) ≡ body_lines p
 spelled_lines {p} {e} s = ap lines_of (spelled_head s) ∙ lines_of-header (header_fits p s.proper)
 
--- the form's code in a record's first word is its own
-pub spelled_form : {p : BodyParts} {e : ℕ → ℕ} → Spells p e → form_of (e 0) ≡ form_code p.form
-spelled_form {p} {e} s = ap form_of (spelled_head s) ∙ form_of-header (header_fits p s.proper)
-
 -- the number of key entries in a record's first word is its own
 pub spelled_keys : {p : BodyParts} {e : ℕ → ℕ} → Spells p e → keys_of (e 0) ≡ length p.keys
 spelled_keys {p} {e} s = ap keys_of (spelled_head s) ∙ keys_of-header (header_fits p s.proper)
-
--- the lane in a record's first word is its own
-pub spelled_lane : {p : BodyParts} {e : ℕ → ℕ} → Spells p e → lane_of (e 0) ≡ p.lane
-spelled_lane {p} {e} s = ap lane_of (spelled_head s) ∙ lane_of-header (header_fits p s.proper)
-
--- the version in a record's first word is its own
-pub spelled_version : {p : BodyParts} {e : ℕ → ℕ} → Spells p e → version_of (e 0) ≡ p.version
-spelled_version {p} {e} s = ap version_of (spelled_head s) ∙ version_of-header (header_fits p s.proper)
-
--- the payload's length in a record's first word is its own
-pub spelled_length : {p : BodyParts} {e : ℕ → ℕ} → Spells p e → length_of (e 0) ≡ length p.payload
-spelled_length {p} {e} s = ap length_of (spelled_head s) ∙ length_of-header (header_fits p s.proper)
 
 -- ---- bodies and what they spell
 

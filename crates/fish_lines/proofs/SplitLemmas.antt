@@ -18,14 +18,6 @@ use Rattle.fish_lines.proofs.PartLemmas.{no_end-front, parts_of_bytes, slice_spl
 
 -- ---- a piece after an open line
 
--- with no LF in all, no part is ended
-pub no_part_ended : (x : List ℕ) (more : List Line) → slice_split is_line_end x ≡ x ∷ []
-    → more ≡ more ++ given_of (ended (slice_split is_line_end x))
-no_part_ended x more h = rw h (sym (append-nil more))
-
-pub last_is_whole : (x : List ℕ) → slice_split is_line_end x ≡ x ∷ [] → last_part (slice_split is_line_end x) ≡ x
-last_is_whole x h = ap last_part h
-
 -- one part in front, and those after it, as lines
 pub given_front : (part rest : List ℕ)
     → given_of (ended (part ∷ slice_split is_line_end rest))

@@ -1,7 +1,7 @@
 -- What is told, through several calls. Where it is told now, it was told all through.
-use Rattle.std.proofs.Common.{◌≡◌, ◌≤◌, ℕ, List, [], ◌++◌, append_assoc, append-nil, length, take, refl, ap, sym, ◌∙◌}
+use Rattle.std.proofs.Common.{◌≡◌, ◌≤◌, ℕ, List, [], ◌++◌, append_assoc, append-nil, length, take, ap, sym, ◌∙◌}
 use Rattle.std.proofs.lemmas.List.{take_all}
-use Rattle.std.specs.Prelude.{Option, Some, None, IsSome}
+use Rattle.std.specs.Prelude.{Option, Some, None}
 use Rattle.fish_outside.specs.Content.{Took, Gained, Files, IsAtEnd, SameFiles}
 use Rattle.fish_outside.specs.within.Reading.{ReadsUpTo}
 
@@ -14,13 +14,6 @@ Took_trans old (Some between) (Some rest) first second a b =
     let same : between ≡ second ++ rest = cc in
     a ∙ ap (λ bytes. Some (first ++ bytes)) same
     ∙ ap (λ bytes. Some bytes) (sym (append_assoc first second rest))
-
--- what is still told was told before
-pub Took_told : (old new : Option (List ℕ)) (bytes : List ℕ) →
-    Took old new bytes → IsSome new → IsSome old
-Took_told old None bytes a told = cc
-Took_told None (Some rest) bytes a told = absurd cc
-Took_told (Some all) (Some rest) bytes a told = refl
 
 -- what was gained in two steps was gained in one
 pub Gained_trans : (old mid new : Option (List ℕ)) (first second : List ℕ) →
@@ -38,25 +31,12 @@ pub Gained_refl : (content : Option (List ℕ)) → Gained content content []
 Gained_refl None = tt
 Gained_refl (Some all) = ap (λ bytes. Some bytes) (append-nil all)
 
--- what is still told was told before
-pub Gained_told : (old new : Option (List ℕ)) (bytes : List ℕ) →
-    Gained old new bytes → IsSome new → IsSome old
-Gained_told old None bytes a told = cc
-Gained_told None (Some all) bytes a told = absurd cc
-Gained_told (Some start) (Some all) bytes a told = refl
-
 -- files that stayed the same through two steps stayed the same
 pub SameFiles_trans : (old mid new : Option Files) →
     SameFiles old mid → SameFiles mid new → SameFiles old new
 SameFiles_trans old mid None a b = tt
 SameFiles_trans old None (Some files) a b = absurd cc
 SameFiles_trans old (Some between) (Some files) a b = a ∙ b
-
--- what is still told was told before
-pub SameFiles_told : (old new : Option Files) → SameFiles old new → IsSome new → IsSome old
-SameFiles_told old None a told = cc
-SameFiles_told None (Some files) a told = absurd cc
-SameFiles_told (Some before) (Some files) a told = refl
 
 -- all that there was is no more than was asked for
 pub reads_all : (old new : Option (List ℕ)) (bytes : List ℕ) (most : ℕ) → length bytes ≤ most → Took old new bytes → IsAtEnd new

@@ -6,8 +6,8 @@ use Rattle.std.proofs.lemmas.List.Elements.{filter_map-append}
 use Rattle.std.proofs.lemmas.Option.{same_Some}
 use Rattle.std.specs.Prelude.{Err, IfOk, IfSome, Ok, Result}
 use Rattle.fish_feed.proofs.Long.{too_long}
-use Rattle.fish_feed.specs.OpenFiles.{GivesPart, IsPartOf, IsRestOf, IsStuck, IsUnread}
-use Rattle.fish_feed.specs.Parts.{longest_in_parts, longest_read}
+use Rattle.fish_feed.specs.OpenFiles.{GivesPart, IsPartOf, IsRestOf, IsStuck}
+use Rattle.fish_feed.specs.Parts.{longest_read}
 use Rattle.fish_feed.specs.declared.part.OpenFile.{OpenFile}
 use Rattle.fish_feed.specs.declared.part.Part.{Part}
 use Rattle.fish_lang.specs.Definition.{definition_of}
@@ -47,25 +47,6 @@ more_accepted xs ys =
     ap length (filter_map-append (λ o. o) xs ys) ∙ length-append (accepted xs) (accepted ys)
 
 module _ {F : Type 0} (left : F → Option (List ℕ)) (s : Select) where
-  -- nothing of the file was read
-  pub selected_none : (o : OpenFile F) (found : Found) → IsUnread s.form (Start s.header) s.file o.feed o
-      → HasFound (definition_of s.def) s.value s.form [] found → found.count + found.refused ≡ 0
-      → HasSelected left (left o.feed) s o found
-  selected_none o found unread none zero = record {
-    before = [];
-    os = [];
-    form_is = unread.form_is;
-    room_is = omega (unread.room_is, arith);
-    found_is = none;
-    few = omega (zero, arith);
-    goes_on = λ more. ap (λ (z : Begin). outcomes_from s.form z more) (sym unread.begin_is);
-    file = by (left o.feed);
-  }
-    where
-      by : (x : Option (List ℕ)) → IfSome x (λ l. x ≡ Some ([] ++ (o.rest ++ l)))
-      by None = tt
-      by (Some l) = ap (λ (z : List ℕ). Some (z ++ l)) (sym unread.rest_is)
-
   module _ (at_first : Option (List ℕ)) (o u : OpenFile F) (found more : Found)
       (h : HasSelected left at_first s o found) where
     -- what is asked, and the records of these lines or rows

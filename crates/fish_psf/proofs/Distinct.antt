@@ -18,10 +18,6 @@ Differ (v ∷ vs) = (list_any (same_value v) vs ≡ false) × Differ vs
 abbrev others : Value → List Value → List Value
 others x vs = filter (λ w. not (same_value x w)) vs
 
--- a value is the same as itself
-itself : (v : Value) → same_value v v ≡ true
-itself v = (same_value-Decides v v).1 refl
-
 -- what is not the same isn't the other way round
 turned_by : (v w : Value) (b : Bool) → same_value w v ≡ b → same_value v w ≡ false → b ≡ false
 turned_by v w true is apart = let same : same_value v w ≡ true = (same_value-Decides v w).1 (sym ((same_value-Decides w v).0 is)) in cc

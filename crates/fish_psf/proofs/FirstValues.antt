@@ -71,11 +71,3 @@ gathered_full views i full =
     ∙ more.1 in
     sym (ap (take most_values) all ∙ take-append-le most_values _ more.0 (omega (arith, full))
     ∙ take_all most_values _ (omega (arith, full)))
-
--- and where no field is left, those that came together are all, if they are at most eight
-pub gathered_all : (views : List FieldView) (i : ℕ) → length views ≤ i → length (gathered (take i views)) ≤ most_values
-    → gathered (take i views) ≡ first_values (map field_seen views)
-unfolding first_values
-gathered_all views i over few =
-    let all = ap (λ (l : List FieldView). gathered l) (take_all i views over) in
-    sym (take_all most_values _ few) ∙ ap (take most_values) all

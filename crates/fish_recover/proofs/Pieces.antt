@@ -44,10 +44,6 @@ little_short i (suc n) (suc m) xs short few =
 pub few_bytes : (n : ℕ) (xs : List ℕ) → n ≡ length xs → n ≤ 8 → little_number n xs ≡ little_number 8 xs
 few_bytes n xs is few = little_short 0 n 8 xs (omega arith) few
 
--- and in none
-pub no_bytes : (xs : List ℕ) → length xs ≡ 0 → 0 ≡ little_number 8 xs
-no_bytes xs none = sym (little_none 0 8 xs (omega arith))
-
 -- the turn that a body says is the number in its second word
 pub turn_read : (slot : ℕ) (c : List ℕ) → little_number 8 (part (body_at slot + 8) 8 c) ≡ turn_of (body_of slot c)
 unfolding turn_of

@@ -3,7 +3,7 @@ use Rattle.std.proofs.Common.{◌≡◌, ℕ, ◌≤◌, List, [], ◌∷◌, in
 use Rattle.fish_catalog.specs.declared.listed.Listed.{Listed}
 use Rattle.fish_registry.specs.Changing.{Changes, HasCounted, IsAtTail, Stays}
 use Rattle.fish_registry.specs.within.Looking.{Looks}
-use Rattle.fish_rule.proofs.laws.Clocks.{later_both, later_noted, later_self, loaded_within, noted_load}
+use Rattle.fish_rule.proofs.laws.Clocks.{later_both, later_noted, loaded_within, noted_load}
 use Rattle.fish_rule.specs.Clocks.{HasLoaded, IsLater}
 use Rattle.fish_rule.specs.RegistrySteps.{after_load_version}
 use Rattle.fish_rule.specs.Epochs.{confirmed}
@@ -130,10 +130,6 @@ learns_changes v u h =
       unended = λ x m. m;
       opens = h.opens;
     })
-
--- a view stays itself
-pub stays_self : (v : View) → Stays v v
-stays_self v = record { frame = refl; clock = later_self v.clock; loads = refl }
 
 -- the control pass, which is out, finds the version that it knows, and nothing else changes
 pub stays_version : (v u : View) (x : ℕ) → v.epoch ≡ Out → x ≡ v.learned.version → u ≡ after_load_version v x → Stays v u

@@ -16,10 +16,6 @@ use Rattle.fish_rule.specs.declared.view.Noted.TheVariants.{Epoch}
 use Rattle.fish_rule.specs.declared.view.Round.{Round}
 use Rattle.fish_rule.specs.declared.view.View.{View}
 
--- a view has looked at no lane since itself
-pub looks_self : (v : View) → Looks v v
-looks_self v = record { frame = refl; clock = later_self v.clock; loads = refl }
-
 module _ (v u z : View) (w : Waiting) (l x : ℕ) (looks : Looks v u) (is : z ≡ after_check_lane u l x) where
   clock_is : z.clock ≡ Rattle.fish_rule.specs.SpaceSteps.noted u.clock (Epoch l) x
   clock_is = ap (λ (y : View). y.clock) is

@@ -15,16 +15,6 @@ pub Passes_wait : (content : Option (List ℕ)) (waiting left text : List ℕ) �
     → Passes content content waiting left text
 Passes_wait content waiting left text h = record { sent = []; gained = Gained_refl content; all = h }
 
--- nothing more waits
-pub Passes_none : (content : Option (List ℕ)) (waiting : List ℕ) → Passes content content waiting waiting []
-Passes_none content waiting = Passes_wait content waiting waiting [] (sym (append-nil waiting))
-
--- all that waited was written
-pub Passes_sent : (old new : Option (List ℕ)) (waiting left : List ℕ) → Gained old new waiting → left ≡ []
-    → Passes old new waiting left []
-Passes_sent old new waiting left gained none =
-    record { sent = waiting; gained = gained; all = ap (λ t. waiting ++ t) none }
-
 -- a first part of what waited was written
 pub PassesPart_sent : (old new : Option (List ℕ)) (waiting : List ℕ) → GainedPart old new waiting
     → PassesPart old new waiting []
@@ -73,10 +63,6 @@ PassesPart_trans old mid new waiting between first second a part =
 -- a part of nothing but what waited is a first part of it
 front-of : (sent left text : List ℕ) → sent ++ left ≡ text → take (length sent) text ≡ sent
 front-of sent left text h = grind (arith, common_steps)
-
--- where nothing waited and nothing is left, the whole text was written
-pub Gained_all : (old new : Option (List ℕ)) (text : List ℕ) → Passes old new [] [] text → Gained old new text
-Gained_all old new text a = subst (Gained old new) (sym (append-nil a.sent) ∙ a.all) a.gained
 
 pub GainedPart_all : (old new : Option (List ℕ)) (text : List ℕ) → PassesPart old new [] text → GainedPart old new text
 GainedPart_all old new text part =

@@ -18,7 +18,7 @@ use Rattle.fish_rule.specs.Logs.{Learns}
 use Rattle.fish_feed.proofs.Lists.{get_at, pairs_length, pairs_map, pairs_push, take_length}
 use Rattle.fish_run.proofs.Tables.{renewed_any, renewed_join}
 use Rattle.fish_run.proofs.Turns.{behind_next, cut_join, first_on, rounds_both, rounds_first}
-use Rattle.fish_run.proofs.Works.{done_later, first_later}
+use Rattle.fish_run.proofs.Works.{done_later}
 use Rattle.fish_run.proofs.Written.{gained_none, part_then, part_whole, written_both}
 use Rattle.fish_run.specs.Blocks.{Block, Round, rounds_of, with_cut}
 use Rattle.fish_run.specs.Ran.{AreFirst, AreNextOf, IsBlockOf}
@@ -53,12 +53,6 @@ refused_more : (blocks : List Block) (b : Block)
     → are_refused (blocks ++ b ∷ []) ≡ are_refused blocks || said_refused (block_said b.rounds)
 refused_more blocks b = list_any-append (λ (x : Block). said_refused (block_said x.rounds)) blocks (b ∷ [])
     ∙ ap (λ z. are_refused blocks || z) (or_none (said_refused (block_said b.rounds)))
-
--- rounds over files that are still told
-pub rounds_later : (old new : Option Files) → SameFiles old new → (s : script.Block) (rounds : List Round)
-    → AreRounds old s.lanes rounds → AreRounds new s.lanes rounds
-rounds_later old new still s [] h = tt
-rounds_later old new still s (a ∷ rounds) h = (h.0, first_later old new still s.lanes (given_in (a ∷ rounds)) h.1)
 
 block_later : (old new : Option Files) → SameFiles old new → (s : script.Block) (b : Block) → IsBlockOf old s b → IsBlockOf new s b
 block_later old new still s b h = record {

@@ -21,13 +21,6 @@ use Rattle.fish_run.specs.declared.fault.RunFault.{RunFault}
 use Rattle.fish_run.specs.declared.fault.RunFault.TheVariants as fault
 use Rattle.fish_whole.specs.Whole.{Whole}
 
--- a lane that stopped at no fault
-pub no_fault : (f : LaneFault) → lane_fault f ≡ None → f ≡ cause.None
-no_fault cause.None is = refl
-no_fault cause.Memory is = absurd cc
-no_fault cause.Disk is = absurd cc
-no_fault (cause.Damaged n) is = absurd cc
-
 -- that of the output, of a lane or of a checkpoint is none of the input
 pub write_other : (r : WriteRefusal) → write_fault r ≢ fault.Input
 write_other write.Failed is = absurd cc
@@ -58,10 +51,6 @@ lane_no_output (cause.Damaged n) is = absurd cc
 pub feed_no_disk : (r : FeedRefusal) → feed_fault r ≢ fault.Disk
 feed_no_disk feed.Failed is = absurd cc
 feed_no_disk feed.OutOfMemory is = absurd cc
-
-pub write_no_disk : (r : WriteRefusal) → write_fault r ≢ fault.Disk
-write_no_disk write.Failed is = absurd cc
-write_no_disk write.OutOfMemory is = absurd cc
 
 -- it is never one of the output or of the disk, and one of the input only where a read failed
 pub feed_no_output : (r : FeedRefusal) → feed_fault r ≢ fault.Output

@@ -3,7 +3,7 @@ use Rattle.std.proofs.Common.{◌≡◌, ℕ, ◌+◌, ◌^◌, ◌<◌, ◌≤�
 use Rattle.std.proofs.Common.{sym, ap, ◌∙◌, subst, inl, ⊎_elim, true, arith}
 use Rattle.std.proofs.Math.Decide.{dec_lt}
 use Rattle.std.proofs.Common.{All, None, Option, Some, Result, Ok, Err, slice_get}
-use Rattle.std.specs.Prelude.{IfErr, OnOk}
+use Rattle.std.specs.Prelude.{IfErr}
 use Rattle.std.specs.Result.{IsErrAnd}
 use Rattle.fish_catalog.specs.Clamps.{clamped}
 use Rattle.fish_catalog.specs.Listing.{listed_of}
@@ -402,11 +402,6 @@ go_whole images disk s v r lanes end whole can again below ends has some table =
 -- an answer is no error
 pub no_err : {A E : Type 0} (r : Result A E) (x : A) (e : E) → r ≡ Ok x → r ≡ Err e → ⊥
 no_err r x e a b = (let bad : Ok x ≡ Err e = sym a ∙ b in cc)
-
--- what three clauses say where there is an answer
-pub ok_all : {A E P Q S T : Type 0} (r : Result A E) → (P → Q → S → T) → OnOk r P → OnOk r Q → OnOk r S → OnOk r T
-ok_all (Ok x) f p q s = f p q s
-ok_all (Err e) f p q s = p
 
 -- an error that is known
 pub err_known : {T E : Type 0} (r : Result T E) (P : E → Type 0) (x : E) → IsErrAnd r (λ e. e ≡ x) → P x → IfErr r P

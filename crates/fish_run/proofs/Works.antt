@@ -1,9 +1,9 @@
 -- Lanes and what they are given, over files that are still told.
-use Rattle.std.proofs.Common.{◌≡◌, ℕ, zero, suc, ◌+◌, ◌<◌, ◌≤◌, List, [], ◌∷◌, ◌++◌, length, refl, sym, ◌∙◌, subst, arith}
+use Rattle.std.proofs.Common.{◌≡◌, ℕ, zero, suc, ◌+◌, ◌<◌, ◌≤◌, List, [], ◌∷◌, length, refl, sym, ◌∙◌, subst, arith}
 use Rattle.std.proofs.Common.{All, None, Option, Some, append-nil, false, inl, slice_get, true}
 use Rattle.fish_feed.proofs.Queues.{dones_later}
 use Rattle.fish_feed.specs.Queues.{AreIdle, IsGiven, IsQueue, LanesMayDo, MayDoAll, MayEnd}
-use Rattle.fish_feed.specs.Works.{AreDone, AreFirstOf, Pairs, Triples}
+use Rattle.fish_feed.specs.Works.{AreDone, Pairs, Triples}
 use Rattle.fish_feed.specs.declared.queue.Queue.{Queue}
 use Rattle.fish_lanes.specs.Blocks.{AreLanes, IsNewLane}
 use Rattle.fish_lanes.specs.Registering.{IsAcceptable}
@@ -31,11 +31,6 @@ pub done_later : (old new : Option Files) → SameFiles old new → (texts : Lis
     → Pairs (AreDone old) texts given → Pairs (AreDone new) texts given
 done_later old new still texts given h =
     pairs_map (AreDone old) (AreDone new) (λ ss ws k. dones_later old new still ss ws k) texts given h
-
-pub first_later : (old new : Option Files) → SameFiles old new → (texts : List (List Statement)) (given : List (List Work))
-    → Pairs (AreFirstOf old) texts given → Pairs (AreFirstOf new) texts given
-first_later old new still texts given h =
-    pairs_map (AreFirstOf old) (AreFirstOf new) (λ ss ws k. (k.0, dones_later old new still ss (ws ++ k.0) k.1)) texts given h
 
 -- ---- queues
 

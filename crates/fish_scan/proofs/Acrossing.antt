@@ -1,5 +1,5 @@
 -- What was read on both sides of the base is an answer.
-use Rattle.std.proofs.Common.{◌≡◌, ℕ, ◌≤◌, List, [], ◌++◌, min, refl, sym, ap, ◌∙◌, subst, arith}
+use Rattle.std.proofs.Common.{◌≡◌, ℕ, ◌≤◌, List, [], ◌++◌, min, sym, ap, ◌∙◌, subst, arith}
 use Rattle.std.specs.Prelude.{Option}
 use Rattle.fish_cold.specs.within.Caching.{IsUndamaged}
 use Rattle.fish_cold.specs.Carries.{CarriesTable}
@@ -161,8 +161,3 @@ pub sound_of : (e : ColdRefusal) → IsUndamaged e → IsUndamagedScan (refusal_
 sound_of cold.DiskFault h = tt
 sound_of (cold.Damaged n) h = h
 sound_of cold.OutOfMemory h = tt
-
-pub fault_of : (e : ColdRefusal) → refusal_of e ≡ refusal.DiskFault → e ≡ cold.DiskFault
-fault_of cold.DiskFault is = refl
-fault_of (cold.Damaged n) is = absurd cc
-fault_of cold.OutOfMemory is = absurd cc

@@ -2,7 +2,6 @@
 use Rattle.std.proofs.Common.{◌≡◌, ℕ, ◌-◌, ◌<◌, ◌≤◌, zero, suc, List, [], ◌∷◌, ◌++◌, refl, sym, ap, ◌∙◌, subst, ⊎_elim, inl}
 use Rattle.std.proofs.Common.{inr, arith, Some, None, Option, slice_get, Bool, true, false, cond, nat_lt, Result, Ok, Err}
 use Rattle.std.specs.Prelude.{IfErr, IfOk}
-use Rattle.std.specs.Result.{IsErrAnd}
 use Rattle.std.proofs.Math.ListN.{get_or}
 use Rattle.std.proofs.lemmas.Option.{get_or_from_slice_get, same_Some}
 use Rattle.fish_catalog.specs.declared.interval.Interval.{Interval}
@@ -351,11 +350,6 @@ pub err_gives : {A E : Type 0} (P Q : E → Type 0) (r : Result A E) → IfErr r
 err_gives P Q (Ok x) h f = tt
 err_gives P Q (Err e) h f = f e h
 
--- a refusal that comes of another
-pub errs : {A E : Type 0} (P Q : E → Type 0) (r : Result A E) → IsErrAnd r P → ((e : E) → P e → Q e) → IfErr r Q
-errs P Q (Ok x) h f = tt
-errs P Q (Err e) h f = f e h
-
 -- ---- what was planned
 
 -- what stands at the place of a row
@@ -363,24 +357,6 @@ pub row_found : (rows got : List Listed) (position : ℕ) (listed other : Listed
     → slice_get rows position ≡ Some listed → get_or got position other ≡ listed
 row_found rows got position listed other same there =
     get_or_from_slice_get got position listed other (ap (λ (z : List Listed). slice_get z position) same ∙ there)
-
--- a scan has planned what it reaches
-pub planned_at : (v u t : View) (known : Known) (ask : Ask) (position : ℕ) (reach : Reach) (plan : List Piece)
-    (asked : IsAsked v u known ask position) → OnlyScans u t → IsReach v t (first_asked ask) ask.to reach
-    → IsPlan v t (rows_of known) asked.named.newest.listed.def ask.how reach.from reach.settled reach.to plan
-    → IsPlanned v t known ask reach.from reach.to reach.opens plan
-unfolding asked_later
-planned_at v u t known ask position reach plan asked more reached is = record {
-  position = position;
-  asked = asked_later v u t known ask position more asked;
-  range = reached.range;
-  settled = reach.settled;
-  stops_at = reached.stops_at;
-  least = reached.settled;
-  most = reached.reaches;
-  exact = reached.exact;
-  plan_is = is;
-}
 
 -- and planned what reads it
 pub planned_scan_at : (v u t : View) (known : Known) (ask : Ask) (position : ℕ) (reach : Reach) (plan : List Piece) (p : PlannedScan)

@@ -7,7 +7,7 @@ use Rattle.fish_catalog.specs.Listing.{IsListing}
 use Rattle.fish_catalog.specs.declared.interval.Interval.{Interval}
 use Rattle.fish_catalog.specs.declared.listed.Listed.{Listed}
 use Rattle.fish_rule.proofs.laws.Lists.{among_left, among_right}
-use Rattle.fish_rule.proofs.laws.Learning.{extends_both, extends_self}
+use Rattle.fish_rule.proofs.laws.Learning.{extends_both}
 use Rattle.fish_rule.proofs.laws.Intervals.{intervals_stay}
 use Rattle.fish_rule.specs.BoundarySteps.{after_load_boundary, end_told, with_boundary}
 use Rattle.fish_rule.specs.Logs.{Learns}
@@ -31,10 +31,6 @@ boundaries_both a b c h g = record {
   count = g.count ∙ h.count;
   loads = g.loads ∙ h.loads;
 }
-
--- or none were
-pub boundaries_self : (v : View) → OnlyBoundaries v v
-boundaries_self v = record { extends = extends_self v; settled = refl; count = refl; loads = refl }
 
 -- a row of whose index no beginning is found was known to have none
 pub unbegun_found : (v : View) (id x : ℕ) → ((y : RegistryWord) → Among y v.learned.words → y.index ≡ row_at id 0
@@ -110,15 +106,6 @@ pub record AreSoFar (v u : View) (rows : List Listed) (text : List ℕ) (upto : 
       → (from : ℕ) → Among (record { index = row_at id 0; value = suc from }) v.learned.words
       → (x : Interval) × Among x intervals × (x.id ≡ id)
   pub ended : (x : Interval) → Among x intervals → HasEndKnown v x.id x
-
--- none of no row
-pub so_far_none : (v : View) (rows : List Listed) (text : List ℕ) (intervals : List Interval) → intervals ≡ []
-    → AreSoFar v v rows text 0 intervals
-so_far_none v rows text intervals none = subst (AreSoFar v v rows text 0) (sym none) (record {
-  each = λ x among. elim among [ ];
-  known = λ id row below. absurd (omega arith);
-  ended = λ x among. elim among [ ];
-})
 
 -- all of all rows
 pub so_far_all : (v u : View) (rows : List Listed) (text : List ℕ) (upto : ℕ) (intervals : List Interval)

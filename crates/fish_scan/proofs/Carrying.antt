@@ -1,12 +1,11 @@
 -- A disk that carries a table carries it while only pages are read.
 use Rattle.std.proofs.Common.{◌≡◌, ℕ, List, refl, sym, ap, ◌∙◌, subst, arith}
-use Rattle.std.specs.Prelude.{Option, Some, None, IfSome, Result, Ok, Err, OnErr, OnOk}
-use Rattle.fish_cold.specs.Cached.{IsHeld, IsReadFrom, Looks, ReadsAtMost, Uses}
+use Rattle.std.specs.Prelude.{Option, Some, None, IfSome, Result}
+use Rattle.fish_cold.specs.Cached.{IsReadFrom, ReadsAtMost}
 use Rattle.fish_cold.specs.Carries.{CarriesTable}
 use Rattle.fish_cold.specs.declared.cold.Cold.{Cold}
 use Rattle.fish_cold.specs.declared.refusal.ColdRefusal.{ColdRefusal}
 use Rattle.std.proofs.lemmas.Option.{same_Some}
-use Rattle.fish_cold.specs.declared.page.Page.{Page}
 use Rattle.fish_disk.proofs.Moments.{leaves_more, leaves_none, leaves_then}
 use Rattle.fish_disk.specs.Content.{StillReads}
 use Rattle.fish_disk.specs.declared.disk.Disk.{Ghosts as Disks}
@@ -102,29 +101,6 @@ module _
     crash = h.outside.crash;
     later = h.cause.later;
   }
-
-  pub stays_looks : {T : Type 0} (number : ℕ) (a b : Cold) (d e : D) (r : Result T ColdRefusal)
-      → Looks disks number a b d e r → StaysCold disks a b d e
-  stays_looks number a b d e r h = record {
-    base = base r h.used h.refused;
-    starts = starts r h.used h.refused;
-    kept = h.kept;
-    content_is = h.outside.content_is;
-    crash = h.outside.crash;
-    later = h.cause.later;
-  }
-    where
-      base : {T : Type 0} (r : Result T ColdRefusal) → OnOk r ((page : Page)
-          × IsHeld a number page × Uses number page a b)
-          → OnErr r (b ≡ a) → b.base ≡ a.base
-      base (Ok x) used refused = used.2.base
-      base (Err x) used refused = ap (λ (z : Cold). z.base) refused
-
-      starts : {T : Type 0} (r : Result T ColdRefusal) → OnOk r ((page : Page)
-          × IsHeld a number page × Uses number page a b)
-          → OnErr r (b ≡ a) → b.starts ≡ a.starts
-      starts (Ok x) used refused = used.2.starts
-      starts (Err x) used refused = ap (λ (z : Cold). z.starts) refused
 
   -- at an earlier step the disk carried the table
   abbrev pub back : {k : Key} {cold : Cold} (b c : Cold) (e f : D) → StaysCold disks b c e f

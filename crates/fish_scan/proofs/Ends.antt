@@ -6,7 +6,7 @@ use Rattle.std.proofs.Math.ListN.{get_or}
 use Rattle.std.proofs.lemmas.Option.{slice_get-get_or}
 use Rattle.fish_rule.proofs.laws.Alone.{alone_later}
 use Rattle.fish_rule.proofs.laws.Learning.{learns_self}
-use Rattle.fish_rule.specs.Logs.{Learns, KnowsMark}
+use Rattle.fish_rule.specs.Logs.{KnowsMark}
 use Rattle.fish_rule.specs.Parts.{IsEntryWord, Rests}
 use Rattle.fish_rule.specs.LoadSteps.{IsAlone}
 use Rattle.fish_rule.specs.Regions.{code}
@@ -14,15 +14,14 @@ use Rattle.fish_rule.specs.Table.{Stands}
 use Rattle.fish_rule.specs.Views.{Among}
 use Rattle.fish_rule.specs.ChainFacts.{Always}
 use Rattle.fish_rule.specs.World.{high, low}
-use Rattle.fish_rule.specs.declared.view.Key.{Key}
 use Rattle.fish_rule.specs.declared.view.Kind.TheVariants.{Mark, Stored, Void}
 use Rattle.fish_rule.specs.declared.view.View.{View}
 use Rattle.fish_scan.proofs.Reaching.{found_word}
 use Rattle.fish_scan.specs.Reach.{IsExact, end_of}
 use Rattle.fish_scan.specs.within.Reach.{AreLooks, IsCut}
 use Rattle.fish_walk.proofs.Looking.{ends_later}
-use Rattle.fish_walk.specs.Looks.{IsLookAt, IsTailCount, KnowsEntry, with_look}
-use Rattle.fish_walk.specs.Settling.{EndsAt, HasTail, IsEnd, OnlySettles, StopsAt}
+use Rattle.fish_walk.specs.Looks.{IsLookAt, IsTailCount, with_look}
+use Rattle.fish_walk.specs.Settling.{EndsAt, HasTail, OnlySettles}
 use Rattle.fish_walk.specs.within.Settling.{OnlyLooks}
 use Rattle.fish_walk.specs.declared.outcome.Look.{Look}
 use Rattle.fish_walk.specs.declared.outcome.Look.TheVariants as look
@@ -179,37 +178,3 @@ module _ (a b c d : View) (from : ℕ) (to : Option ℕ) (settled count base sto
           pick (yes behind) = ⊎_elim (λ (e : settled ≡ count). absurd (let i = inside in omega arith))
               (λ (m : (settled < count) × KnowsMark c settled).
               let most = alone_cut alone_b behind (subst (KnowsMark c) (sym above) m.1) in let same = above in absurd (omega arith)) at_c
-
--- ---- for callers
-
--- a plan's settled number isn't below a number up to which the pass knew all of the log as it was asked
-pub settled_least : (v u : View) (n count settled : ℕ) → StopsAt IsEnd v u settled count → v.learned.count ≤ count
-    → n ≤ v.learned.count → v.about.number ≤ settled → ((m : ℕ) → v.about.number ≤ m → m < n → KnowsEntry v m) → n ≤ settled
-settled_least v u n count settled (inl e) known less above all = omega arith
-settled_least v u n count settled (inr h) known less above all = pick (dec_lt settled n)
-  where
-    pick : Dec (settled < n) → n ≤ settled
-    pick (no more) = omega arith
-    pick (yes short) = absurd (h.unknown (all settled above short))
-
--- the log ends at one number, while as many are claimed
-pub end_once : (v u : View) (n m count : ℕ) → Stands u → Learns v u → u.about.number ≤ n → n ≤ v.learned.settled
-    → v.learned.settled ≤ m → m ≤ u.learned.settled → EndsAt v n count → EndsAt u m count → m ≡ n
-end_once v u n m count s learns above known least most one other = pick (dec_lt n m)
-  where
-    pick : Dec (n < m) → m ≡ n
-    pick (no not_less) = omega arith
-    pick (yes less) = ⊎_elim (λ (e : n ≡ count). (let within = ends_within u m count other in absurd (omega arith)))
-        (λ (mark : (n < count) × KnowsMark v n). absurd (let floor = s.rule.floors s.seat u s.at in
-        (s.rule.settling.below n above (omega arith)).unmarked (mark.1 u learns s.moment s.rule s.seat s.at))) one
-
--- so a pass that was alone, and knew where the log ends, has reached all up to there that it was asked for
-pub exact_end : (v u : View) (to : Option ℕ) (n known count settled last : ℕ) (opens : List ℕ) → Stands u → Learns v u
-    → v.about.number ≤ n → n ≤ v.learned.settled → v.learned.settled ≤ settled → settled ≤ u.learned.settled
-    → HasTail v known → EndsAt v n known → IsExact v u to count settled last opens → last ≡ end_of to n
-exact_end v u to n known count settled last opens s learns above before least most tail ends exact =
-    let at_tail : high tail.0 ≡ count = subst (IsTailCount count) tail.1 exact.counted in
-    let same : known ≡ count = sym tail.2 ∙ at_tail in
-    let about = ap (λ (z : Key). z.number) learns.about in
-    exact.last_is ∙ ap (end_of to) (end_once v u n settled count s learns (omega arith) before least most
-    (subst (EndsAt v n) same ends) exact.ends)

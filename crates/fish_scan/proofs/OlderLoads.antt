@@ -57,14 +57,6 @@ module _ {image : List ℕ} {count : ℕ} {end : Reached} (prior : IsPrior image
   pub older_full_none : (n : ℕ) → IsOlderFullAllowed prior n n 0
   older_full_none n = record { records = []; are = omega arith; few = omega arith }
 
-  -- a number below, which is no record
-  pub older_full_void : (n to most : ℕ) → IsOlderFullAllowed prior (n + 1) to most → IsOlderFullAllowed prior n to most
-  older_full_void n to most h = record {
-    records = h.records;
-    are = records_lower n (n + 1) to h.records (omega arith) h.are;
-    few = h.few;
-  }
-
   -- of two ranges that touch
   records_below : (from m n : ℕ) (ps : List BodyParts) → m ≤ n → AreOlderRecords prior from m ps → AreOlderRecords prior from n ps
   records_below from m n [] less h = omega arith

@@ -6,7 +6,6 @@ use Rattle.fish_catalog.specs.declared.entry.Entry.{Entry}
 use Rattle.fish_catalog.specs.declared.entry.Entry.TheVariants.{Stored, Void}
 use Rattle.fish_cold.proofs.Carried.{carried, carried_key, record_there}
 use Rattle.fish_cold.specs.Answers.{Answers, IsDamageOf, LoadsWords, Walks}
-use Rattle.fish_cold.specs.within.Answers.{IsReadingOf}
 use Rattle.fish_cold.specs.Cached.{HasNodeOn, HasRegion, IsReadFrom, words_on}
 use Rattle.fish_cold.specs.Chains.{IsKeyAt}
 use Rattle.fish_cold.specs.within.Caching.{IsUndamaged}
@@ -19,7 +18,6 @@ use Rattle.fish_layout.proofs.Outlines.{body_length}
 use Rattle.fish_layout.specs.Body.{body_lines}
 use Rattle.fish_layout.specs.declared.parts.BodyParts.{BodyParts}
 use Rattle.fish_layout.specs.declared.parts.KeyPart.{KeyPart}
-use Rattle.fish_outside.specs.Causes.{Rose}
 use Rattle.fish_rule.specs.declared.view.Key.{Key}
 use Rattle.fish_scan.proofs.Carrying.{of_told}
 use Rattle.fish_scan.proofs.OlderLoads.{older_full_both, older_full_none, older_full_one, older_full_other}
@@ -56,22 +54,11 @@ damage_of from to n (Damaged m) least most h = (omega arith, omega arith)
 damage_of from to n DiskFault least most h = omega arith
 damage_of from to n OutOfMemory least most h = tt
 
-pub damage_reading : (from to n : ℕ) (e : ColdRefusal) → from ≤ n → n ≤ to → IsReadingOf n e → IsDamageIn from to e
-damage_reading from to n (Damaged m) least most h = (omega arith, omega arith)
-damage_reading from to n DiskFault least most h = absurd h
-damage_reading from to n OutOfMemory least most h = tt
-
 -- damage in a range is in a larger one
 pub damage_wider : (a b c d : ℕ) (e : ColdRefusal) → c ≤ a → b ≤ d → IsDamageIn a b e → IsDamageIn c d e
 damage_wider a b c d (Damaged m) least most h = (let x = h.0 in let y = h.1 in (omega arith, omega arith))
 damage_wider a b c d DiskFault least most h = omega arith
 damage_wider a b c d OutOfMemory least most h = tt
-
--- words that were read are no fault
-pub reading_fault : (n before now : ℕ) (e : ColdRefusal) → IsReadingOf n e → e ≡ DiskFault → Rose before now
-reading_fault n before now (Damaged m) h is = absurd cc
-reading_fault n before now DiskFault h is = absurd h
-reading_fault n before now OutOfMemory h is = absurd cc
 
 -- what an error is that came of another
 pub err_as : {T E : Type 0} (r : Result T E) (P : E → Type 0) (x : E) → IsErrAnd r (λ e. e ≡ x) → P x → IfErr r P

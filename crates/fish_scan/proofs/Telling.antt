@@ -1,5 +1,5 @@
 -- What an entry that was told says of a record, and of its match.
-use Rattle.std.proofs.Common.{◌≡◌, ◌≢◌, ℕ, ◌+◌, ◌<◌, ◌≤◌, suc, List, [], ◌∷◌, ◌++◌, refl, sym, ap, ◌∙◌, subst, inl, inr, arith}
+use Rattle.std.proofs.Common.{◌≡◌, ◌≢◌, ℕ, ◌+◌, ◌≤◌, suc, List, [], ◌∷◌, ◌++◌, refl, sym, ap, ◌∙◌, subst, arith}
 use Rattle.std.proofs.Common.{Some, None, append-nil, append_assoc}
 use Rattle.std.specs.Prelude.{IsTrue}
 use Rattle.fish_catalog.specs.declared.entry.Entry.{Entry}
@@ -8,12 +8,11 @@ use Rattle.fish_lang.specs.Definition.{Definition}
 use Rattle.fish_layout.proofs.Once.{spelled_once}
 use Rattle.fish_layout.specs.declared.parts.BodyParts.{BodyParts}
 use Rattle.fish_psf.specs.Records.{Gives, is_record}
-use Rattle.fish_rule.proofs.laws.Learning.{learns_both, learns_self}
+use Rattle.fish_rule.proofs.laws.Learning.{learns_self}
 use Rattle.fish_rule.proofs.laws.Moments.{stored_parts}
 use Rattle.fish_rule.proofs.laws.Lists.{all_among}
 use Rattle.fish_rule.specs.Facts.{IsFound}
 use Rattle.fish_rule.specs.Logs.{IsEntry, Learns, KnowsAs}
-use Rattle.fish_rule.specs.LoadSteps.{after_look_at}
 use Rattle.fish_rule.specs.Regions.{code}
 use Rattle.fish_rule.specs.Table.{Stands}
 use Rattle.fish_rule.specs.Views.{Among}
@@ -23,11 +22,10 @@ use Rattle.fish_rule.specs.declared.view.View.{View}
 use Rattle.fish_scan.proofs.Finding.{finds_both, finds_later, finds_none, finds_one, finds_open, finds_other, told_other, told_void}
 use Rattle.fish_scan.specs.Matching.{Finds}
 use Rattle.fish_scan.specs.within.Reading.{Adds, IsMatching, IsParsable}
-use Rattle.fish_chain.proofs.Comparing.{given_later, looked}
 use Rattle.fish_chain.specs.Values.{IsGiven}
 use Rattle.fish_chain.specs.declared.walk.Node.{Node}
 use Rattle.fish_rule.specs.ChainFacts.{Always}
-use Rattle.fish_walk.specs.Looks.{HasFound, IsEntryLook, IsLookAt}
+use Rattle.fish_walk.specs.Looks.{IsLookAt}
 use Rattle.fish_walk.specs.declared.outcome.Look.{Look}
 use Rattle.fish_walk.specs.declared.outcome.Look.TheVariants as look
 use Rattle.fish_value.specs.declared.field.Form.{Form}
@@ -135,22 +133,6 @@ adds_both v def value from mid to opens before between after less more h g = (
 )
 
 -- ---- records of settled numbers
-
--- a settled number at which a record stands was found to be one
-pub settled_stored : (u : View) (n : ℕ) (r : Look) → Stands u → IsLookAt u n r → IsEntryLook r
-    → Always u (λ k w. high (w.dir n) ≡ code Stored) → HasFound u n Stored
-settled_stored u n look.Stored s h entry_look stored = h
-settled_stored u n look.Void s (f, among, number, is) entry_look stored =
-    let found = all_among (IsFound u.about s.moment.count s.moment.dir s.rule.start) f u.learned.found
-    (s.rule.facts s.seat u s.at).found among in
-    let void : high (s.moment.dir n) ≡ code Void =
-    subst (λ (z : ℕ). high (s.moment.dir z) ≡ code Void) number (found.kind ∙ ap code is) in
-    let is_stored = stored u (learns_self u) s.moment s.rule s.seat s.at in
-    absurd (omega arith)
-settled_stored u n look.Unfinished s h (inl e) stored = cc
-settled_stored u n look.Unfinished s h (inr e) stored = cc
-settled_stored u n look.Overflow s h (inl e) stored = cc
-settled_stored u n look.Overflow s h (inr e) stored = cc
 
 -- and no void was told of it
 pub stored_told : (u : View) (n : ℕ) → Stands u → KnowsAs u n entry.Void → ¬ Always u (λ k w. high (w.dir n) ≡ code Stored)

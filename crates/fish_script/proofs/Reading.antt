@@ -1,14 +1,13 @@
 -- A text while its lines are read.
-use Rattle.std.proofs.Common.{◌≡◌, ℕ, suc, ◌+◌, ◌≤◌, List, [], ◌∷◌, ◌++◌, inl, inr, refl, sym, ap, subst, ◌∙◌, arith}
+use Rattle.std.proofs.Common.{◌≡◌, ℕ, suc, ◌+◌, ◌≤◌, List, [], ◌∷◌, ◌++◌, inr, refl, sym, ap, subst, ◌∙◌, arith}
 use Rattle.std.proofs.Common.{length, append_assoc, length-append}
 use Rattle.std.specs.Prelude.{Result, Ok, Err, IfErr, OnOk}
 use Rattle.std.proofs.lemmas.List.{append-nil}
 use Rattle.fish_script.proofs.Parts.{lines_none}
-use Rattle.fish_script.specs.within.Building.{HasBuilt, IsInside, IsSoFar, IsWritten, TakesLine, UnlessMemory}
+use Rattle.fish_script.specs.within.Building.{IsInside, IsSoFar, IsWritten, TakesLine}
 use Rattle.fish_script.specs.Limits.{longest_script}
 use Rattle.fish_script.specs.Lines.{lines}
-use Rattle.fish_script.specs.Positions.{position_of}
-use Rattle.fish_script.specs.Refusals.{AllSay, IsLineFault, IsRefusal, IsScript, Says, StopsAt}
+use Rattle.fish_script.specs.Refusals.{AllSay, IsRefusal, IsScript, Says}
 use Rattle.fish_script.specs.declared.builder.ScriptBuilder.{ScriptBuilder}
 use Rattle.fish_script.specs.declared.builder.Position.{Position}
 use Rattle.fish_script.specs.declared.builder.Position.TheVariants.{Outside, Inside}
@@ -26,10 +25,6 @@ say_push (a ∷ bs) ws own b h here = (
   say_push bs h.1 own b h.3 here,
   ap (λ (z : List ScriptLine). z ++ own) h.4 ∙ append_assoc h.0 h.1 own,
 )
-
--- nothing is read
-pub none_read : (text : List ℕ) (d : ScriptBuilder) → HasBuilt [] d → IsSoFar text text 0 d
-none_read text d h = record { before = []; splits = refl; count = refl; ws = []; say = refl; builder = h }
 
 -- one line more is read
 pub more_read : (text rest line behind : List ℕ) (number : ℕ) (old new : ScriptBuilder) → IsSoFar text rest number old
@@ -84,37 +79,6 @@ end_refused text rest number d size h none inside = at d.position refl
             ap (λ (n : ℕ). refusal.Unexpected n) count;
       }),
     )
-
--- the text is refused for a line
-pub line_refused : (text rest line behind : List ℕ) (number : ℕ) (d : ScriptBuilder) → length text ≤ longest_script
-    → IsSoFar text rest number d → lines rest ≡ line ∷ lines behind → (e : ScriptRefusal)
-    → UnlessMemory (IsLineFault d.position line (number + 1)) e → IsRefusal text e
-line_refused text rest line behind number d size h split = whole
-  where
-    stops : (e : ScriptRefusal) → IsLineFault d.position line (number + 1) e → StopsAt text e
-    stops e f = record {
-      before = h.before;
-      line = line;
-      behind = lines behind;
-      splits = h.splits ∙ ap (λ (z : List (List ℕ)). h.before ++ z) split;
-      ahead = h.ws;
-      say = h.say;
-      stand = h.builder.stand;
-      fault =
-          let count : number + 1 ≡ suc (length h.before) = omega (arith, h.count) in
-          subst (λ (n : ℕ). IsLineFault (position_of h.ws) line n e) count
-          (subst (λ (p : Position). IsLineFault p line (number + 1) e) (sym h.builder.position) f);
-    }
-
-    whole : (e : ScriptRefusal) → UnlessMemory (IsLineFault d.position line (number + 1)) e → IsRefusal text e
-    whole refusal.OutOfMemory f = tt
-    whole (refusal.TooLong n) f = absurd (elim f.2 [ inl g ↦ (let no = g.1 in cc) | inr g ↦ g.2 ])
-    whole (refusal.NotText n) f = (size, inl (stops (refusal.NotText n) f))
-    whole (refusal.Unexpected n) f = (size, inl (stops (refusal.Unexpected n) f))
-    whole (refusal.Definition n why) f = (size, inl (stops (refusal.Definition n why) f))
-    whole (refusal.ControlInLane n) f = (size, inl (stops (refusal.ControlInLane n) f))
-    whole (refusal.TooManyLanes n) f = (size, inl (stops (refusal.TooManyLanes n) f))
-    whole (refusal.TooManyFeeds n) f = (size, inl (stops (refusal.TooManyFeeds n) f))
 
 -- what the end of the text answers: a script
 pub end_script : {T : Type 0} (r : Result T ScriptRefusal) (text rest : List ℕ) (number : ℕ) (d : ScriptBuilder)

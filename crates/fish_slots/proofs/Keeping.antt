@@ -1,5 +1,5 @@
 -- What the steps of a commit leave of slots and gates, over plain lists of bytes.
-use Rattle.std.proofs.Common.{◌≡◌, ℕ, zero, suc, ◌+◌, ◌-◌, ◌*◌, ◌≤◌, ◌⊎◌, ⊎_elim, inl, inr, List, [], ◌∷◌, length}
+use Rattle.std.proofs.Common.{◌≡◌, ℕ, zero, suc, ◌+◌, ◌*◌, ◌≤◌, ◌⊎◌, ⊎_elim, inl, inr, List, [], ◌∷◌, length}
 use Rattle.std.proofs.Common.{get_or, refl, ap, sym, ◌∙◌, subst, arith}
 use Rattle.std.specs.Prelude.{Option, Some, None, IfSome, Result, Ok, Err, OnOk, unwrap_or}
 use Rattle.fish_disk.specs.Content.{HasWritten, part}
@@ -101,10 +101,6 @@ module _ (images left : List ℕ → Type 0) (s : ℕ) (s_le : s ≤ 1) (synced 
       let gate = torn_apart (gate_at s) 1 (gate_at slot) 1 e c from.2 (gate_apart slot s other) in
       keeps (synced slot e d slot_le from.1 image (sym gate ∙ opened)))
       (same_or_other slot s slot_le s_le)
-
--- the other slot is the other one
-other_slot : (s : ℕ) → s ≤ 1 → s + (1 - s) ≡ 1
-other_slot s s_le = omega (arith, s_le)
 
 -- a gate that is written leaves the other one as it was
 pub other_gate : (t s : ℕ) (images : List ℕ → Type 0) (c : List ℕ) → t + s ≡ 1 →

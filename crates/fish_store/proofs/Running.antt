@@ -20,8 +20,8 @@ use Rattle.fish_rule.specs.declared.view.Key.{Key}
 use Rattle.fish_rule.specs.declared.view.View.{View}
 use Rattle.fish_store.proofs.Kept.{one_prior}
 use Rattle.fish_store.specs.Sound.{GoesOnHere, HasPast, IsImageOf, IsSoundBehind, MayGoOn, Point, Reaches, Rests, Runs, Sound, Stays}
-use Rattle.fish_whole.proofs.Parts.{fits_later, goes_both, goes_later, known_later}
-use Rattle.fish_whole.specs.Whole.{FitsPast, IsKnown, Later, Whole, WillHold}
+use Rattle.fish_whole.proofs.Parts.{fits_later, goes_both, known_later}
+use Rattle.fish_whole.specs.Whole.{IsKnown, Whole}
 
 -- an image stays one of a part of the log
 pub image_on : (past : Whole) (v : View) (next : Whole) (u : View) (least less : ℕ) (c : List ℕ)
@@ -87,31 +87,6 @@ module _
         p.flusher.count)
         (λ c. image_on past q.view past q.view m.flusher.count p.flusher.count c (λ log k. k) up)
         (t.crash past (h.sound past s before) still));
-  }
-
-  -- what goes on in one table goes on, and with it what is told after every past
-  pub runs_here : (p q : Point D) (Q : Whole → Type 0) → GoesOnHere disks p q → Later p.view q.view
-      → ((past : Whole) → FitsPast past p.view → WillHold past q.view Q) → Goes p q Q
-  runs_here p q Q h later told = record {
-    told_before = h.told_before;
-    rises = h.rises;
-    reaches = λ past s still. record {
-      next = past;
-      goes = goes_later past p.view q.view later s.fits;
-      told = told past s.fits;
-      sound = h.sound past s still;
-      crash = h.crash past s still;
-    };
-  }
-
-  -- what is told may be less
-  pub runs_more : (p q : Point D) (P Q : Whole → Type 0) → ((w : Whole) → P w → Q w) → Goes p q P → Goes p q Q
-  runs_more p q P Q weaker h = record {
-    told_before = h.told_before;
-    rises = h.rises;
-    reaches = λ past s still.
-        let a = h.reaches past s still in
-        record { next = a.next; goes = a.goes; told = λ w may. weaker w (a.told w may); sound = a.sound; crash = a.crash };
   }
 
   -- a moment that goes on in one table stays sound after its past, as far as the disk's content is told

@@ -1,14 +1,12 @@
 -- A scan leaves the last commit, and reads pages at most.
-use Rattle.std.proofs.Common.{◌≡◌, ℕ, List, Option, ap, ◌∙◌}
-use Rattle.fish_cold.specs.Carries.{CarriesTable}
+use Rattle.std.proofs.Common.{◌≡◌, ap, ◌∙◌}
 use Rattle.fish_cold.specs.declared.cold.Cold.{Cold}
 use Rattle.fish_disk.specs.declared.disk.Disk.{Ghosts as Disks}
 use Rattle.fish_rule.specs.Logs.{Learns}
 use Rattle.fish_rule.specs.declared.table.Base.{Base}
 use Rattle.fish_rule.specs.declared.view.Key.{Key}
 use Rattle.fish_scan.specs.Colder.{IsBelow}
-use Rattle.fish_store.specs.Sound.{IsSoundBehind, Point, ReadsPages, RowsGoOn, Stays}
-use Rattle.fish_whole.specs.Whole.{Whole}
+use Rattle.fish_store.specs.Sound.{Point, ReadsPages, RowsGoOn, Stays}
 
 -- the older records stay those below the table
 pub below_stays : (k : Key) (old new : Cold) → new.base ≡ old.base → IsBelow k old → IsBelow k new
@@ -31,9 +29,3 @@ pages_stay disks p q learns rows flusher shape reads = record {
   crash = reads.cold.crash;
   table = reads.kept;
 }
-
--- a disk after which the store was sound carries the table, with what was there before it
-pub sound_here : {D : Type 0} (disks : Disks D) (p : Point D) (past : Whole)
-    (later : Option (List ℕ)) → IsSoundBehind disks p later past
-    → (t : CarriesTable (disks.content p.disk) p.view.about p.cold) × (t.end.entries ≡ past.log)
-sound_here disks p past later s = (s.sound.has.table, s.sound.has.entries)

@@ -5,7 +5,7 @@ use Rattle.fish_rule.proofs.laws.Learning.{extends_look}
 use Rattle.fish_rule.proofs.laws.Steps.{fits_law, found_law, read_law}
 use Rattle.fish_rule.specs.Logs.{Extends}
 use Rattle.fish_rule.specs.Regions.{code, dir_word, kind_of}
-use Rattle.fish_rule.specs.LoadSteps.{CanLookAt, after_look_at, found_after, kind_told}
+use Rattle.fish_rule.specs.LoadSteps.{after_look_at, found_after, kind_told}
 use Rattle.fish_rule.specs.Table.{Sees, Stands}
 use Rattle.fish_rule.specs.Views.{Among}
 use Rattle.fish_rule.specs.World.{World, high, low}
@@ -76,12 +76,6 @@ pub stored_law : (v u : View) (n lines x : ℕ) → u ≡ after_look_at v n line
 stored_law v u n lines x e is =
     subst (λ (z : View). (f : Found) × Among f z.learned.found × (f.number ≡ n) × (f.kind ≡ Stored)) (sym e)
     (found_stored n lines x v.learned.found is)
-
--- and the pass may look there again
-pub look_again : (v u : View) (n lines x : ℕ) → u ≡ after_look_at v n lines x → CanLookAt v n → CanLookAt u n
-look_again v u n lines x e can =
-    let may : CanLookAt (after_look_at v n lines x) n = record { above = can.above; below = can.below } in
-    subst (λ (z : View). CanLookAt z n) (sym e) may
 
 -- ---- settled numbers
 

@@ -9,7 +9,7 @@ use Rattle.fish_rule.specs.Views.{Among}
 use Rattle.fish_rule.specs.declared.view.Key.{Key}
 use Rattle.fish_rule.specs.declared.view.RegistryWord.{RegistryWord}
 use Rattle.fish_rule.specs.declared.view.View.{View}
-use Rattle.fish_whole.specs.Whole.{WholeFact, Later, MayEnd, MayHold, Narrows, MustHold, Whole, WillHold}
+use Rattle.fish_whole.specs.Whole.{WholeFact, Later, MayEnd, MayHold, Narrows, MustHold, Whole}
 use Rattle.fish_whole.specs.within.Whole.{MustHoldUpTo}
 
 -- ---- later states
@@ -69,25 +69,8 @@ hold_before past v u w learns m = record {
   behind = m.behind;
 }
 
--- in a state that knows as much
-pub sure_later : (past : Whole) (v u : View) (Q : WholeFact) → Learns v u → MustHold past v Q → MustHold past u Q
-sure_later past v u Q learns all w m = all w (hold_before past v u w learns m)
-
 pub up_to_later : (past : Whole) (v u : View) (end : ℕ) (Q : WholeFact) → Learns v u → MustHoldUpTo past v end Q → MustHoldUpTo past u end Q
 up_to_later past v u end Q learns all w m far = all w (hold_before past v u w learns m) far
-
--- to the end that the control pass makes
-pub sure_will : (past : Whole) (v : View) (Q : WholeFact) → MustHold past v Q → WillHold past v Q
-sure_will past v Q all w m = all w (may_hold past v w m)
-
--- in a state that ends in no more
-pub will_narrow : (past : Whole) (v : View) (next : Whole) (u : View) (Q : WholeFact) → Narrows past v next u → WillHold past v Q
-    → WillHold next u Q
-will_narrow past v next u Q narrows all w m = all w (narrows w m)
-
--- in a later one
-pub will_later : (past : Whole) (v u : View) (Q : WholeFact) → Later v u → WillHold past v Q → WillHold past u Q
-will_later past v u Q later = will_narrow past v past u Q (narrows_later past v u later)
 
 -- ---- definitions
 

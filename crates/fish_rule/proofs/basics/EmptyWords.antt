@@ -59,22 +59,6 @@ pub record AreHeads (heads ws us : List ℕ) (n : ℕ) : Type 0 where
   pub before : (p : ℕ) → p < heads_at → slice_index us p ≡ slice_index ws p
   pub behind : (p : ℕ) → heads_at + n ≤ p → slice_index us p ≡ slice_index ws p
 
--- one more head is in its place
-pub one_head : (heads ws us : List ℕ) (n x : ℕ) → AreHeads heads ws us n → heads_at + n < length us
-    → x ≡ slice_index heads n → AreHeads heads ws (set us (heads_at + n) x) (n + 1)
-one_head heads ws us n x stored room is = record {
-  long = length-set us (heads_at + n) x ∙ stored.long;
-  placed = λ b less. each b less (ℕ_discrete b n);
-  before = λ p less. get_or-set_other us (heads_at + n) p x 0 (omega arith) ∙ stored.before p less;
-  behind = λ p more. get_or-set_other us (heads_at + n) p x 0 (omega arith) ∙ stored.behind p (omega arith);
-}
-  where
-    each : (b : ℕ) → b < n + 1 → Dec (b ≡ n) → slice_index (set us (heads_at + n) x) (heads_at + b) ≡ slice_index heads b
-    each b less (yes e) = ap (λ (z : ℕ). slice_index (set us (heads_at + n) x) (heads_at + z)) e
-        ∙ get_or-set_same us (heads_at + n) x 0 room ∙ is ∙ ap (slice_index heads) (sym e)
-    each b less (no ne) = get_or-set_other us (heads_at + n) (heads_at + b) x 0 (λ e. ne (omega arith))
-        ∙ stored.placed b (omega arith)
-
 -- ---- what stands around them
 
 -- so many zeros, but for the tail, the settled number, the version and the count of rows

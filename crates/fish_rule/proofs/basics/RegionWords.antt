@@ -1,6 +1,6 @@
 -- The words of a region that are read one by one.
 use Rattle.std.proofs.Common.{◌≡◌, ℕ, ◌+◌, ◌-◌, ◌*◌, ◌%◌, ◌<◌, suc, List, [], ◌∷◌, ◌++◌, length, get_or, refl, sym, ap, ◌∙◌}
-use Rattle.std.proofs.Common.{subst, arith, length-append, append-nil, append_assoc, ⊎_elim, inl, inr}
+use Rattle.std.proofs.Common.{subst, arith, length-append, append_assoc, ⊎_elim, inl, inr}
 use Rattle.std.proofs.Math.Decide.{dec_lt, ℕ_discrete}
 use Rattle.std.proofs.Math.Seq.{get_or-append_right, get_or-append_seam}
 use Rattle.std.proofs.lemmas.List.{get_or_append_left}
@@ -59,15 +59,6 @@ pub record AreMore (v : View) (line from many : ℕ) (words longer : List ℕ) :
   pub long : length more ≡ many
   pub read : (i : ℕ) → i < length more
       → Among (record { place = line * 4 + (from + i); value = get_or more i 0 }) v.learned.known
-
--- none yet
-pub more_none : (v : View) (line from : ℕ) (words : List ℕ) → AreMore v line from 0 words words
-more_none v line from words = record {
-  more = [];
-  behind = sym (append-nil words);
-  long = refl;
-  read = λ i less. absurd (omega arith);
-}
 
 -- one more
 pub more_one : (v u : View) (line from many x : ℕ) (words longer : List ℕ) → Extends v u

@@ -14,7 +14,7 @@ use Rattle.fish_rule.specs.Logs.{AreKnown, Extends, Learns, KnowsAs, KnowsMark}
 use Rattle.fish_rule.specs.Parts.{Rests, quotas}
 use Rattle.fish_rule.specs.Facts.{Facts, IsFound, IsKnown, IsRecorded, Owns}
 use Rattle.fish_rule.specs.Regions.{code, kind_of}
-use Rattle.fish_rule.specs.LoadSteps.{IsAlone, after_load_tail, after_look_at, kind_told}
+use Rattle.fish_rule.specs.LoadSteps.{IsAlone, after_look_at, kind_told}
 use Rattle.fish_rule.specs.Table.{Stands}
 use Rattle.fish_rule.specs.Views.{AllOf, IsOver}
 use Rattle.fish_rule.specs.Gaps.{IsGap, IsLabel}
@@ -124,18 +124,6 @@ knows_mark v f among is u learns w r j at = found_kind v f among u learns w r j 
 
 -- ---- the end
 
--- the tail that the pass left is at or after the table's first number
-pub tail_behind : (v : View) (x : ℕ) → Stands v → IsAlone v
-    → v.tail ≡ Some (record { number = high x; line = low x }) → v.about.number ≤ high x
-tail_behind v x s alone tail =
-    let w : World = s.moment in
-    let r = s.rule in
-    let rests : Rests w.count w.line (Some (record { number = high x; line = low x })) =
-    subst (Rests w.count w.line) tail (r.tails s.seat v s.at alone.control alone.all) in
-    let some_ = r.space.regions.some in
-    let count : high x ≡ w.count = rests.0 in
-    omega arith
-
 -- a tail that rests at one place rests at the same
 rests_same : (a b c d : ℕ) (t : Option Position) → a ≡ c → b ≡ d → Rests a b t → Rests c d t
 rests_same a b c d None e f h = tt
@@ -187,10 +175,6 @@ alone_later v u e alone = record {
   all = ap (λ (z : View). z.out) e.frame ∙ alone.all;
   idle = ap (λ (z : View). z.flight) e.frame ∙ alone.idle;
 }
-
--- and so it does when it loads the tail
-pub alone_end : (v : View) (x : ℕ) → IsAlone v → IsAlone (after_load_tail v x)
-alone_end v x alone = record { control = alone.control; all = alone.all; idle = alone.idle }
 
 -- ---- a log that isn't full
 

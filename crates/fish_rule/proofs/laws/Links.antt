@@ -3,13 +3,12 @@ use Rattle.std.proofs.Common.{◌≡◌, ℕ, ◌*◌, ◌<◌, ◌≤◌, suc, 
 use Rattle.std.proofs.Common.{get_or-set_other}
 use Rattle.fish_rule.proofs.basics.Lists.{all_among}
 use Rattle.fish_rule.proofs.steps.AimEntry.{own_within, own_room}
-use Rattle.fish_rule.proofs.basics.FirstHeads.{first_low, linked_from, flight_from}
+use Rattle.fish_rule.proofs.basics.FirstHeads.{linked_from, flight_from}
 use Rattle.fish_rule.proofs.steps.LoadPrevious.{node_linked, place_within}
 use Rattle.fish_rule.proofs.steps.LoadNode.{second_within}
 use Rattle.fish_rule.proofs.basics.Places.{one_chain}
 use Rattle.fish_rule.specs.ChainSteps.{CanAimEntry, HasNode, own_place}
 use Rattle.fish_layout.specs.Entry.{entry_number}
-use Rattle.fish_rule.specs.Parts.{first_head}
 use Rattle.fish_rule.specs.Table.{Stands}
 use Rattle.fish_rule.proofs.basics.Context.{Among, Flight, Key, View}
 use Rattle.fish_rule.specs.Gaps.{IsLabel}
@@ -56,10 +55,6 @@ aim_law k v f about s can =
 -- the place of a linked entry is after the base's
 pub node_behind : (v : View) (b p : ℕ) → Stands v → HasNode v b p → v.about.line * 4 < p
 node_behind v b p s node = linked_from s.rule b p (node_linked s.rule s.seat s.at b p node)
-
--- a head of the start is no place of the table
-pub first_behind : (v : View) (b : ℕ) → Stands v → first_head v.about b ≤ v.about.line * 4
-first_behind v b s = first_low s.rule b
 
 -- a number that a second word names is one of the table
 pub label_above : (v : View) (l : Label) → Stands v → Among l v.learned.labels → v.about.number ≤ entry_number l.word

@@ -88,20 +88,6 @@ upto_later v u n read learns h =
       last = h.last;
     }
 
--- at first nothing is
-pub nothing_read : (v : View) (read : ReadLog) → read.number ≡ v.about.number → read.starts ≡ [] → read.next_page ≡ 0
-    → IsReadUpTo v v.about.number read
-nothing_read v read number starts page =
-    record {
-      from = omega arith;
-      many = number;
-      rise = subst PagesRise (sym starts) tt;
-      sound = λ s m. (let bad = subst (Among s) starts m in elim bad [ ]);
-      covers = λ m above below. absurd (omega arith);
-      paged = λ s m. (let bad = subst (Among s) starts m in elim bad [ ]);
-      last = λ some_. absurd (omega arith);
-    }
-
 -- one number more is covered
 covers_more : (u : View) (base n : ℕ) (starts : List PageStart)
     → ((m : ℕ) → base ≤ m → m < n → IsCovered u starts m) → IsCovered u starts n → (m : ℕ) → base ≤ m → m < suc n

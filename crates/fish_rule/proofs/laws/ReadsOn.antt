@@ -12,7 +12,7 @@ use Rattle.fish_rule.specs.Epochs.{confirmed}
 use Rattle.fish_rule.specs.ChainSteps.{after_load_head}
 use Rattle.fish_rule.specs.Logs.{Extends, Learns}
 use Rattle.fish_rule.specs.Parts.{Rests, first_head}
-use Rattle.fish_rule.specs.LoadSteps.{IsAlone, after_load_tail, after_raise_settled}
+use Rattle.fish_rule.specs.LoadSteps.{after_load_tail, after_raise_settled}
 use Rattle.fish_rule.specs.SpaceSteps.{noted}
 use Rattle.fish_rule.specs.World.{high, low}
 use Rattle.fish_rule.specs.declared.close.ReadLog.{ReadLog}
@@ -138,14 +138,6 @@ reads_version v u w y on e more =
       tail = tail ∙ on.tail;
       rests = on.rests;
     }
-
--- it stays alone
-pub alone_on : (v u : View) → ReadsOn v u → IsAlone v → IsAlone u
-alone_on v u on alone = record {
-  control = ap (λ (z : View). z.lane) on.frame ∙ alone.control;
-  all = ap (λ (z : View). z.out) on.frame ∙ alone.all;
-  idle = ap (λ (z : View). z.flight) on.frame ∙ alone.idle;
-}
 
 -- heads stay known
 pub heads_later : (v u : View) (settled buckets : ℕ) (heads : List ℕ) → Learns v u → AreHeads v settled buckets heads

@@ -9,8 +9,7 @@ use Rattle.fish_rule.proofs.steps.LoadRegistry.{lasts_there, lasting_within}
 use Rattle.fish_rule.specs.RegistrySteps.{CanDefineWord, CanLoadRegistry}
 use Rattle.fish_rule.specs.Registry.{KnowsDefinitions, KnowsRow, definitions_at, control_word, row_at, version_in}
 use Rattle.fish_rule.proofs.basics.RegistryWords.{length_grows}
-use Rattle.std.proofs.lemmas.List.{length-map}
-use Rattle.fish_catalog.specs.Listing.{IsListing, listed_of}
+use Rattle.fish_catalog.specs.Listing.{IsListing}
 use Rattle.fish_catalog.specs.declared.listed.Listed.{Listed}
 use Rattle.fish_rule.specs.Table.{Stands}
 use Rattle.fish_rule.specs.World.{heads_at}
@@ -30,13 +29,6 @@ pub define_law : (k : Key) (v : View) (p x : ℕ) → v.about ≡ k → Stands v
     → (2 ≤ p) × (p < heads_at)
 define_law k v p x about s can = unmade_within v.about s.moment p
     (unmade_here s.rule s.seat s.at can.control p x can)
-
--- a pass knows of no version past 512
-pub version_law : (v : View) → Stands v → v.learned.version ≤ 512
-version_law v s =
-    let few = s.rule.registry.versions.few in
-    let reached = (s.rule.registry.each s.seat v s.at).reached in
-    omega arith
 
 -- nor is the last one that it knows of before that with which the table begins
 pub version_from : (k : Key) (v : View) → v.about ≡ k → 1 ≤ v.lane → Stands v → k.version ≤ v.learned.version
@@ -68,14 +60,6 @@ unset_law v s control id i more few bound =
     ap (λ (z : List Listed). length z) its.definitions in
     sym (its.owned (row_at id i) (inr (id, i, few, bound, refl)))
     ∙ s.rule.registry.boundaries.unmade id i (omega arith) few bound
-
--- a row of the start is there at version 0, and so there are at most 256
-pub opened_law : (v : View) → Stands v → length v.about.rows.value ≤ 256
-opened_law v s =
-    let listing = s.rule.registry.versions.listings 0 (omega arith) in
-    let few = listing.few in
-    let size = length-map v.about.rows.value listed_of in
-    omega arith
 
 -- a row that is known is one of 256
 pub row_law : (v : View) (id : ℕ) → Stands v → KnowsRow v.about v.learned id → id < 256

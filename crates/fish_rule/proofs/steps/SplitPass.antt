@@ -246,7 +246,3 @@ right_stands v l s can = record {
   seat = length (set s.moment.views s.seat (split_left l v));
   at = at_last (set s.moment.views s.seat (split_left l v)) (split_right l v) _ refl;
 }
-
--- a split leaves both passes with views that stand
-pub split_stands : (v : View) (l : ℕ) → Stands v → CanSplitPass v l → Stands (split_left l v) × Stands (split_right l v)
-split_stands v l s can = (left_stands v l s can, right_stands v l s can)

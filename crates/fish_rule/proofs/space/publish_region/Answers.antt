@@ -12,10 +12,6 @@ use Rattle.fish_rule.specs.declared.table.Pass.{Pass}
 use Rattle.fish_rule.specs.declared.table.Region.{Region}
 use Rattle.fish_rule.proofs.space.publish_region.Goals as goal
 
--- the region handed in is that of the record in flight
-abbrev IsIn : Flight → Region → Type 0
-IsIn f r = (f.number ≡ r.number) × (f.line ≡ r.line) × (f.lines ≡ r.lines)
-
 -- it is within the table
 within : (log : Log) (pass : Pass) (r : Region) → IsPassOf log pass → (f : Flight) × CanPublishRegion (view pass) f
     × (f.number ≡ r.number) × (f.line ≡ r.line) × (f.lines ≡ r.lines)
