@@ -1,5 +1,5 @@
-//! A store that is opened again: the opening, beside the reading of its payloads alone, and scans of its records, which all
-//! are in the file.
+//! A store that is opened again: the opening, beside the reading of its payloads alone, and scans of its records, which
+//! all are in the file.
 
 ghost use Rattle.std.specs.Prelude.{IfOk, IsTrue};
 ghost use Rattle.fish_rule.specs.Passes.{IsPassOf};
@@ -150,8 +150,8 @@ fn lies_below(log: &Log, cold: &Cold) -> bool
     older.number == above.number && older.line == above.line
 }
 
-/// Times a scan of all records number by number, and the selection of the same from the payloads in memory. They give as many
-/// rows, or something is wrong.
+/// Times a scan of all records number by number, and the selection of the same from the payloads in memory. They give
+/// as many rows, or something is wrong.
 fn scan_all<D: Disk>(
     rt: &HostRuntime,
     payloads: &[Text],
@@ -186,8 +186,8 @@ fn scan_all<D: Disk>(
     Ok(())
 }
 
-/// Times a scan of the newest eighth of the records by the index, once another one has read their pages. Where the file is read
-/// though these pages ought to be held, no row counts.
+/// Times a scan of the newest eighth of the records by the index, once another one has read their pages. Where the file
+/// is read though these pages ought to be held, no row counts.
 fn scan_newest<D: Disk>(
     rt: &HostRuntime,
     log: &Log,

@@ -62,8 +62,8 @@ pub struct Work {
     pub changes: Changes,
 }
 
-/// Registers the definitions over events in an empty log, and ingests the payloads in the lanes from 2 on, in each as many
-/// of them, while the control pass makes its changes. It sleeps by the clock.
+/// Registers the definitions over events in an empty log, and ingests the payloads in the lanes from 2 on, in each as
+/// many of them, while the control pass makes its changes. It sleeps by the clock.
 pub fn measure_registrations<R: Threads + Sync + Clock + AllocGlobal + Eprint>(
     rt: &R,
     clock: &HostRuntime,

@@ -214,7 +214,7 @@ impl Catalog {
         Ok(id)
     }
 
-    /// KnowsAs where the index of a row begins.
+    /// Sets where the index of a row begins.
     pub fn set_from(&mut self, id: u16, from: u32)
         requires { AwaitsFrom self.old id }
         ensures { self.new ≡ with_from self.old id from }
@@ -223,7 +223,7 @@ impl Catalog {
         row.from = Some(from);
     }
 
-    /// KnowsAs where the index of an active row ends.
+    /// Sets where the index of an active row ends.
     pub fn set_to(&mut self, id: u16, to: u32)
         requires { AwaitsTo self.old id to }
         ensures { self.new ≡ with_to self.old id to }

@@ -69,14 +69,14 @@ LeadDown v bucket first from to [] = from ≡ to
 LeadDown v bucket first from to (place ∷ places) = (from ≡ place) × IsEntryFrom v bucket first place
     × ((next : ℕ) × (next < place) × LeadDown v bucket first next to places)
 
--- of so many entries that a walk passed two words were loaded at most; the entry that it gave is one of them, and where it
--- gave none one more word was loaded at most
+-- of so many entries that a walk passed two words were loaded at most; the entry that it gave is one of them, and where
+-- it gave none one more word was loaded at most
 abbrev pub AreFew : Option Node → ℕ → ℕ → ℕ → Type 0
 AreFew None entries old new = new ≤ old + 2 * entries + 1
 AreFew (Some node) entries old new = (1 ≤ entries) × (new ≤ old + 2 * entries)
 
--- going down from where a walk stood to another place the pass loaded few words of the entries that it passed, which are of
--- the walk's bucket and of numbers from the start of its range on
+-- going down from where a walk stood to another place the pass loaded few words of the entries that it passed, which
+-- are of the walk's bucket and of numbers from the start of its range on
 pub record IsBounded (v u : View) (walk : Walk) (to : ℕ) (given : Option Node) : Type 0 where
   pub passed : List ℕ
   pub end : ℕ

@@ -18,8 +18,8 @@ use fish_rule::{Log, Pass, line_of_word, look_at, read_word};
 use fish_value::Value;
 use std::sync::ledger::Ledger;
 
-/// Whether a key entry that a walk gave has a value. The record is one that the pass has counted. Loads the record's header, the entry's third word, and
-/// words of the value up to the first that differs: at most 35. No memory.
+/// Whether a key entry that a walk gave has a value. The record is one that the pass has counted. Loads the record's
+/// header, the entry's third word, and words of the value up to the first that differs: at most 35. No memory.
 pub fn node_has<L: Ledger>(
     log: &Log,
     pass: &mut Pass,

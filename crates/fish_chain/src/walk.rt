@@ -129,7 +129,8 @@ fn place_below<L: Ledger>(
     ensures below { LeadsTo (view pass.new) walk.now result }
     ensures counted { loads.new + (view pass.old).clock.loads ≡ loads.old + (view pass.new).clock.loads }
     ensures few { (view pass.new).clock.loads ≤ (view pass.old).clock.loads + 1 }
-    ensures stops { number < walk.now.from → (result ≡ 0) × ((view pass.new).clock.loads ≡ (view pass.old).clock.loads) }
+    ensures stops { number < walk.now.from → (result ≡ 0)
+        × ((view pass.new).clock.loads ≡ (view pass.old).clock.loads) }
 {
     if u64::from(number) < walk.from {
         return 0;

@@ -21,8 +21,10 @@ abbrev pub claimed_view : Kind → View → ℕ → ℕ → ℕ → View
 claimed_view Stored v lines number line = after_claim_lines v lines number line
 claimed_view Void v lines number line =
     let f = flight_at number line lines in
-    after_publish_region (after_store_word (after_claim_lines v lines number line) f (void_word lines)) (with_word f (void_word lines))
-claimed_view Mark v lines number line = after_publish_region (after_claim_lines v lines number line) (flight_at number line lines)
+    after_publish_region (after_store_word (after_claim_lines v lines number line) f (void_word lines))
+    (with_word f (void_word lines))
+claimed_view Mark v lines number line =
+    after_publish_region (after_claim_lines v lines number line) (flight_at number line lines)
 
 -- a claim of so many lines got the region at some number and line, and became what the kind of this region says
 pub record IsClaimed (v : View) (lines : ℕ) (answer : Claimed) (after : View) : Type 0 where

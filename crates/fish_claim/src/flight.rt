@@ -32,7 +32,8 @@ pub fn publish(log: &Log, pass: &mut Pass) -> u32
     requires pass { IsPassOf log.now pass.old }
     requires view { (f : Flight) × CanPublishRegion (view pass.old) f × (flight_kind (view pass.old) f ≡ Stored) }
     ensures pass { IsPassOf log.now pass.new }
-    ensures view { (f : Flight) → (view pass.old).flight ≡ Some f → view pass.new ≡ after_publish_region (view pass.old) f }
+    ensures view { (f : Flight) → (view pass.old).flight ≡ Some f → view pass.new ≡ after_publish_region (view pass.old)
+        f }
     ensures number { (f : Flight) → (view pass.old).flight ≡ Some f → result ≡ f.number }
 {
     let Some(region) = in_flight(pass) else {

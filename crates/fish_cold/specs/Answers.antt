@@ -22,12 +22,13 @@ IsVoidHead rest = (lines : ℕ) × (1 ≤ lines) × (lines < 2 ^ 16) × (slice_i
 abbrev pub IsRecordHead : BodyParts → List ℕ → Type 0
 IsRecordHead p rest = IsBody p (region rest)
 
--- how words that begin with a region are answered: by the record that they are, by a void where they are one, and as damaged
--- only where they are neither
+-- how words that begin with a region are answered: by the record that they are, by a void where they are one, and as
+-- damaged only where they are neither
 abbrev pub Answers : ℕ → List ℕ → Result Entry ColdRefusal → Type 0
 Answers number rest (Ok entry) = ((p : BodyParts) → IsRecordHead p rest → entry ≡ Stored p.lane p.form p.payload)
     × (IsVoidHead rest → entry ≡ Void)
-Answers number rest (Err (Damaged n)) = (n ≡ number) × ((p : BodyParts) → IsRecordHead p rest → ⊥) × (IsVoidHead rest → ⊥)
+Answers number rest (Err (Damaged n)) = (n ≡ number) × ((p : BodyParts) → IsRecordHead p rest → ⊥)
+    × (IsVoidHead rest → ⊥)
 Answers number rest (Err DiskFault) = ⊤
 Answers number rest (Err OutOfMemory) = ⊤
 

@@ -37,8 +37,8 @@ pub record IsReadFrom (content : List ℕ) (cold : Cold) : Type 0 where
   pub older : (number : ℕ) (page : Page) → Contains cold.cache.entries (number, page) → number < base_page cold
   pub last : (page : Page) → cold.tail ≡ Some page → IsPageIn cold.base.line cold.starts content (base_page cold) page
 
--- the page was used: it is the first of the list, with the others after it in their order, of which the last goes where there
--- would be 17; the page that holds the base's line is kept beside the list
+-- the page was used: it is the first of the list, with the others after it in their order, of which the last goes where
+-- there would be 17; the page that holds the base's line is kept beside the list
 pub record Uses (number : ℕ) (page : Page) (old new : Cold) : Type 0 where
   pub base : new.base ≡ old.base
   pub starts : new.starts ≡ old.starts
@@ -52,8 +52,8 @@ pub record Uses (number : ℕ) (page : Page) (old new : Cold) : Type 0 where
 abbrev pub IsHeld : Cold → ℕ → Page → Type 0
 IsHeld cold number page = (p : Page) → held_in cold number ≡ Some p → page ≡ p
 
--- a record was looked at on a page: the page was used, and the disk isn't touched where it was held before; where nothing is
--- answered nothing changed
+-- a record was looked at on a page: the page was used, and the disk isn't touched where it was held before; where
+-- nothing is answered nothing changed
 pub record Looks {D T : Type 0} (disks : Disks D) (number : ℕ) (old new : Cold) (disk next : D)
     (result : Result T ColdRefusal) : Type 0 where
   pub used : OnOk result ((page : Page) × IsHeld old number page × Uses number page old new)
@@ -89,5 +89,6 @@ pub record HasRegion (cold : Cold) (content : List ℕ) (number : ℕ) (rest : L
   pub is_start : IsStartOf cold.starts number start
   pub older : start.line < cold.base.line
   pub line : ℕ
-  pub leads : Leads (page_words cold.base.line (page_of start.line) content) (start.line % 32768) (number - start.number) line
+  pub leads : Leads (page_words cold.base.line (page_of start.line) content) (start.line % 32768)
+      (number - start.number) line
   pub rest_is : rest ≡ drop (4 * line) (page_words cold.base.line (page_of start.line) content)

@@ -43,9 +43,9 @@ pub record IsPriorRecord {image : List ℕ} {count : ℕ} {end : Reached} (prior
   pub is : IsRecordAt prior.commit at (region_lines (drop (4 * at.line) (words_in prior.lines)))
       (region (drop (4 * at.line) (words_in prior.lines))) p
 
--- the content of the disk is known, and stands for a log whose first entries are those below the base: they end at the base's
--- line, the heads with which the table began are theirs, each has a key entry for every value that a row of the table gives
--- where it covers the entry, and the page starts and pages that are kept are theirs
+-- the content of the disk is known, and stands for a log whose first entries are those below the base: they end at the
+-- base's line, the heads with which the table began are theirs, each has a key entry for every value that a row of the
+-- table gives where it covers the entry, and the page starts and pages that are kept are theirs
 pub record CarriesTable (content : Option (List ℕ)) (k : Key) (cold : Cold) : Type 0 where
   pub image : List ℕ
   pub is : content ≡ Some image
@@ -83,7 +83,8 @@ IsEntryAnswer entry (Err DiskFault) = ⊤
 IsEntryAnswer entry (Err OutOfMemory) = ⊤
 
 -- the answer for a number below the base is the entry of the log for which the disk stands
-pub record IsEntryRead {content : Option (List ℕ)} {k : Key} {cold : Cold} (h : CarriesTable content k cold) (number : ℕ)
+pub record IsEntryRead {content : Option (List ℕ)} {k : Key} {cold : Cold} (h : CarriesTable content k cold)
+    (number : ℕ)
     (result : Result Entry ColdRefusal) : Type 0 where
   pub entry : Entry
   pub there : slice_get h.end.entries number ≡ Some entry

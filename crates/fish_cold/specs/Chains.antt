@@ -8,7 +8,8 @@ use Rattle.fish_layout.specs.declared.parts.KeyPart.{KeyPart}
 use Rattle.fish_cold.specs.Carries.{IsPrior, IsPriorRecord}
 
 -- key entry j of record n of the prior part has this bucket and place
-pub record IsKeyAt {image : List ℕ} {count : ℕ} {end : Reached} (prior : IsPrior image count end) (b place n : ℕ) (p : BodyParts)
+pub record IsKeyAt {image : List ℕ} {count : ℕ} {end : Reached} (prior : IsPrior image count end) (b place n : ℕ)
+    (p : BodyParts)
     (j : ℕ) (k : KeyPart) : Type 0 where
   pub stored : IsPriorRecord prior n p
   pub within : j < length p.keys
@@ -16,7 +17,8 @@ pub record IsKeyAt {image : List ℕ} {count : ℕ} {end : Reached} (prior : IsP
   pub bucket : bucket_of_key (2 ^ prior.commit.bucket_bits) k ≡ b
   pub place_is : place ≡ place_of stored.at.line j
 
--- the key entry at a place of a bucket leads on to the newest of the older ones in the bucket, which are after it in the list
+-- the key entry at a place of a bucket leads on to the newest of the older ones in the bucket, which are after it in
+-- the list
 pub record IsLink {image : List ℕ} {count : ℕ} {end : Reached} (prior : IsPrior image count end) (b place : ℕ)
     (behind : List (ℕ × ℕ)) : Type 0 where
   pub number : ℕ

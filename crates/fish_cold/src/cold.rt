@@ -111,9 +111,10 @@ impl Cold {
         loads: &mut Steps<L>,
     ) -> Result<Entry, ColdRefusal>
         requires older { number < self.old.base.number }
-        ensures entry { IfSome (D.content disk.new) (λ c. (rest : List ℕ) → IsReadFrom c self.old
-            → HasRegion self.old c number rest → Answers number rest result × LoadsWords rest loads.old loads.new result) }
-        ensures carried { (k : TableKey) (h : CarriesTable (D.content disk.new) k self.old) → IsEntryRead h number result }
+        ensures entry { IfSome (D.content disk.new) (λ c. (rest : List ℕ) → IsReadFrom c self.old → HasRegion self.old c
+            number rest → Answers number rest result × LoadsWords rest loads.old loads.new result) }
+        ensures carried { (k : TableKey) (h : CarriesTable (D.content disk.new) k self.old) → IsEntryRead h number
+            result }
         ensures looks { (start : Start) → IsStartOf self.old.starts number start → start.line < self.old.base.line
             → Looks D.Disk (page_of start.line) self.old self.new disk.old disk.new result }
         ensures reads { ReadsAtMost D.Disk self.old self.new disk.old disk.new result }
@@ -130,8 +131,8 @@ impl Cold {
         number: u32,
         loads: &mut Steps<L>,
     ) -> Result<Entry, ColdRefusal>
-        ensures entry { IfSome (D.content disk.new) (λ c. (rest : List ℕ) → IsReadFrom c self.old
-            → HasRegion self.old c number rest → Answers number rest result × LoadsWords rest loads.old loads.new result) }
+        ensures entry { IfSome (D.content disk.new) (λ c. (rest : List ℕ) → IsReadFrom c self.old → HasRegion self.old c
+            number rest → Answers number rest result × LoadsWords rest loads.old loads.new result) }
         ensures looks { (start : Start) → IsStartOf self.old.starts number start → start.line < self.old.base.line
             → Looks D.Disk (page_of start.line) self.old self.new disk.old disk.new result }
         ensures reads { ReadsAtMost D.Disk self.old self.new disk.old disk.new result }
@@ -166,8 +167,8 @@ impl Cold {
         loads: &mut Steps<L>,
     ) -> Result<Entry, ColdRefusal>
         requires within { page ≤ page_of self.old.base.line }
-        ensures entry { IfSome (D.content disk.new) (λ c. (start : Start) (line : ℕ) → IsReadFrom c self.old
-            → IsStartIn self.old.starts page start → Leads (page_words self.old.base.line page c) (start.line % 32768) at line
+        ensures entry { IfSome (D.content disk.new) (λ c. (start : Start) (line : ℕ) → IsReadFrom c self.old → IsStartIn
+            self.old.starts page start → Leads (page_words self.old.base.line page c) (start.line % 32768) at line
             → Answers number (drop (4 * line) (page_words self.old.base.line page c)) result
             × LoadsWords (drop (4 * line) (page_words self.old.base.line page c)) loads.old loads.new result) }
         ensures looks { Looks D.Disk page self.old self.new disk.old disk.new result }
@@ -194,12 +195,13 @@ impl Cold {
         loads: &mut Steps<L>,
     ) -> Result<Option<ColdNode>, ColdRefusal>
         requires older { place ≢ 0 → place < 4 * self.old.base.line }
-        ensures node { IfSome (D.content disk.new) (λ c. (line : ℕ) (p : BodyParts) (j : ℕ) (k : Key) → IsReadFrom c self.old
-            → HasNodeOn self.old c place line p j k → p.number < below → k.prev < place → Walks place from p j k result) }
+        ensures node { IfSome (D.content disk.new) (λ c. (line : ℕ) (p : BodyParts) (j : ℕ) (k : Key) → IsReadFrom c
+            self.old → HasNodeOn self.old c place line p j k → p.number < below → k.prev < place
+            → Walks place from p j k result) }
         ensures ends { place ≢ 0 → IfSome (D.content disk.new) (λ c. IsReadFrom c self.old
             → EndsWalk (words_on self.old c place) (place % 131072) from result) }
-        ensures carried { (t : TableKey) (h : CarriesTable (D.content disk.new) t self.old) (b n : ℕ) (p : BodyParts) (j : ℕ) (k : Key)
-            → IsKeyAt h.prior b place n p j k → n < below → Walks place from p j k result }
+        ensures carried { (t : TableKey) (h : CarriesTable (D.content disk.new) t self.old) (b n : ℕ) (p : BodyParts)
+            (j : ℕ) (k : Key) → IsKeyAt h.prior b place n p j k → n < below → Walks place from p j k result }
         ensures linkable { IfOk result (λ o. IfSome o (IsLinkable place below from)) }
         ensures looks { place ≢ 0 → Looks D.Disk (place / 131072) self.old self.new disk.old disk.new result }
         ensures nowhere { place ≡ 0 → (result ≡ Ok None) × (self.new ≡ self.old) × (disk.new ≡ disk.old) }
@@ -223,8 +225,8 @@ impl Cold {
         loads: &mut Steps<L>,
     ) -> Result<Option<ColdNode>, ColdRefusal>
         requires older { asked.place < 4 * self.old.base.line }
-        ensures node { IfSome (D.content disk.new) (λ c. (line : ℕ) (p : BodyParts) (j : ℕ) (k : Key) → IsReadFrom c self.old
-            → HasNodeOn self.old c asked.place line p j k → p.number < asked.below → k.prev < asked.place
+        ensures node { IfSome (D.content disk.new) (λ c. (line : ℕ) (p : BodyParts) (j : ℕ) (k : Key) → IsReadFrom c
+            self.old → HasNodeOn self.old c asked.place line p j k → p.number < asked.below → k.prev < asked.place
             → Walks asked.place asked.from p j k result) }
         ensures ends { IfSome (D.content disk.new) (λ c. IsReadFrom c self.old
             → EndsWalk (words_on self.old c asked.place) (asked.place % 131072) asked.from result) }
@@ -258,8 +260,9 @@ impl Cold {
             → HasNodeOn self.old c node.now.place line p node.now.key k
             → Answers node.now.number (drop (4 * line) (words_on self.old c node.now.place)) result
             × LoadsWords (drop (4 * line) (words_on self.old c node.now.place)) loads.old loads.new result) }
-        ensures carried { (t : TableKey) (h : CarriesTable (D.content disk.new) t self.old) (b n : ℕ) (p : BodyParts) (k : Key)
-            → IsKeyAt h.prior b node.now.place n p node.now.key k → IsEntryAnswer (Stored p.lane p.form p.payload) result }
+        ensures carried { (t : TableKey) (h : CarriesTable (D.content disk.new) t self.old) (b n : ℕ) (p : BodyParts)
+            (k : Key) → IsKeyAt h.prior b node.now.place n p node.now.key k
+            → IsEntryAnswer (Stored p.lane p.form p.payload) result }
         ensures looks { Looks D.Disk (node.now.place / 131072) self.old self.new disk.old disk.new result }
 
         ensures damage { IfErr result (IsDamageOf node.now.number) }
@@ -361,7 +364,8 @@ impl Cold {
     /// The page becomes the first of the list, and is kept where it was brought.
     fn keep(&mut self, page: u64, fresh: Option<Page>) -> Result<(), AllocError>
         requires { (fresh ≡ None) ↔ Holds self.old page }
-        ensures kept { OnOk result ((p : Page) → Some p ≡ option_or fresh (held_in self.old page) → Uses page p self.old self.new) }
+        ensures kept { OnOk result ((p : Page) → Some p ≡ option_or fresh (held_in self.old page) → Uses page p self.old
+            self.new) }
         ensures refused { OnErr result (self.new ≡ self.old) }
     {
         let last = page == page_of(self.base.line);

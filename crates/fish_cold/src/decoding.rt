@@ -133,8 +133,8 @@ pub(crate) fn node_on<L: Ledger>(
     asked: Asked,
     loads: &mut Steps<L>,
 ) -> Result<Option<ColdNode>, ColdRefusal>
-    ensures node { (line : ℕ) (p : BodyParts) (j : ℕ) (k : Key) → HasNode page.now.words.items (asked.place % 131072) line p j k
-        → p.number < asked.below → k.prev < asked.place → Walks asked.place asked.from p j k result }
+    ensures node { (line : ℕ) (p : BodyParts) (j : ℕ) (k : Key) → HasNode page.now.words.items (asked.place % 131072)
+        line p j k → p.number < asked.below → k.prev < asked.place → Walks asked.place asked.from p j k result }
     ensures ends { EndsWalk page.now.words.items (asked.place % 131072) asked.from result }
     ensures linkable { IfOk result (λ o. IfSome o (IsLinkable asked.place asked.below asked.from)) }
     ensures loads { loads.new ≤ loads.old + 38 }
@@ -154,8 +154,8 @@ fn node_in<L: Ledger>(
     loads: &mut Steps<L>,
 ) -> Result<Option<ColdNode>, ColdRefusal>
     requires { at < 2 ^ 17 }
-    ensures node { (line : ℕ) (p : BodyParts) (j : ℕ) (k : Key) → HasNode words.now at line p j k → p.number < asked.below
-        → k.prev < asked.place → Walks asked.place asked.from p j k result }
+    ensures node { (line : ℕ) (p : BodyParts) (j : ℕ) (k : Key) → HasNode words.now at line p j k
+        → p.number < asked.below → k.prev < asked.place → Walks asked.place asked.from p j k result }
     ensures ends { EndsWalk words.now at asked.from result }
     ensures linkable { IfOk result (λ o. IfSome o (IsLinkable asked.place asked.below asked.from)) }
     ensures loads { loads.new ≤ loads.old + 38 }
@@ -256,8 +256,8 @@ fn linked_at(
     key: u16,
 ) -> Result<Option<KeyPart>, AllocError>
     requires { at < length words.now }
-    ensures found { IfOk result (λ o. (line : ℕ) (p : BodyParts) (k : Key) → HasNode words.now at line p key k → k.prev < place
-        → o ≡ Some k) }
+    ensures found { IfOk result (λ o. (line : ℕ) (p : BodyParts) (k : Key) → HasNode words.now at line p key k
+        → k.prev < place → o ≡ Some k) }
     ensures lower { IfOk result (λ o. IfSome o (λ k. k.prev < place)) }
 {
     match key_around(alloc, words, at, key)? {
@@ -281,7 +281,14 @@ fn lower(found: KeyPart, place: u64) -> Option<KeyPart>
 
 /// A key entry with its place.
 fn node_of(number: u32, place: u64, key: u16, found: KeyPart) -> ColdNode
-    ensures { result ≡ record { number = number; place = place; id = found.id; key = key; prev = found.prev; value = found.value } }
+    ensures { result ≡ record {
+      number = number;
+      place = place;
+      id = found.id;
+      key = key;
+      prev = found.prev;
+      value = found.value;
+    } }
 {
     ColdNode {
         number,
@@ -319,8 +326,8 @@ pub(crate) fn row_on<L: Ledger>(
     node: &ColdNode,
     loads: &mut Steps<L>,
 ) -> Result<Entry, ColdRefusal>
-    ensures entry { (line : ℕ) (p : BodyParts) (k : Key) → HasNode page.now.words.items (node.now.place % 131072) line p node.now.key k
-        → Answers node.now.number (drop (4 * line) page.now.words.items) result
+    ensures entry { (line : ℕ) (p : BodyParts) (k : Key) → HasNode page.now.words.items (node.now.place % 131072) line p
+        node.now.key k → Answers node.now.number (drop (4 * line) page.now.words.items) result
         × LoadsWords (drop (4 * line) page.now.words.items) loads.old loads.new result }
     ensures damage { IfErr result (IsReadingOf node.now.number) }
 {

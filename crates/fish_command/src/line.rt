@@ -9,7 +9,8 @@ ghost use Rattle.std.specs.Str.Parse.{starts_with_minus};
 ghost use Rattle.clap.specs.Words.{all_of, app_of, found_of, rows_of, rule_of};
 ghost use Rattle.fish_command.specs.Line.{is_mark};
 ghost use Rattle.fish_command.specs.within.Matched.{found_in, line_app, only, option_rule, values};
-ghost use Rattle.fish_command.specs.within.Reading.{are_placed, are_placed_after, at_part, has_one_minus, nothing_found, read};
+ghost use Rattle.fish_command.specs.within.Reading.{are_placed, are_placed_after, at_part, has_one_minus};
+ghost use Rattle.fish_command.specs.within.Reading.{nothing_found, read};
 
 use clap::error::ErrorKind;
 use clap::{Arg, ArgAction, ArgMatches, Command};
@@ -21,7 +22,8 @@ pub(crate) fn line_of<'a>(
     alloc: Global,
     words: &'a [Text],
 ) -> Result<Option<ArgMatches<'a>>, AllocError>
-    ensures { IfOk result (λ line. option_and_then (λ m. found_in (rows_of (found_of m))) line ≡ read words.now (at_part nothing_found)) }
+    ensures { IfOk result (λ line. option_and_then (λ m. found_in (rows_of (found_of m))) line ≡ read words.now
+        (at_part nothing_found)) }
 {
     if !are_placed(words) {
         return Ok(None);

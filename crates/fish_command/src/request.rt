@@ -4,7 +4,8 @@ ghost use Rattle.std.specs.Prelude.{◌≡◌, IfOk, IfSome, option_and_then, op
 ghost use Rattle.clap.specs.Words.{found_of, rows_of};
 ghost use Rattle.fish_command.specs.within.Parts.{IsSized, request_of_parts};
 ghost use Rattle.fish_command.specs.within.Matched.{found_in};
-ghost use Rattle.fish_command.specs.within.Reading.{request_of, run_in, run_of, sample_in, sample_of, select_in, select_of};
+ghost use Rattle.fish_command.specs.within.Reading.{request_of, run_in, run_of, sample_in, sample_of, select_in};
+ghost use Rattle.fish_command.specs.within.Reading.{select_of};
 
 use crate::line::{has_minus, line_of, values_of};
 use crate::options::{Layout, MAX_RECORDS, number_within, options_in};

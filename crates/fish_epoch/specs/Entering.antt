@@ -16,8 +16,8 @@ pub record OnlyEnters (v u : View) : Type 0 where
   pub found : u.learned.found ≡ v.learned.found
   pub loads : u.clock.loads ≡ v.clock.loads
 
--- the pass is entered at a version, which it has loaded on the way and knows to be the last, after at most 513 rounds of
--- two steps and one step more
+-- the pass is entered at a version, which it has loaded on the way and knows to be the last, after at most 513 rounds
+-- of two steps and one step more
 pub record HasEntered (v : View) (version : ℕ) (u : View) : Type 0 where
   pub keeps : OnlyEnters v u
   pub epoch : u.epoch ≡ Confirmed version

@@ -19,8 +19,8 @@ use Rattle.fish_rule.specs.declared.view.View.{View}
 use Rattle.fish_walk.specs.Looks.{IsTailCount}
 use Rattle.fish_walk.specs.Settling.{EndsAt, HasLoadedCount, IsEnd, IsMark, StopsAt}
 
--- every image stands for this log by this commit, which the flusher keeps; the log is a settled prefix of the table's, as the
--- pass knows, and the rows have gone on since
+-- every image stands for this log by this commit, which the flusher keeps; the log is a settled prefix of the table's,
+-- as the pass knows, and the rows have gone on since
 pub record Carries (images : List ℕ → Type 0) (f : Flusher) (v : View) (s : Shape) (rows : List CatRow) (c : Commit)
     (log : List Entry) : Type 0 where
   pub rest : IsAtRest images f c log
@@ -38,15 +38,16 @@ pub record Carries (images : List ℕ → Type 0) (f : Flusher) (v : View) (s : 
 abbrev pub IsTailAt : View → ℕ → Type 0
 IsTailAt v count = (tail : ℕ) × (v.tail ≡ Some (record { number = high tail; line = low tail })) × (high tail ≡ count)
 
--- the second view is the first but for the tail and what was learned since; where the pass is alone, the tail stays where it was
+-- the second view is the first but for the tail and what was learned since; where the pass is alone, the tail stays
+-- where it was
 pub record Reads (v u : View) : Type 0 where
   pub learns : Learns v u
   pub clock : IsLater v.clock u.clock
   pub frame : u ≡ record v { tail = u.tail; learned = u.learned; clock = u.clock }
   pub tail : IsAlone v → (count : ℕ) → IsTailAt v count → IsTailAt u count
 
--- the number is one up to which all is settled, and why no further: it is the count, which is no less than the pass knew, or the
--- number of one that was found unfinished or a mark. A pass that is alone stops at the log's end
+-- the number is one up to which all is settled, and why no further: it is the count, which is no less than the pass
+-- knew, or the number of one that was found unfinished or a mark. A pass that is alone stops at the log's end
 pub record HasSettled (v u : View) (n : ℕ) : Type 0 where
   pub rises : v.learned.settled ≤ n
   pub settled : n ≤ u.learned.settled
@@ -58,18 +59,21 @@ pub record HasSettled (v u : View) (n : ℕ) : Type 0 where
   pub ends : IsAlone v → EndsAt u n count
   pub rests : IsAlone v → IsTailCount count v.tail
 
--- the log up to the number is committed: the flusher counts it and the pass has counted no fewer, and the file carries the
--- log that it carried and more
-pub record HasCommitted (images images' : List ℕ → Type 0) (f f' : Flusher) (v u : View) (s : Shape) (rows : List CatRow) (n : ℕ)
+-- the log up to the number is committed: the flusher counts it and the pass has counted no fewer, and the file carries
+-- the log that it carried and more
+pub record HasCommitted (images images' : List ℕ → Type 0) (f f' : Flusher) (v u : View) (s : Shape)
+    (rows : List CatRow) (n : ℕ)
     : Type 0 where
   pub live : f'.shut ≡ false
   pub count : f'.count ≡ n
   pub counted : n ≤ u.learned.count
   pub carries : (c : Commit) (old : List Entry) → Carries images f v s rows c old
-      → (more : List Entry) × (length (old ++ more) ≡ n) × Carries images' f' u s rows (commit_of f' s rows) (old ++ more)
+      → (more : List Entry) × (length (old ++ more) ≡ n)
+      × Carries images' f' u s rows (commit_of f' s rows) (old ++ more)
 
--- a crash at any moment leaves an image that stands for the log of the last commit or of a new one: one that goes on by entries
--- that the pass knows, with these rows, and by lines after these of the last one; and there is an image only where there was one
+-- a crash at any moment leaves an image that stands for the log of the last commit or of a new one: one that goes on by
+-- entries that the pass knows, with these rows, and by lines after these of the last one; and there is an image only
+-- where there was one
 pub record LeavesEither {D : Type 0} (images : D → List ℕ → Type 0) (since : D → ℕ → List ℕ → Type 0) (moment : D → ℕ)
     (old new : D) (u : View) (rows : List CatRow) (c : Commit) (log : List Entry) (lines : List ℕ) : Type 0 where
   pub more : List Entry

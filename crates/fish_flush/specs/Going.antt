@@ -10,8 +10,8 @@ use Rattle.fish_slots.specs.Commits.{HasCommit}
 abbrev pub ComesFrom : (List ℕ → Type 0) → (List ℕ → Type 0) → Type 0
 ComesFrom old new = (image : List ℕ) → new image → (before : List ℕ) × old before
 
--- the image stands for a log by a commit that goes on from this one: its lines begin with these, it has the same buckets, it counts
--- no fewer entries and lines, and its rows went on
+-- the image stands for a log by a commit that goes on from this one: its lines begin with these, it has the same
+-- buckets, it counts no fewer entries and lines, and its rows went on
 pub record GoesOnFrom (c : Commit) (lines image : List ℕ) : Type 0 where
   pub commit : Commit
   pub body : List ℕ

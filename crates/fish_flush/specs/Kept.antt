@@ -16,7 +16,15 @@ use Rattle.fish_slots.specs.Offsets.{lines_at}
 -- the commit of a store without a record
 abbrev pub first_commit : Shape → Commit
 first_commit s =
-    record { format = newest_format; turn = 0; pages = s.pages; bucket_bits = s.bucket_bits; count = 0; lines = 0; rows = [] }
+    record {
+      format = newest_format;
+      turn = 0;
+      pages = s.pages;
+      bucket_bits = s.bucket_bits;
+      count = 0;
+      lines = 0;
+      rows = [];
+    }
 
 -- the last commit, for a table of this shape with these rows
 abbrev pub commit_of : Flusher → Shape → List CatRow → Commit

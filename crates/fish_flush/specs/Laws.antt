@@ -62,7 +62,8 @@ GrownBegins = (n : ℕ) (old : List CatRow) (v u : View) (r s : Registrar) (name
 -- so does a look at the lanes, by a pass that has counted those entries
 abbrev pub GrownPolls : Type 0
 GrownPolls = (n : ℕ) (old : List CatRow) (v u : View) (r s : Registrar) (answer : Poll)
-    → HaveGrown n old r.catalog → n ≤ v.learned.count → Changes v u → PollSays v r u s answer → HaveGrown n old s.catalog
+    → HaveGrown n old r.catalog → n ≤ v.learned.count → Changes v u → PollSays v r u s answer
+    → HaveGrown n old s.catalog
 
 -- so does an end, wherever it is
 abbrev pub GrownEnds : Type 0
@@ -79,4 +80,5 @@ GrownClamps = (n count : ℕ) (old rows : List CatRow) → HaveGrown n old rows 
 
 -- where words were read so far, the first page in which no region begins is the one after that of the last page start
 abbrev pub PagesFollowStarts : Type 0
-PagesFollowStarts = (c : Commit) (words : List ℕ) (n : ℕ) (s : Reached) → Agrees c words n s → s.page ≡ page_after s.starts
+PagesFollowStarts = (c : Commit) (words : List ℕ) (n : ℕ) (s : Reached) → Agrees c words n s
+    → s.page ≡ page_after s.starts

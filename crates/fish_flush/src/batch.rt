@@ -84,7 +84,8 @@ pub(crate) fn add_region(log: &Log, pass: &mut Pass, number: u32, batch: &mut Ba
     requires from { log.now.key.number ≤ number }
     requires counted { number < (view pass.old).learned.count }
     requires line { IsLineAt (view pass.old) number batch.old.line }
-    requires end { (to : ℕ) × (number < to) × (to ≤ (view pass.old).learned.settled) × IsLineAt (view pass.old) to batch.old.end }
+    requires end { (to : ℕ) × (number < to) × (to ≤ (view pass.old).learned.settled) × IsLineAt (view pass.old) to
+        batch.old.end }
     requires some { 0 < length batch.old.heads.items }
     requires page { (batch.old.written ≤ batch.old.line) × (page_of batch.old.written ≡ page_of batch.old.line) }
     requires room { HasRoom batch.old }

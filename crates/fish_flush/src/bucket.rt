@@ -31,7 +31,8 @@ fn mix_value(words: &[u64], behind: u64, from: u64, size: u64, hash: u64) -> u64
     requires behind { behind < 2 ^ 11 }
     requires from { from < 2 ^ 18 }
     requires size { size < 2 ^ 9 }
-    ensures { result ≡ fnv1a_behind hash (map (λ j. byte_behind (slice_index words.now) behind (from + j)) (range_with_len 0 size)) }
+    ensures { result ≡ fnv1a_behind hash (map (λ j. byte_behind (slice_index words.now) behind (from + j))
+        (range_with_len 0 size)) }
 {
     let mut mixed = hash;
     for j in 0..size {

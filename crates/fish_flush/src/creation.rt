@@ -1,6 +1,7 @@
 //! A store without a record.
 
-ghost use Rattle.std.specs.Prelude.{◌≡◌, ◌≤◌, ◌+◌, ◌*◌, [], false, ℕ, List, IfOk, IfSome, IsErrOf, OnOk, length, replicate};
+ghost use Rattle.std.specs.Prelude.{◌≡◌, ◌≤◌, ◌+◌, ◌*◌, [], false, ℕ, List, IfOk, IfSome, IsErrOf, OnOk, length};
+ghost use Rattle.std.specs.Prelude.{replicate};
 ghost use Rattle.fish_disk.specs.Crash.{LeavesOnly};
 ghost use Rattle.fish_outside.specs.Causes.{HasCause};
 ghost use Rattle.fish_image.specs.Progress.{AreHeads};

@@ -32,8 +32,8 @@ pub(crate) struct Draft {
     pub batch: Batch,
 }
 
-/// The draft of a commit of the log up to a settled number, of which no region is copied yet. All memory that the commit
-/// needs is taken here.
+/// The draft of a commit of the log up to a settled number, of which no region is copied yet. All memory that the
+/// commit needs is taken here.
 pub(crate) fn draft_commit(
     alloc: Global,
     log: &Log,

@@ -13,14 +13,15 @@ use fish_disk::Disk;
 use fish_outside::Failed;
 use fish_slots::{close_old, open_gate, seal};
 
-/// Puts a commit into the slot that is closed, once its lines are written after those of the last commit, and lets it take
-/// the place of the last. The lines are not yet synced. Six calls of the disk.
+/// Puts a commit into the slot that is closed, once its lines are written after those of the last commit, and lets it
+/// take the place of the last. The lines are not yet synced. Six calls of the disk.
 pub(crate) fn put_body<D: Disk>(disk: &mut D, slot: u8, body: &[u8]) -> Result<(), Failed>
     requires slot { slot ≤ 1 }
     requires size { length body.now ≡ body_bytes }
-    requires rests { (line : ℕ) × (b w more : List ℕ) × GrowsBy D.content D.images disk.old slot line b w body.now more }
-    ensures done { OnOk result ((line : ℕ) (b w more : List ℕ) → GrowsBy D.content D.images disk.old slot line b w body.now more
-        → (c : List ℕ) → D.images disk.new c → Rests slot body.now (w ++ more) c) }
+    requires rests { (line : ℕ) × (b w more : List ℕ) × GrowsBy D.content D.images disk.old slot line b w body.now
+        more }
+    ensures done { OnOk result ((line : ℕ) (b w more : List ℕ) → GrowsBy D.content D.images disk.old slot line b w
+        body.now more → (c : List ℕ) → D.images disk.new c → Rests slot body.now (w ++ more) c) }
     ensures crash { (line : ℕ) (b w more : List ℕ) → GrowsBy D.content D.images disk.old slot line b w body.now more
         → LeavesOnly D.images D.since D.moment disk.old disk.new
         (EitherCommit b w body.now (w ++ more)) }

@@ -1,7 +1,8 @@
 //! What a checkpoint asks for is there once a store is made, and stays. The functions do nothing; their contracts are
 //! the laws.
 
-ghost use Rattle.fish_flush.specs.Laws.{CarriesOn, FirstCarries, FirstHolds, GrownBegins, GrownClamps, GrownEnds, GrownPolls};
+ghost use Rattle.fish_flush.specs.Laws.{CarriesOn, FirstCarries, FirstHolds, GrownBegins, GrownClamps, GrownEnds};
+ghost use Rattle.fish_flush.specs.Laws.{GrownPolls};
 ghost use Rattle.fish_flush.specs.Laws.{HoldsOn, KnownAreHeld, PagesFollowStarts};
 
 use fish_disk::Disk;

@@ -18,8 +18,8 @@ use fish_layout::{LINE_BYTES, LINES_AT, page_of};
 use fish_outside::Failed;
 use fish_rule::{Log, Pass};
 
-/// Writes the regions of settled numbers from one on up to another, after what the batch has, by one call of the disk for each
-/// page that they touch. A region that crosses a page's end is written with the page in which it begins.
+/// Writes the regions of settled numbers from one on up to another, after what the batch has, by one call of the disk
+/// for each page that they touch. A region that crosses a page's end is written with the page in which it begins.
 pub(crate) fn write_settled<D: Disk>(
     log: &Log,
     pass: &mut Pass,
@@ -36,8 +36,8 @@ pub(crate) fn write_settled<D: Disk>(
     ensures pass { IsPassOf log.now pass.new }
     ensures extends { Extends (view pass.old) (view pass.new) }
     ensures line { EndsWithin log.now.key.end batch.old.line batch.new.line }
-    ensures done { OnOk result ((lines : List ℕ) × HasCopied (view pass.old) (view pass.new) from to batch.old batch.new lines
-        × HasPut (D.content disk.old) (D.content disk.new) (lines_at + 32 * batch.old.line) lines) }
+    ensures done { OnOk result ((lines : List ℕ) × HasCopied (view pass.old) (view pass.new) from to batch.old batch.new
+        lines × HasPut (D.content disk.old) (D.content disk.new) (lines_at + 32 * batch.old.line) lines) }
     ensures crash { (n : ℕ) × LeavesOnly D.images D.since D.moment disk.old disk.new
         (TornFrom (D.images disk.old) (lines_at + 32 * batch.old.line) n) }
     ensures calls { D.moment disk.new ≤ D.moment disk.old + pages_between batch.old.line batch.new.line }
@@ -62,8 +62,8 @@ fn write_pending<D: Disk>(batch: &mut Batch, disk: &mut D) -> Result<(), Failed>
     requires within { IfSome (D.content disk.old) (λ c. lines_at + 32 * batch.old.written ≤ length c) }
     ensures kept { batch.new ≡ record batch.old { written = batch.new.written } }
     ensures written { OnOk result (batch.new.written ≡ batch.old.line) }
-    ensures content { OnOk result (HasWritten (D.content disk.old) (D.content disk.new) (lines_at + 32 * batch.old.written)
-        (pending batch.old)) }
+    ensures content { OnOk result (HasWritten (D.content disk.old) (D.content disk.new)
+        (lines_at + 32 * batch.old.written) (pending batch.old)) }
     ensures crash { LeavesOnly D.images D.since D.moment disk.old disk.new
         (TornFrom (D.images disk.old) (lines_at + 32 * batch.old.written) (32 * (batch.old.line - batch.old.written))) }
     ensures one { D.moment disk.new ≤ D.moment disk.old + 1 }

@@ -45,8 +45,8 @@ pub fn checkpoint<D: Disk>(
     ensures pass { IsPassOf log.now pass.new }
     ensures reads { Reads (view pass.old) (view pass.new) }
     ensures settled { IfOk result (HasSettled (view pass.old) (view pass.new)) }
-    ensures committed { IfOk result (HasCommitted (D.images disk.old) (D.images disk.new) flusher.old flusher.new (view pass.old)
-        (view pass.new) log.now.shape catalog.now) }
+    ensures committed { IfOk result (HasCommitted (D.images disk.old) (D.images disk.new) flusher.old flusher.new
+        (view pass.old) (view pass.new) log.now.shape catalog.now) }
     ensures crash { (c : Commit) (old : List Entry)
         → (h : Carries (D.images disk.old) flusher.old (view pass.old) log.now.shape catalog.now c old)
         → LeavesEither D.images D.since D.moment disk.old disk.new (view pass.new) catalog.now c old h.rest.lines }
@@ -77,8 +77,8 @@ fn save<D: Disk>(
     ensures extends { Extends (view pass.old) (view pass.new) }
     ensures count { IfOk result (λ n. n ≡ draft.count) }
     ensures kept { OnOk result ((flusher.new.count ≡ draft.count) × (flusher.new.shut ≡ flusher.old.shut)) }
-    ensures saved { OnOk result (IsSaved (D.images disk.old) (D.images disk.new) (view pass.old) (view pass.new) log.now.key.end
-        log.now.shape flusher.old draft flusher.new) }
+    ensures saved { OnOk result (IsSaved (D.images disk.old) (D.images disk.new) (view pass.old) (view pass.new)
+        log.now.key.end log.now.shape flusher.old draft flusher.new) }
     ensures crash { (rows : List CatRow) (c : Commit) (old : List Entry)
         → (may : MaySave (D.images disk.old) (view pass.old) log.now.key.end log.now.shape flusher.old draft rows c old)
         → LeavesEither D.images D.since D.moment disk.old disk.new (view pass.new) rows c old may.rest.lines }
@@ -116,11 +116,11 @@ fn write_draft<D: Disk>(
     ensures pass { IsPassOf log.now pass.new }
     ensures extends { Extends (view pass.old) (view pass.new) }
     ensures kept { draft.new ≡ record draft.old { batch = draft.new.batch } }
-    ensures saved { OnOk result (IsSaved (D.images disk.old) (D.images disk.new) (view pass.old) (view pass.new) log.now.key.end
-        log.now.shape flusher.now draft.old (flusher_after flusher.now draft.new)) }
+    ensures saved { OnOk result (IsSaved (D.images disk.old) (D.images disk.new) (view pass.old) (view pass.new)
+        log.now.key.end log.now.shape flusher.now draft.old (flusher_after flusher.now draft.new)) }
     ensures crash { (rows : List CatRow) (c : Commit) (old : List Entry)
-        → (may : MaySave (D.images disk.old) (view pass.old) log.now.key.end log.now.shape flusher.now draft.old rows c old)
-        → LeavesEither D.images D.since D.moment disk.old disk.new (view pass.new) rows c old may.rest.lines }
+        → (may : MaySave (D.images disk.old) (view pass.old) log.now.key.end log.now.shape flusher.now draft.old rows c
+        old) → LeavesEither D.images D.since D.moment disk.old disk.new (view pass.new) rows c old may.rest.lines }
     ensures gates { GatesAreSynced (D.images disk.new) (D.images disk.new) }
     ensures calls { D.moment disk.new ≤ D.moment disk.old + pages_between flusher.now.line log.now.key.end + 6 }
     ensures cause { HasCause (D.faults disk.old) (D.faults disk.new) result }

@@ -28,8 +28,8 @@ pub record IsChecker (checker : Checker) : Type 0 where
   pub words : List ℕ
   pub seen : HasSeen commit checker words
 
--- what a piece of words comes to: they were seen; or they were, and so many entries agree, whatever comes after; or memory
--- ran out, and it is as if they had not come
+-- what a piece of words comes to: they were seen; or they were, and so many entries agree, whatever comes after; or
+-- memory ran out, and it is as if they had not come
 abbrev pub Fed : Result (Unit {0}) ImageRefusal → Commit → List ℕ → List ℕ → Checker → Type 0
 Fed (Ok _) c w piece new = HasSeen c new (w ++ piece)
 Fed (Err (Damaged n)) c w piece new = HasSeen c new (w ++ piece) × Breaks c (w ++ piece) n

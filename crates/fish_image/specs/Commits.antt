@@ -36,8 +36,8 @@ pub record IsOfFormat (c : Commit) : Type 0 where
   pub known : c.format ≤ newest_format
   pub few_active : c.format ≡ 1 → count_by is_active c.rows ≤ most_active_at_first
 
--- a slot can tell the commit: its numbers are within their limits, as the rows are of its format, and its rows are texts and
--- those of a catalogue
+-- a slot can tell the commit: its numbers are within their limits, as the rows are of its format, and its rows are
+-- texts and those of a catalogue
 pub record IsCommit (c : Commit) : Type 0 where
   pub within : IsWithin c
   pub format : IsOfFormat c

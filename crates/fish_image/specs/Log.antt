@@ -1,5 +1,6 @@
 -- What the words of a log's lines stand for.
-use Rattle.std.specs.Prelude.{ℕ, zero, suc, ◌≡◌, ◌≢◌, ◌+◌, ◌-◌, ◌*◌, ◌^◌, ◌<◌, ◌≤◌, ◌⊎◌, List, [], ◌∷◌, ◌==◌, ⊤, Some, true}
+use Rattle.std.specs.Prelude.{ℕ, zero, suc, ◌≡◌, ◌≢◌, ◌+◌, ◌-◌, ◌*◌, ◌^◌, ◌<◌, ◌≤◌, ◌⊎◌, List, [], ◌∷◌, ◌==◌, ⊤, Some}
+use Rattle.std.specs.Prelude.{true}
 use Rattle.std.specs.Prelude.{drop, if◌then◌else◌, length, replicate, slice_get, slice_index, take}
 use Rattle.fish_catalog.specs.Covering.{Covers}
 use Rattle.fish_catalog.specs.declared.commit.Commit.{Commit}

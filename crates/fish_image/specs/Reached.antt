@@ -7,8 +7,8 @@ use Rattle.fish_layout.specs.Hash.{bucket_in, key_hash_of}
 use Rattle.fish_layout.specs.Pages.{page_of, place_of}
 use Rattle.fish_layout.specs.declared.parts.KeyPart.{KeyPart}
 
--- how far words were read: the next line and the next number, the number of the first page in which no region begins yet,
--- the buckets and places of the key entries, newest first, where pages begin to hold regions, and the entries
+-- how far words were read: the next line and the next number, the number of the first page in which no region begins
+-- yet, the buckets and places of the key entries, newest first, where pages begin to hold regions, and the entries
 pub record Reached : Type 0 where
   pub line : ℕ
   pub number : ℕ

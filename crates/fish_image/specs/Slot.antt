@@ -40,7 +40,8 @@ row_bytes row =
 abbrev pub sign_of : ℕ → ℕ
 sign_of format = 3472368029375088966 + format * 2 ^ 56
 
--- the first eight words: the letters `FISHST01` or `FISHST02`, the turn, pages, bucket bits, count, lines, the number of rows, and 0
+-- the first eight words: the letters `FISHST01` or `FISHST02`, the turn, pages, bucket bits, count, lines, the number
+-- of rows, and 0
 abbrev pub head_words : Commit → List ℕ
 head_words c =
     sign_of c.format ∷ c.turn ∷ c.pages ∷ c.bucket_bits ∷ c.count ∷ c.lines ∷ length c.rows ∷ 0 ∷ []

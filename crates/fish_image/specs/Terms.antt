@@ -16,7 +16,8 @@ pub record IsIndexRow (row : CatRow) (x : IndexRow) : Type 0 where
 -- those of all rows are kept
 pub record AreIndexRows (rows : List CatRow) (xs : List IndexRow) : Type 0 where
   pub size : length xs ≡ length rows
-  pub each : (id : ℕ) (row : CatRow) (x : IndexRow) → slice_get rows id ≡ Some row → slice_get xs id ≡ Some x → IsIndexRow row x
+  pub each : (id : ℕ) (row : CatRow) (x : IndexRow) → slice_get rows id ≡ Some row → slice_get xs id ≡ Some x
+      → IsIndexRow row x
 
 -- the terms are those of the commit
 pub record AreTermsOf (c : Commit) (terms : Terms) : Type 0 where

@@ -76,8 +76,8 @@ pub(crate) fn advance(
 ) -> Result<Advanced, AllocError>
     requires { IsReading terms.now at.old }
     ensures used { IfOk result (λ a. a.used ≤ length words.now) }
-    ensures all { IfOk result (λ a. (c : Commit) (w : List ℕ) (s : Reached) → AreTermsOf c terms.now → HasCome c w s at.old
-        → words.now ≡ drop (4 * s.line) w → Advances a.damaged c w (drop a.used words.now) at.new) }
+    ensures all { IfOk result (λ a. (c : Commit) (w : List ℕ) (s : Reached) → AreTermsOf c terms.now → HasCome c w s
+        at.old → words.now ≡ drop (4 * s.line) w → Advances a.damaged c w (drop a.used words.now) at.new) }
 {
     let mut used = 0;
     for number in at.number..terms.count {

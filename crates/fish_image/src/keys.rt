@@ -49,7 +49,8 @@ fn are_known(rows: &[IndexRow], keys: &[KeyPart]) -> bool
     true
 }
 
-/// Whether the key entries of a definition have values that it gives, and all of them where its index covers the record.
+/// Whether the key entries of a definition have values that it gives, and all of them where its index covers the
+/// record.
 #[tactic(auto, using(crate::proofs::RowValues::none_wanted))]
 fn has_values<R: Parsed>(
     alloc: Global,
@@ -60,7 +61,8 @@ fn has_values<R: Parsed>(
     rec: &R,
 ) -> Result<bool, AllocError>
     requires { AreProperKeys 0 keys.now }
-    ensures { IfOk result (λ yes. IsTrue yes ↔ HasIndexValues row.now number (R.fields rec.now) (values_under id keys.now)) }
+    ensures { IfOk result (λ yes. IsTrue yes ↔ HasIndexValues row.now number (R.fields rec.now)
+        (values_under id keys.now)) }
 {
     let covered = covers(row, number);
     if !covered && has_none(keys, id) {

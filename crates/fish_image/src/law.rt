@@ -13,7 +13,8 @@ ghost use Rattle.fish_image.specs.Reached.{Reached, head_of};
 pub fn checked_is_one_log()
     ensures some { (c : Commit) (w : List ℕ) (checked : Checked) → HasChecked c w checked
         → (log : List Entry) × StandsFor c w log }
-    ensures one { (c : Commit) (w : List ℕ) (log other : List Entry) → StandsFor c w log → StandsFor c w other → log ≡ other }
+    ensures one { (c : Commit) (w : List ℕ) (log other : List Entry) → StandsFor c w log → StandsFor c w other
+        → log ≡ other }
 {}
 
 /// Words that are damaged stand for no log.

@@ -3,7 +3,8 @@
 //! What can be decoded is decoded, and spelled again: the bytes tell a commit exactly where they are
 //! those that it spells. So no rule of the format stands here a second time.
 
-ghost use Rattle.std.specs.Prelude.{◌≡◌, ◌↔◌, ◌+◌, ◌*◌, ◌≤◌, ℕ, List, Option, Some, IfOk, IfSome, IsSome, IsTrue, length, drop};
+ghost use Rattle.std.specs.Prelude.{◌≡◌, ◌↔◌, ◌+◌, ◌*◌, ◌≤◌, ℕ, List, Option, Some, IfOk, IfSome, IsSome, IsTrue};
+ghost use Rattle.std.specs.Prelude.{length, drop};
 ghost use Rattle.fish_catalog.specs.declared.commit.Commit.{Commit};
 ghost use Rattle.fish_catalog.specs.declared.row.CatRow.{CatRow};
 ghost use Rattle.fish_image.specs.Commits.{IsBoundary};

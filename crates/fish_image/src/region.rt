@@ -3,7 +3,8 @@
 //! Whoever calls has cut the region out of the words by its header, and has seen that it ends within
 //! the committed lines.
 
-ghost use Rattle.std.specs.Prelude.{◌≡◌, ◌≢◌, ◌-◌, ◌↔◌, ◌+◌, ◌*◌, ◌^◌, ◌≤◌, ◌<◌, ℕ, List, false, IfOk, IsTrue, MatchOption, OnOk, length, slice_index};
+ghost use Rattle.std.specs.Prelude.{◌≡◌, ◌≢◌, ◌-◌, ◌↔◌, ◌+◌, ◌*◌, ◌^◌, ◌≤◌, ◌<◌, ℕ, List, false, IfOk, IsTrue};
+ghost use Rattle.std.specs.Prelude.{MatchOption, OnOk, length, slice_index};
 ghost use Rattle.fish_catalog.specs.declared.commit.Commit.{Commit};
 ghost use Rattle.fish_catalog.specs.declared.entry.Entry.{Entry};
 ghost use Rattle.fish_catalog.specs.declared.entry.Entry.TheVariants.{Void};
@@ -69,8 +70,8 @@ fn take_void(at: &mut Progress, lines: u64) -> Result<bool, AllocError>
     requires some { 1 ≤ lines }
     requires few { at.old.number < 2 ^ 28 }
     requires short { at.old.line + lines < 2 ^ 40 }
-    ensures { IfOk result (λ yes. (c : Commit) (s : Reached) → IsAt c s at.old
-        → Took yes c (λ n. (page_of s.line < page_of (s.line + lines - 1)) × (n ≡ behind s lines s.places Void)) at.new) }
+    ensures { IfOk result (λ yes. (c : Commit) (s : Reached) → IsAt c s at.old → Took yes c
+        (λ n. (page_of s.line < page_of (s.line + lines - 1)) × (n ≡ behind s lines s.places Void)) at.new) }
 {
     if !crosses_page(at.line, lines) {
         return Ok(false);

@@ -41,7 +41,8 @@ pub record IsNewLane (number : ℕ) (x : Lane) : Type 0 where
   pub empty : x.items ≡ []
   pub nothing_left : x.left ≡ []
 
--- there are 1 to 16 lanes, with the numbers from 1 on; the first alone may commit, and change definitions, as a registrar asks
+-- there are 1 to 16 lanes, with the numbers from 1 on; the first alone may commit, and change definitions, as a
+-- registrar asks
 pub record AreLanes (lanes : List Lane) : Type 0 where
   pub some : 1 ≤ length lanes
   pub few : length lanes ≤ 16
@@ -51,7 +52,8 @@ pub record AreLanes (lanes : List Lane) : Type 0 where
 
 -- ---- afterwards
 
--- the block lies between the log's end before it and after it, and between the versions there; and what had shut the pass
+-- the block lies between the log's end before it and after it, and between the versions there; and what had shut the
+-- pass
 pub record IsBlockSpan (v t : View) (to : ℕ) (s : Span) : Type 0 where
   pub begins : HasEnd v s.from
   pub ends : s.to ≡ to
@@ -64,20 +66,22 @@ abbrev pub StoresByLanes : Span → List Entry → ℕ → Type 0
 StoresByLanes s log many = (n lane : ℕ) (form : Form) (payload : List ℕ) → s.from ≤ n → n < s.to
     → slice_get log n ≡ Some (entry.Stored lane form payload) → (1 ≤ lane) × (lane ≤ many)
 
--- what a block tells of the whole log: each lane's items, of its records between the two ends; there no other lane has stored any; and
--- the log goes up to the block's end
+-- what a block tells of the whole log: each lane's items, of its records between the two ends; there no other lane has
+-- stored any; and the log goes up to the block's end
 pub record SaysBlock (w : Whole) (s : Span) (lanes : List Lane) : Type 0 where
   pub each : EachLane (λ i x. SaysLane w s (rows_of_lane w.log s.from s.to (i + 1)) x.works x.items) lanes
   pub own : StoresByLanes s w.log (length lanes)
   pub within : s.to ≤ length w.log
 
--- the items that tell of the definitions: those of the first lane, and the boundary that was found once the lanes had ended
+-- the items that tell of the definitions: those of the first lane, and the boundary that was found once the lanes had
+-- ended
 abbrev pub control_items : Lane → BlockEnd → List Item
 control_items x end = x.items ++ bound_items end.bound
 
--- its items fit the registry where they stand, and the definitions that they tell are those of the words; of each that tells of a registration which
--- waits, the load that found the lane for which it does was made in the block; unless the first lane stopped at a fault, the definitions
--- after the block are those that its items tell; and none waits for its boundary
+-- its items fit the registry where they stand, and the definitions that they tell are those of the words; of each that
+-- tells of a registration which waits, the load that found the lane for which it does was made in the block; unless the
+-- first lane stopped at a fault, the definitions after the block are those that its items tell; and none waits for its
+-- boundary
 pub record HasRegistered (v t : View) (r s : Registrar) (x : Lane) (end : BlockEnd) : Type 0 where
   pub found : AreFound v.clock t.clock (registry_of v r) x.items
   pub known : KnowsEach t (registry_of v r) x.items
@@ -90,11 +94,12 @@ pub record HasRegistered (v t : View) (r s : Registrar) (x : Lane) (end : BlockE
 
 -- an item that was refused since the log is full names a mark, and the log's end
 abbrev pub IsMarkItem : View → Item → Type 0
-IsMarkItem u x = (file : List ℕ) (line lines end stored refused : ℕ) → x ≡ item.IngestFull file line lines end stored refused
+IsMarkItem u x = (file : List ℕ) (line lines end stored refused : ℕ)
+    → x ≡ item.IngestFull file line lines end stored refused
     → Always u (IsMarkAt line lines) × (end ≡ u.about.end)
 
--- the statements of the lane at a position have items, but for those after a fault, and only the first lane tells besides where an index
--- begins
+-- the statements of the lane at a position have items, but for those after a fault, and only the first lane tells
+-- besides where an index begins
 pub record IsEndedLane (position : ℕ) (x : Lane) : Type 0 where
   pub ended : IsEnded x.works x.items x.fault
   pub answers : 0 < position → AllOf IsAnswer x.items

@@ -16,8 +16,8 @@ pub record LoadsInTable (v u : View) (value : Value) (answer : Answer) : Type 0 
   pub allowed : AreAllowed u value answer.opens answer.rows answer.plan most
   pub few : u.clock.loads ≤ v.clock.loads + most
 
--- it loaded no more than the pieces in the table are allowed, and than lead through the table to the chains of older records that an
--- image has which stands for what was before the table
+-- it loaded no more than the pieces in the table are allowed, and than lead through the table to the chains of older
+-- records that an image has which stands for what was before the table
 pub record LoadsAcross (past : Whole) (v u : View) (value : Value) (answer : Answer) : Type 0 where
   pub base : ℕ
   pub base_is : base ≡ u.about.number

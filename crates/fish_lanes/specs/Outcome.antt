@@ -32,8 +32,9 @@ pub record IsFullIn (lanes : List Lane) (line lines end : ℕ) : Type 0 where
   pub refused : ℕ
   pub among : Among (item.IngestFull file line lines end stored refused) lane.items
 
--- what shuts the control pass after the block did so before, or an item of a lane tells of it, unless one stopped at a fault; what shut
--- it before still does, and it is shut where an item was refused; and the items of a lane that were refused name one claim
+-- what shuts the control pass after the block did so before, or an item of a lane tells of it, unless one stopped at a
+-- fault; what shut it before still does, and it is shut where an item was refused; and the items of a lane that were
+-- refused name one claim
 pub record SaysShutBy (v u : View) (lanes : List Lane) : Type 0 where
   pub by : EachLane (λ i x. x.fault ≡ cause.None) lanes → (c : Shut) → u.shut ≡ Some c
       → (v.shut ≡ Some c) ⊎ IsFullIn lanes c.line c.lines c.end
@@ -43,8 +44,8 @@ pub record SaysShutBy (v u : View) (lanes : List Lane) : Type 0 where
 
 -- ---- statements that are handed back
 
--- the lane stopped since it found the log full, as it wasn't before the block: it met no fault, its last item and no other tells that the
--- log is full, and after the block the control pass is shut
+-- the lane stopped since it found the log full, as it wasn't before the block: it met no fault, its last item and no
+-- other tells that the log is full, and after the block the control pass is shut
 pub record IsCutShort (v u : View) (x : Lane) : Type 0 where
   pub fault : x.fault ≡ cause.None
   pub last : EndsFull x.items
@@ -65,15 +66,15 @@ LeaveNone lanes = EachLane (λ i x. x.left ≡ []) lanes
 
 -- ---- plans
 
--- what the items of each lane say of plans, where the definitions before the block are these, the rows after it those, and the
--- log ended at a number before it
+-- what the items of each lane say of plans, where the definitions before the block are these, the rows after it those,
+-- and the log ended at a number before it
 abbrev pub LanesSayPlans : (ℕ → List Listed → Type 0) → Registry → List CatRow → ℕ → List Lane → Type 0
 LanesSayPlans Are r rows from lanes = EachLane (λ i x. PlansHold Are r rows from x.works x.items) lanes
 
 -- ---- one lane
 
--- the items of a block of one lane name no open number and no other lane; and where no registration waited for its boundary, one
--- statement that is all of the block tells what can be told where nothing runs beside it
+-- the items of a block of one lane name no open number and no other lane; and where no registration waited for its
+-- boundary, one statement that is all of the block tells what can be told where nothing runs beside it
 pub record SaysAloneBy (Past : Whole → Type 0) (v u : View) (r : Registrar) (x : Lane) : Type 0 where
   pub closed : AllOf NamesNone x.items
   pub only : (end : ℕ) → HasEnd v end → r.waiting ≡ None → SaysOnly Past v u r.catalog end x.works x.items
@@ -90,8 +91,8 @@ AreVacant lanes = EachLane (λ i x. x.seat ≡ None) lanes
 
 -- ---- faults
 
--- a lane stops at a fault of the disk only where the disk's count of faults rose, which never falls, and at damage of no past that a
--- disk has whole
+-- a lane stops at a fault of the disk only where the disk's count of faults rose, which never falls, and at damage of
+-- no past that a disk has whole
 pub record Stops (Past : Whole → Type 0) (before now : ℕ) (x : Lane) : Type 0 where
   pub later : before ≤ now
   pub cause : HasCause before now x.fault

@@ -1,5 +1,5 @@
--- What plans, and refusals of a range that no index covers, say of the definitions: where pieces by an index lie, and that no number is
--- read one by one that an index was known to hold.
+-- What plans, and refusals of a range that no index covers, say of the definitions: where pieces by an index lie, and
+-- that no number is read one by one that an index was known to hold.
 use Rattle.std.specs.Prelude.{ℕ, ◌≡◌, ◌≢◌, ◌<◌, ◌≤◌, cond, drop, List, [], ◌∷◌, Some, slice_get, ⊤}
 use Rattle.fish_catalog.specs.declared.listed.Listed.{Listed}
 use Rattle.fish_catalog.specs.declared.row.CatRow.{CatRow}
@@ -23,8 +23,8 @@ use Rattle.fish_whole.specs.Whole.{Whole}
 
 -- ---- numbers and pieces, by the rows that were told before, and by those that follows the block
 
--- the number is covered: a row has the text whose index begins at the number or before it, as was told before, and ends after it,
--- if it has ended when the block has
+-- the number is covered: a row has the text whose index begins at the number or before it, as was told before, and ends
+-- after it, if it has ended when the block has
 pub record IsCoveredNumber (told rows : List CatRow) (text : List ℕ) (n : ℕ) : Type 0 where
   pub id : ℕ
   pub row : CatRow
@@ -46,11 +46,13 @@ pub record IsIndexPiece (told rows : List CatRow) (id begin end : ℕ) : Type 0 
   pub begun : HasBegunBy begin row
   pub ended : (early : CatRow) (to : ℕ) → slice_get told id ≡ Some early → early.to ≡ Some to → end ≤ to
 
--- the pieces of a plan by a text: unless all numbers were to be read one by one, none below the log's end before the block is that
--- is covered
+-- the pieces of a plan by a text: unless all numbers were to be read one by one, none below the log's end before the
+-- block is that is covered
 pub record IsPlanOf (told rows : List CatRow) (from : ℕ) (text : List ℕ) (way : How) (plan : List Piece) : Type 0 where
-  pub indexed : (position id begin end : ℕ) → slice_get plan position ≡ Some (Index id begin end) → IsIndexPiece told rows id begin end
-  pub full : way ≢ how.Full → (position begin end n : ℕ) → slice_get plan position ≡ Some (Full begin end) → begin ≤ n → n < end
+  pub indexed : (position id begin end : ℕ) → slice_get plan position ≡ Some (Index id begin end)
+      → IsIndexPiece told rows id begin end
+  pub full : way ≢ how.Full → (position begin end n : ℕ) → slice_get plan position ≡ Some (Full begin end) → begin ≤ n
+      → n < end
       → n < from → ¬ IsCoveredNumber told rows text n
 
 -- ---- items
@@ -70,17 +72,20 @@ pub record IsNamedAt (Are : ℕ → List Listed → Type 0) (ask : Ask) (version
   pub newest : IsNewest rows ask.name position
 
 -- a plan, or a refusal, at a version: the text is that which the name means there
-pub record SaysPlanned (Are : ℕ → List Listed → Type 0) (told rows : List CatRow) (from : ℕ) (ask : Ask) (plan : List Piece)
+pub record SaysPlanned (Are : ℕ → List Listed → Type 0) (told rows : List CatRow) (from : ℕ) (ask : Ask)
+    (plan : List Piece)
     (version : ℕ) : Type 0 where
   pub named : IsNamedAt Are ask version
   pub plan_is : IsPlanOf told rows from named.newest.listed.def ask.how plan
 
-pub record SaysUncovered (Are : ℕ → List Listed → Type 0) (told rows : List CatRow) (ask : Ask) (begin end version : ℕ) : Type 0 where
+pub record SaysUncovered (Are : ℕ → List Listed → Type 0) (told rows : List CatRow) (ask : Ask) (begin end version : ℕ)
+    : Type 0 where
   pub named : IsNamedAt Are ask version
   pub none : HoldsNone told rows named.newest.listed.def begin end
 
 abbrev pub SaysPlansOf : (ℕ → List Listed → Type 0) → List CatRow → List CatRow → ℕ → Ask → Item → Type 0
-SaysPlansOf Are told rows from ask (item.Explained name value first last plan version) = SaysPlanned Are told rows from ask plan version
+SaysPlansOf Are told rows from ask (item.Explained name value first last plan version) =
+    SaysPlanned Are told rows from ask plan version
 SaysPlansOf Are told rows from ask (item.ExplainRefused name version (cause.NotCovered first last)) =
     SaysUncovered Are told rows ask first last version
 SaysPlansOf Are told rows from ask (item.ScanRefused name version (cause.NotCovered first last)) =

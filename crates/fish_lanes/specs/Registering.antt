@@ -1,5 +1,6 @@
 -- The definitions of a log as the items of a run tell them.
-use Rattle.std.specs.Prelude.{ℕ, ◌≡◌, ◌⊎◌, ◌+◌, ◌<◌, ◌≤◌, List, [], ◌∷◌, ◌++◌, Option, Some, None, ⊤, count_by, length, map}
+use Rattle.std.specs.Prelude.{ℕ, ◌≡◌, ◌⊎◌, ◌+◌, ◌<◌, ◌≤◌, List, [], ◌∷◌, ◌++◌, Option, Some, None, ⊤, count_by, length}
+use Rattle.std.specs.Prelude.{map}
 use Rattle.fish_catalog.specs.Closing.{with_to}
 use Rattle.fish_catalog.specs.Limits.{most_active}
 use Rattle.fish_catalog.specs.Listing.{listed_of}
@@ -92,7 +93,8 @@ IsDeregisterCause r name deregister.UnknownName = MayChange r × (¬ HasActive r
 abbrev pub ItemFits : ℕ → ℕ → Registry → Item → Type 0
 ItemFits low high r (item.Registered name id from def) =
     MayRegister r name × (id ≡ length r.rows) × IsBetween low high from
-ItemFits low high r (item.Rolling name id def seat version) = MayRegister r name × (id ≡ length r.rows) × (version ≤ r.version)
+ItemFits low high r (item.Rolling name id def seat version) = MayRegister r name × (id ≡ length r.rows)
+    × (version ≤ r.version)
 ItemFits low high r (item.Bound id from) = (r.waiting ≡ Some id) × IsBetween low high from
 ItemFits low high r (item.Deregistered name id to) = MayChange r × IsActiveNamed r.rows name id × IsBetween low high to
 ItemFits low high r (item.RegisterRefused name cause) = IsRegisterCause r name cause

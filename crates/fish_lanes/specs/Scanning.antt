@@ -45,8 +45,8 @@ pub record IsAskedFor (ask : Ask) (n : ℕ) : Type 0 where
   pub above : first_asked ask ≤ n
   pub below : (to : ℕ) → ask.to ≡ Some to → n < to
 
--- the range begins where it was asked to, or where it ends; it ends where it was asked to, or before, and at most 16 numbers
--- after the block
+-- the range begins where it was asked to, or where it ends; it ends where it was asked to, or before, and at most 16
+-- numbers after the block
 pub record IsAskedRange (s : Span) (ask : Ask) (from to : ℕ) : Type 0 where
   pub begins : from ≡ min (first_asked ask) to
   pub ends : (end : ℕ) → ask.to ≡ Some end → to ≤ end
@@ -56,8 +56,8 @@ pub record IsAskedRange (s : Span) (ask : Ask) (from to : ℕ) : Type 0 where
 pub record HoldsSeen (w : Whole) (seen : ℕ → Type 0) (ask : Ask) (from to : ℕ) (opens : List ℕ) : Type 0 where
   pub each : (n : ℕ) → seen n → n < length w.log → IsAskedFor ask n → (from ≤ n) × (n < to) × ¬ Among n opens
 
--- the open numbers rise within the range, from a beginning on; no two below an end are stored by one lane, and every number from the end
--- on is open, so that what a scan shows lies below it
+-- the open numbers rise within the range, from a beginning on; no two below an end are stored by one lane, and every
+-- number from the end on is open, so that what a scan shows lies below it
 pub record AreOpen (begin end : ℕ) (entries : List Entry) (from to : ℕ) (opens : List ℕ) : Type 0 where
   pub rise : Rise from to opens
   pub first : (n : ℕ) → Among n opens → begin ≤ n
@@ -65,8 +65,8 @@ pub record AreOpen (begin end : ℕ) (entries : List Entry) (from to : ℕ) (ope
       → slice_get entries m ≡ Some (entry.Stored lane f p) → slice_get entries n ≡ Some (entry.Stored lane g q) → m ≡ n
   pub behind : (n : ℕ) → from ≤ n → n < to → end ≤ n → Among n opens
 
--- a scan: its rows are exactly the records of the log in its range, less the open ones, on which the definition that the
--- name means has the value, newest first
+-- a scan: its rows are exactly the records of the log in its range, less the open ones, on which the definition that
+-- the name means has the value, newest first
 pub record SaysScan (w : Whole) (s : Span) (seen : ℕ → Type 0) (ask : Ask) (from to : ℕ) (opens : List ℕ)
     (rows : List Row) (version : ℕ) : Type 0 where
   pub range : IsAskedRange s ask from to
@@ -76,8 +76,8 @@ pub record SaysScan (w : Whole) (s : Span) (seen : ℕ → Type 0) (ask : Ask) (
   pub holds : HoldsSeen w seen ask from to opens
   pub are_open : AreOpen s.from s.to w.log from to opens
 
--- a plan: its pieces fill the range, each by an index is by one of a row with the text that the name means, and of numbers of
--- the log, and it is one piece where the numbers are to be read one by one
+-- a plan: its pieces fill the range, each by an index is by one of a row with the text that the name means, and of
+-- numbers of the log, and it is one piece where the numbers are to be read one by one
 pub record SaysPlan (w : Whole) (s : Span) (seen : ℕ → Type 0) (ask : Ask) (from to : ℕ) (plan : List Piece)
     (version : ℕ) : Type 0 where
   pub range : IsAskedRange s ask from to

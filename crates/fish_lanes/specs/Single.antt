@@ -47,9 +47,11 @@ pub record IsWhole (ask : Ask) (end from to : ℕ) : Type 0 where
 
 -- the plan is the cover of a range, all settled below a number, by the intervals of the rows with a text
 abbrev pub IsCoverOf : List CatRow → List ℕ → ℕ → ℕ → ℕ → List Piece → Type 0
-IsCoverOf rows text from settled to plan = (xs : List Interval) → AreIntervals rows text xs → IsCover plan from settled to xs
+IsCoverOf rows text from settled to plan = (xs : List Interval) → AreIntervals rows text xs
+    → IsCover plan from settled to xs
 
--- the range is read in the way that is asked for: number by number, or by that cover, which has no gap where the index alone is asked for
+-- the range is read in the way that is asked for: number by number, or by that cover, which has no gap where the index
+-- alone is asked for
 abbrev pub IsReadBy : List CatRow → List ℕ → How → ℕ → ℕ → ℕ → List Piece → Type 0
 IsReadBy rows text how.Full from settled to plan = plan ≡ one_full from to
 IsReadBy rows text how.Auto from settled to plan = IsCoverOf rows text from settled to plan
@@ -73,9 +75,10 @@ pub record IsGapFor (rows : List CatRow) (ask : Ask) (end from to : ℕ) : Type 
   pub cover : IsCoverOf rows newest.listed.def first end last plan
   pub gap : IsFirstGap plan end from to
 
--- a scan was answered: none of its numbers is open, and in the whole block the pass loaded no more words of the log than the
--- pieces of the plan are allowed
-pub record IsScanWork (Past : Whole → Type 0) (v u : View) (rows : List CatRow) (end : ℕ) (ask : Ask) (x : Item) : Type 0 where
+-- a scan was answered: none of its numbers is open, and in the whole block the pass loaded no more words of the log
+-- than the pieces of the plan are allowed
+pub record IsScanWork (Past : Whole → Type 0) (v u : View) (rows : List CatRow) (end : ℕ) (ask : Ask) (x : Item)
+    : Type 0 where
   pub answer : Answer
   pub version : ℕ
   pub is : x ≡ scanned_item ask answer version
@@ -96,23 +99,26 @@ IsCauseAt rows end ask (cause.NotCovered from to) = IsGapFor rows ask end from t
 IsCauseAt rows end ask why = ⊤
 
 -- the item of a refusal
-pub record IsCauseSaid (rows : List CatRow) (end : ℕ) (ask : Ask) (refused : List ℕ → ℕ → ScanCause → Item) (x : Item) : Type 0 where
+pub record IsCauseSaid (rows : List CatRow) (end : ℕ) (ask : Ask) (refused : List ℕ → ℕ → ScanCause → Item) (x : Item)
+    : Type 0 where
   pub version : ℕ
   pub why : ScanCause
   pub is : x ≡ refused ask.name version why
   pub tells : IsCauseAt rows end ask why
 
--- where the index of a row begins or ends, where that is all that a block tells: where the log ended, unless it was full
+-- where the index of a row begins or ends, where that is all that a block tells: at the log's end, unless it was full
 abbrev pub IsBoundaryAt : Option Shut → ℕ → Item → Type 0
 IsBoundaryAt full end (item.Registered name id from def) = full ≡ None → from ≡ end
 IsBoundaryAt full end (item.Deregistered name id to) = full ≡ None → to ≡ end
 IsBoundaryAt full end x = ⊤
 
--- the item of the statement, where the log ended at a number before the block, the rows were these, and the pass was the first before
--- it, and is the second after it
+-- the item of the statement, where the log ended at a number before the block, the rows were these, and the pass was
+-- the first before it, and is the second after it
 abbrev pub SaysSingle : (Whole → Type 0) → View → View → List CatRow → ℕ → Work → Item → Type 0
-SaysSingle Past v u rows end (work.Scan ask) x = IsScanWork Past v u rows end ask x ⊎ IsCauseSaid rows end ask item.ScanRefused x
-SaysSingle Past v u rows end (work.Explain ask) x = IsPlanSaid rows end ask x ⊎ IsCauseSaid rows end ask item.ExplainRefused x
+SaysSingle Past v u rows end (work.Scan ask) x = IsScanWork Past v u rows end ask x
+    ⊎ IsCauseSaid rows end ask item.ScanRefused x
+SaysSingle Past v u rows end (work.Explain ask) x = IsPlanSaid rows end ask x
+    ⊎ IsCauseSaid rows end ask item.ExplainRefused x
 SaysSingle Past v u rows end work.Checkpoint x = x ≡ item.Checkpointed end
 SaysSingle Past v u rows end (work.Register name def) x = IsBoundaryAt v.shut end x
 SaysSingle Past v u rows end (work.Deregister name) x = IsBoundaryAt v.shut end x
@@ -120,7 +126,8 @@ SaysSingle Past v u rows end w x = ⊤
 
 -- where one statement is all that was to do, its item
 abbrev pub SaysOnly : (Whole → Type 0) → View → View → List CatRow → ℕ → List Work → List Item → Type 0
-SaysOnly Past v u rows end works items = (w : Work) → works ≡ w ∷ [] → AllOf (SaysSingle Past v u rows end w) (answers items)
+SaysOnly Past v u rows end works items = (w : Work) → works ≡ w ∷ []
+    → AllOf (SaysSingle Past v u rows end w) (answers items)
 
 -- ---- without the pass
 
@@ -128,12 +135,14 @@ SaysOnly Past v u rows end works items = (w : Work) → works ≡ w ∷ [] → A
 abbrev pub CanPlan : List CatRow → Ask → ℕ → ℕ → ℕ → Type 0
 CanPlan rows ask end from to = (plan : List Piece) × IsPlanFor rows ask end from to plan
 
--- the range that an item tells of is all that is asked for of a log that ends at this number, and is planned by these rows; a checkpoint
--- tells that number, and so does a boundary, unless this claim had found the log full
+-- the range that an item tells of is all that is asked for of a log that ends at this number, and is planned by these
+-- rows; a checkpoint tells that number, and so does a boundary, unless this claim had found the log full
 abbrev pub SaysWhole : List CatRow → Option Shut → ℕ → Work → Item → Type 0
-SaysWhole rows full end (work.Scan ask) (item.Scanned name value from to opens found version) = CanPlan rows ask end from to
+SaysWhole rows full end (work.Scan ask) (item.Scanned name value from to opens found version) =
+    CanPlan rows ask end from to
 SaysWhole rows full end (work.Scan ask) (item.ScanRefused name version why) = IsCauseAt rows end ask why
-SaysWhole rows full end (work.Explain ask) (item.Explained name value from to plan version) = IsPlanFor rows ask end from to plan
+SaysWhole rows full end (work.Explain ask) (item.Explained name value from to plan version) =
+    IsPlanFor rows ask end from to plan
 SaysWhole rows full end (work.Explain ask) (item.ExplainRefused name version why) = IsCauseAt rows end ask why
 SaysWhole rows full end work.Checkpoint x = x ≡ item.Checkpointed end
 SaysWhole rows full end (work.Register name def) x = IsBoundaryAt full end x

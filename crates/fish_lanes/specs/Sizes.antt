@@ -17,7 +17,8 @@ use Rattle.fish_whole.specs.Whole.{Whole}
 
 -- ---- sizes
 
--- the lines are those of the record that the payload is, with a key for each value that the active definitions give for it
+-- the lines are those of the record that the payload is, with a key for each value that the active definitions give for
+-- it
 pub record HasSize (rows : List Listed) (form : Form) (payload : List ℕ) (lines : ℕ) : Type 0 where
   pub parts : BodyParts
   pub form_is : parts.form ≡ form

@@ -4,8 +4,8 @@ use Rattle.fish_report.specs.declared.item.Item.{Item}
 use Rattle.fish_report.specs.declared.item.Item.TheVariants as item
 use Rattle.fish_rule.specs.declared.view.Shut.{Shut}
 
--- the log's end before the block and after it, the versions there, how many lanes the block has, and the claim that had found the log
--- full before it
+-- the log's end before the block and after it, the versions there, how many lanes the block has, and the claim that had
+-- found the log full before it
 pub record Span : Type 0 where
   pub from : ℕ
   pub to : ℕ

@@ -58,9 +58,10 @@ pub record SaysStored (outs : List (Option (List ℕ))) (name file : List ℕ) (
   pub within : length file ≤ longest_file
   pub counted : AreCounted outs stored many
 
--- or only those before a record whose region ends past the log's end; its lines are those of that record, or those of the
--- claim that found the log full before
-pub record SaysFull (w : Whole) (s : Span) (shown : List Shown) (form : Form) (outs : List (Option (List ℕ))) (name file : List ℕ)
+-- or only those before a record whose region ends past the log's end; its lines are those of that record, or those of
+-- the claim that found the log full before
+pub record SaysFull (w : Whole) (s : Span) (shown : List Shown) (form : Form) (outs : List (Option (List ℕ)))
+    (name file : List ℕ)
     (x : Item) : Type 0 where
   pub line : ℕ
   pub lines : ℕ
@@ -78,8 +79,8 @@ pub record SaysTooLong (name file : List ℕ) (x : Item) : Type 0 where
   pub is : x ≡ item.IngestTooLong name 0 0
   pub past : longest_file < length file
 
--- all below a number is stored, which lies between the block's ends and is no less than an earlier item told, so that checkpoints never
--- fall; and where no other lane is, all that the lane stored before lies below it
+-- all below a number is stored, which lies between the block's ends and is no less than an earlier item told, so that
+-- checkpoints never fall; and where no other lane is, all that the lane stored before lies below it
 pub record SaysCheckpoint (s : Span) (before : List LaneRow) (shown : List Shown) (x : Item) : Type 0 where
   pub count : ℕ
   pub is : x ≡ item.Checkpointed count

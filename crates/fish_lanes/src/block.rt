@@ -2,7 +2,8 @@
 
 ghost use Rattle.std.specs.Prelude.{◌≡◌, ◌≤◌, ◌<◌, ◌+◌, ◌∷◌, ℕ, length, slice_get, Some, [], All};
 ghost use Rattle.std.specs.Thread.{IsSync};
-ghost use Rattle.fish_lanes.specs.Blocks.{EachLane, AreEnded, AreKept, AreLanes, HasRegistered, IsBlockSpan, IsKept, IsNewLane};
+ghost use Rattle.fish_lanes.specs.Blocks.{EachLane, AreEnded, AreKept, AreLanes, HasRegistered, IsBlockSpan, IsKept};
+ghost use Rattle.fish_lanes.specs.Blocks.{IsNewLane};
 ghost use Rattle.fish_lanes.specs.Blocks.{NameMarks, SaysBlock};
 ghost use Rattle.fish_lanes.specs.Controlling.{CanControl, IsCommitted};
 ghost use Rattle.fish_lanes.specs.Ending.{HasEnd};
@@ -146,8 +147,8 @@ fn run_first<D: Disk, G: Gate>(
     lane.fault = hand_back(&mut lane.works, &mut lane.left, &lane.items, fault);
 }
 
-/// Does the statements of all lanes at once: those of the first by the control pass, and those of every other one up to its first
-/// scan of older records.
+/// Does the statements of all lanes at once: those of the first by the control pass, and those of every other one up to
+/// its first scan of older records.
 fn run_all<R: Threads + Sync, D: Disk + Send, G: Gate + Sync>(
     rt: &R,
     alloc: Global,
@@ -304,26 +305,26 @@ fn run_lanes<R: Threads + Sync, D: Disk + Send, G: Gate + Sync>(
     end_block(log, control, registrar)
 }
 
-/// Runs a block over an open store: does the statements of its lanes at once, those of the first by the control pass and those
-/// of every other one by a pass of its own, on a thread of its own. How far the log then reaches, and where the index of the
-/// registration begins that waited until the lanes had ended.
+/// Runs a block over an open store: does the statements of its lanes at once, those of the first by the control pass
+/// and those of every other one by a pass of its own, on a thread of its own. How far the log then reaches, and where
+/// the index of the registration begins that waited until the lanes had ended.
 ///
-/// The first lane alone has the store's file while the others run: it commits beside them, and reads what is older than the
-/// table. Another lane stays before its first scan of older records; once all have ended or stay so, what is left of their
-/// statements is done, one lane after the other, with the file.
+/// The first lane alone has the store's file while the others run: it commits beside them, and reads what is older than
+/// the table. Another lane stays before its first scan of older records; once all have ended or stay so, what is left
+/// of their statements is done, one lane after the other, with the file.
 ///
-/// The control pass has to know where the log ends, as it does after a block, and what the registrar keeps, and a checkpoint may
-/// have to follow. There are 1 to 16 lanes, numbered from 1 on and without items, and the first alone may register definitions, end
-/// them or commit.
+/// The control pass has to know where the log ends, as it does after a block, and what the registrar keeps, and a
+/// checkpoint may have to follow. There are 1 to 16 lanes, numbered from 1 on and without items, and the first alone
+/// may register definitions, end them or commit.
 ///
-/// A lane stops after the statement in which its pass finds the log full, unless it was so before the block, and hands back the
-/// statements that it hasn't begun. Without memory for that it stops at a fault, and keeps them.
+/// A lane stops after the statement in which its pass finds the log full, unless it was so before the block, and hands
+/// back the statements that it hasn't begun. Without memory for that it stops at a fault, and keeps them.
 ///
-/// Afterwards each lane has an item for each statement that it keeps, or a fault and fewer of them. After whatever stood before the table, as the
-/// disk tells it, these items are true of each whole log that the control pass may leave later: the lane's records between the
-/// old end and the new one are those that the items say are stored, in order, and scans, plans, checkpoints and refusals are so. The
-/// definitions are those that the items of the first lane tell. Numbers stay, and the statements too, but for those that are handed
-/// back. The store goes on: at each moment since, a
+/// Afterwards each lane has an item for each statement that it keeps, or a fault and fewer of them. After whatever
+/// stood before the table, as the disk tells it, these items are true of each whole log that the control pass may leave
+/// later: the lane's records between the old end and the new one are those that the items say are stored, in order, and
+/// scans, plans, checkpoints and refusals are so. The definitions are those that the items of the first lane tell.
+/// Numbers stay, and the statements too, but for those that are handed back. The store goes on: at each moment since, a
 /// crash left a part of the log that has the last commit's entries.
 ///
 /// The gate is told where each lane is: before each statement and after it, and after each claim of a record.

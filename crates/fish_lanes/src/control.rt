@@ -1,5 +1,5 @@
-//! The statements of the first lane, done by the control pass: it may register definitions and end them, commits the log, and
-//! reads older records from the store's file.
+//! The statements of the first lane, done by the control pass: it may register definitions and end them, commits the
+//! log, and reads older records from the store's file.
 
 ghost use Rattle.std.specs.Prelude.{◌≡◌, ◌≢◌, ◌≤◌, ◌⊎◌, [], All, IfErr, IfOk, IsErrOf, None, length};
 ghost use Rattle.fish_epoch.specs.Definitions.{IsDefsOf};
@@ -34,8 +34,9 @@ use fish_rule::{Log, Pass, lane};
 use fish_store::StoreFile;
 use std::alloc::Global;
 
-/// Does statements in order, up to the first fault or until the pass has found the log full, unless it was so at the start,
-/// with definitions that are read anew. Before each it looks whether the index of the registration that waits begins.
+/// Does statements in order, up to the first fault or until the pass has found the log full, unless it was so at the
+/// start, with definitions that are read anew. Before each it looks whether the index of the registration that waits
+/// begins.
 pub(crate) fn run_control<D: Disk, G: Gate>(
     alloc: Global,
     log: &Log,
@@ -57,7 +58,8 @@ pub(crate) fn run_control<D: Disk, G: Gate>(
     ensures below { IsBelow log.now.key file.new.cold }
     ensures goes { GoesOnHere D.Disk (point_of disk.old file.old log.now pass.old registrar.old)
         (point_of disk.new file.new log.now pass.new registrar.new) }
-    ensures again { (result ≡ cause.Disk → ⊥) → MayGoOn D.images (point_of disk.new file.new log.now pass.new registrar.new) }
+    ensures again { (result ≡ cause.Disk → ⊥) → MayGoOn D.images (point_of disk.new file.new log.now pass.new
+        registrar.new) }
     ensures run { HasControlled (IsSoundBehind D.Disk (point_of disk.old file.old log.now pass.old registrar.old)
         (D.content disk.new)) (view pass.old) (view pass.new) registrar.old registrar.new
         (done_of result (length (answers items.new)) works.now) items.new result }

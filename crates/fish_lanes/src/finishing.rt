@@ -1,5 +1,5 @@
-//! Statements that any lane may have, with the store's file at hand for scans of records that are older than the table; and what is left
-//! of those of the lanes after the first, once all have ended or stay.
+//! Statements that any lane may have, with the store's file at hand for scans of records that are older than the table;
+//! and what is left of those of the lanes after the first, once all have ended or stay.
 
 ghost use Rattle.std.specs.Prelude.{◌≡◌, ◌≢◌, ◌≤◌, ◌⊎◌, All, IfErr, IfOk, false, length};
 ghost use Rattle.fish_cold.specs.Carries.{CarriesTable};
@@ -37,8 +37,8 @@ use fish_rule::{Log, Pass, lane};
 use fish_store::StoreFile;
 use std::alloc::Global;
 
-/// Does what is left of the statements of a lane, with the store's file for its scans of older records, unless its pass has found
-/// the log full; then it hands back what is left.
+/// Does what is left of the statements of a lane, with the store's file for its scans of older records, unless its pass
+/// has found the log full; then it hands back what is left.
 fn finish_lane<D: Disk, G: Gate>(
     alloc: Global,
     log: &Log,
@@ -53,10 +53,10 @@ fn finish_lane<D: Disk, G: Gate>(
     ensures below { IsBelow log.now.key file.new.cold }
     ensures flusher { file.new.flusher ≡ file.old.flusher }
     ensures reads { ReadsPages D.Disk log.now.key file.old.cold file.new.cold disk.old disk.new }
-    ensures finished { HasFinished (WasHere (D.content disk.old) log.now.key file.old.cold (D.content disk.new)) full log.now lane.old
-        lane.new }
-    ensures stops { IsShort lane.old.fault → Stops (WasHere (D.content disk.old) log.now.key file.old.cold (D.content disk.new))
-        (D.faults disk.old) (D.faults disk.new) lane.new }
+    ensures finished { HasFinished (WasHere (D.content disk.old) log.now.key file.old.cold (D.content disk.new)) full
+        log.now lane.old lane.new }
+    ensures stops { IsShort lane.old.fault → Stops (WasHere (D.content disk.old) log.now.key file.old.cold
+        (D.content disk.new)) (D.faults disk.old) (D.faults disk.new) lane.new }
 {
     let LaneFault::None = lane.fault else {
         return;
@@ -95,18 +95,19 @@ pub(crate) fn finish_others<D: Disk, G: Gate>(
     ensures below { IsBelow log.now.key file.new.cold }
     ensures flusher { file.new.flusher ≡ file.old.flusher }
     ensures reads { ReadsPages D.Disk log.now.key file.old.cold file.new.cold disk.old disk.new }
-    ensures finished { EachLanePair (λ i x y. HasFinished (WasHere (D.content disk.old) log.now.key file.old.cold (D.content disk.new)) full
-        log.now x y) lanes.old lanes.new }
-    ensures stops { EachLane (λ i x. Stops (WasHere (D.content disk.old) log.now.key file.old.cold (D.content disk.new)) (D.faults disk.old)
-        (D.faults disk.new) x) lanes.new }
+    ensures finished { EachLanePair
+        (λ i x y. HasFinished (WasHere (D.content disk.old) log.now.key file.old.cold (D.content disk.new)) full log.now
+        x y) lanes.old lanes.new }
+    ensures stops { EachLane (λ i x. Stops (WasHere (D.content disk.old) log.now.key file.old.cold (D.content disk.new))
+        (D.faults disk.old) (D.faults disk.new) x) lanes.new }
 {
     for i in 0..lanes.len() {
         finish_lane(alloc, log, file, disk, &mut lanes[i], full, gate);
     }
 }
 
-/// Does the statements of a lane that have no item yet, in order, up to the first fault, or until its pass has found the log
-/// full, unless it was so when the block began.
+/// Does the statements of a lane that have no item yet, in order, up to the first fault, or until its pass has found
+/// the log full, unless it was so when the block began.
 fn finish_works<D: Disk, G: Gate>(
     alloc: Global,
     log: &Log,
@@ -125,10 +126,11 @@ fn finish_works<D: Disk, G: Gate>(
     ensures below { IsBelow log.now.key file.new.cold }
     ensures flusher { file.new.flusher ≡ file.old.flusher }
     ensures reads { ReadsPages D.Disk log.now.key file.old.cold file.new.cold disk.old disk.new }
-    ensures goes { FinishesBy (WasHere (D.content disk.old) log.now.key file.old.cold (D.content disk.new)) (view pass.old)
-        (view pass.new) works.now items.old items.new result }
+    ensures goes { FinishesBy (WasHere (D.content disk.old) log.now.key file.old.cold (D.content disk.new))
+        (view pass.old) (view pass.new) works.now items.old items.new result }
     ensures answers { AllOf IsAnswer items.old → AllOf IsAnswer items.new }
-    ensures all { result ≡ cause.None → (length works.now ≤ length items.new) ⊎ ((full ≡ false) × WasShut (view pass.new)) }
+    ensures all { result ≡ cause.None → (length works.now ≤ length items.new)
+        ⊎ ((full ≡ false) × WasShut (view pass.new)) }
     ensures last { full ≡ false → HasFound (view pass.old) items.old → SaysLast (view pass.new) items.new result }
 
     ensures cause { HasCause (D.faults disk.old) (D.faults disk.new) result }
@@ -176,8 +178,8 @@ pub(crate) fn run_shared<D: Disk, G: Gate>(
     ensures below { IsBelow log.now.key file.new.cold }
     ensures flusher { file.new.flusher ≡ file.old.flusher }
     ensures reads { ReadsPages D.Disk log.now.key file.old.cold file.new.cold disk.old disk.new }
-    ensures item { IfOk result (IsItem (IsHere (D.content disk.new) log.now.key file.old.cold) (view pass.old) (view pass.new)
-        work.now) }
+    ensures item { IfOk result (IsItem (IsHere (D.content disk.new) log.now.key file.old.cold) (view pass.old)
+        (view pass.new) work.now) }
     ensures part { IfErr result (λ _. IsPart (view pass.old) (view pass.new) work.now) }
 
     ensures named { IfErr result (λ e. e ≢ cause.None) }

@@ -1,5 +1,5 @@
-//! Gates: what is told where each lane is, and may hold it there until another lane has come somewhere. A test orders by one
-//! what lanes do; the program's holds nobody. Nothing that is promised depends on it.
+//! Gates: what is told where each lane is, and may hold it there until another lane has come somewhere. A test orders
+//! by one what lanes do; the program's holds nobody. Nothing that is promised depends on it.
 
 /// Where a lane is. A statement is named by its position in its lane, from 0.
 #[derive(Clone, Copy, Debug, PartialEq, Eq)]

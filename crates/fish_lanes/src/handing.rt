@@ -7,8 +7,8 @@ ghost use Rattle.fish_lanes.specs.Spans.{answers};
 use crate::work::{LaneFault, Works};
 use fish_report::{Item, Items};
 
-/// Takes the statements away from a lane that have no item yet, where it met no fault. Where memory runs out they stay, and that
-/// is its fault.
+/// Takes the statements away from a lane that have no item yet, where it met no fault. Where memory runs out they stay,
+/// and that is its fault.
 pub(crate) fn hand_back(
     works: &mut Works,
     left: &mut Works,

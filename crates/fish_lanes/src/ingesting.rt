@@ -48,8 +48,10 @@ pub(crate) fn ingest_file<G: Gate>(
     requires defs { IsDefsOf (view pass.old) defs.old }
     ensures pass { IsPassOf log.now pass.new }
     ensures defs { IsDefsOf (view pass.new) defs.new }
-    ensures item { IfOk result (IsItem anywhere (view pass.old) (view pass.new) (work.Ingest form begin name.now file.now)) }
-    ensures part { IfErr result (λ _. IsPart (view pass.old) (view pass.new) (work.Ingest form begin name.now file.now)) }
+    ensures item { IfOk result (IsItem anywhere (view pass.old) (view pass.new)
+        (work.Ingest form begin name.now file.now)) }
+    ensures part { IfErr result (λ _. IsPart (view pass.old) (view pass.new)
+        (work.Ingest form begin name.now file.now)) }
 {
     let name = name.again(alloc)?;
     if file.len() > MAX_FILE {
@@ -110,8 +112,10 @@ fn ingest_records<G: Gate>(
     requires none { tally.old ≡ nothing }
     ensures pass { IsPassOf log.now pass.new }
     ensures defs { IsDefsOf (view pass.new) defs.new }
-    ensures ends { IfOk result (EndsWith (view pass.old) (view pass.new) form (outcomes_from form begin file.now) tally.new) }
-    ensures part { IfErr result (λ _. IsPartStored (view pass.old) (view pass.new) form (outcomes_from form begin file.now)) }
+    ensures ends { IfOk result (EndsWith (view pass.old) (view pass.new) form (outcomes_from form begin file.now)
+        tally.new) }
+    ensures part { IfErr result (λ _. IsPartStored (view pass.old) (view pass.new) form
+        (outcomes_from form begin file.now)) }
 {
     let mut texts = match RecordTexts::new(alloc, form, begin, file) {
         Ok(texts) => texts,
@@ -137,8 +141,10 @@ fn ingest_texts<G: Gate>(
     requires none { tally.old ≡ nothing }
     ensures pass { IsPassOf log.now pass.new }
     ensures defs { IsDefsOf (view pass.new) defs.new }
-    ensures ends { IfOk result (EndsWith (view pass.old) (view pass.new) (form_of texts.old) (texts_left texts.old) tally.new) }
-    ensures part { IfErr result (λ _. IsPartStored (view pass.old) (view pass.new) (form_of texts.old) (texts_left texts.old)) }
+    ensures ends { IfOk result (EndsWith (view pass.old) (view pass.new) (form_of texts.old) (texts_left texts.old)
+        tally.new) }
+    ensures part { IfErr result (λ _. IsPartStored (view pass.old) (view pass.new) (form_of texts.old)
+        (texts_left texts.old)) }
 {
     while let Some(text) = texts.next_text(alloc)? {
         match ingest_text(alloc, log, pass, defs, text, tally, gate)? {
@@ -164,9 +170,10 @@ fn ingest_text<G: Gate>(
     requires room { tally.old.stored + tally.old.refused ≤ longest_file }
     ensures pass { IsPassOf log.now pass.new }
     ensures defs { IsDefsOf (view pass.new) defs.new }
-    ensures takes { IfOk result (λ end. MatchOption end
-        (TakesText (view pass.old) (view pass.new) (text_form text.entry) (payload_in text.entry) tally.old tally.new)
-        (FindsTextFull (view pass.old) (view pass.new) (text_form text.entry) (payload_in text.entry) tally.old tally.new)) }
+    ensures takes { IfOk result
+        (λ end. MatchOption end (TakesText (view pass.old) (view pass.new) (text_form text.entry)
+        (payload_in text.entry) tally.old tally.new) (FindsTextFull (view pass.old) (view pass.new)
+        (text_form text.entry) (payload_in text.entry) tally.old tally.new)) }
     ensures left { OnErr result (HasNotClaimed (view pass.old) (view pass.new) × (tally.new ≡ tally.old)) }
 {
     match text {

@@ -75,8 +75,8 @@ pub(crate) fn scan_older<D: Disk>(
     ensures base { IsBelow log.now.key file.new.cold }
     ensures flusher { file.new.flusher ≡ file.old.flusher }
     ensures reads { ReadsPages D.Disk log.now.key file.old.cold file.new.cold disk.old disk.new }
-    ensures fits { IfOk result (IsFit (IsHere (D.content disk.new) log.now.key file.old.cold) (view pass.old) (view pass.new)
-        (work.Scan ask.now)) }
+    ensures fits { IfOk result (IsFit (IsHere (D.content disk.new) log.now.key file.old.cold) (view pass.old)
+        (view pass.new) (work.Scan ask.now)) }
 
     ensures named { IfErr result (λ e. e ≢ cause.None) }
     ensures cause { IfErr result (HasCause (D.faults disk.old) (D.faults disk.new)) }
@@ -224,8 +224,8 @@ fn unplanned(
     })
 }
 
-/// Why a scan was refused, as an item tells it; none where memory ran out, where the range begins below the table, and for a
-/// fault of the file.
+/// Why a scan was refused, as an item tells it; none where memory ran out, where the range begins below the table, and
+/// for a fault of the file.
 fn cause_of(refusal: ScanRefusal) -> Option<ScanCause>
     ensures { result ≡ cause_of refusal }
 {
@@ -290,8 +290,8 @@ fn older_with<P: Ledger, L: Ledger, D: Disk>(
     ensures flusher { file.new.flusher ≡ file.old.flusher }
     ensures reads { ReadsPages D.Disk log.now.key file.old.cold file.new.cold disk.old disk.new }
     ensures explained { IfOk result (IsExplainedAnswer (view pass.old) (view pass.new) defs.new.known ask.now) }
-    ensures answer { IfOk result (IsAnswerHere (D.content disk.new) log.now.key file.old.cold (view pass.old) (view pass.new)
-        defs.new.known ask.now) }
+    ensures answer { IfOk result (IsAnswerHere (D.content disk.new) log.now.key file.old.cold (view pass.old)
+        (view pass.new) defs.new.known ask.now) }
     ensures refused { IfErr result (IsRefusedWith (view pass.old) (view pass.new) defs.new.known ask.now) }
     ensures fault { IsScanFault (D.faults disk.old) (D.faults disk.new) result }
     ensures whole { CarriesTable (D.content disk.new) log.now.key file.old.cold → IfErr result IsUndamagedScan }

@@ -42,8 +42,9 @@ pub(crate) fn or_stop(item: Result<Item, AllocError>) -> Result<Item, Stop>
     }
 }
 
-/// Does the statements of a lane that have no item yet, in order, up to the first fault, to the first scan of records that
-/// are older than the table, before which the lane stays, or until its pass finds the log full, unless it was so at the start.
+/// Does the statements of a lane that have no item yet, in order, up to the first fault, to the first scan of records
+/// that are older than the table, before which the lane stays, or until its pass finds the log full, unless it was so
+/// at the start.
 pub(crate) fn run_works<G: Gate>(
     alloc: Global,
     log: &Log,

@@ -47,7 +47,8 @@ pub enum Work {
         /// What is asked.
         ask: Ask,
     },
-    /// Commit the log to the store's file, up to the number below which all is stored. The first lane of a block alone may.
+    /// Commit the log to the store's file, up to the number below which all is stored. The first lane of a block alone
+    /// may.
     Checkpoint,
 }
 

@@ -97,8 +97,8 @@ EndsScript disks disk disk' asked told script old new o (fault.Script refusal) =
 EndsScript disks disk disk' asked told script old new o (fault.Usage cause) = ⊥
 
 -- how a run of the script in a file ends: the script wasn't read, and nothing was done, the disk not touched; or it was
-abbrev pub EndsRun : {D : Type 0} → Disks D → D → D → Asked → List ℕ → Option Files → Option (List ℕ)
-    → Option (List ℕ) → Outcome → Type 0
+abbrev pub EndsRun : {D : Type 0} → Disks D → D → D → Asked → List ℕ → Option Files → Option (List ℕ) → Option (List ℕ)
+    → Outcome → Type 0
 EndsRun disks disk disk' asked file told old new o =
     (IsUnread file told o.fault × (disk' ≡ disk) × DidNothing old new o)
     ⊎ ((script : List Block) × HasScript file told script
@@ -113,8 +113,7 @@ Ends disks disk disk' (command.select def value form header file) told old new o
     (disk' ≡ disk) × EndsSelect (Answers def value form header file) file told old new o o.fault
 Ends disks disk disk' (command.run store script pages bits) told old new o =
     EndsRun disks disk disk' (shape_asked pages bits) script told old new o
-Ends disks disk disk' (command.sample number) told old new o =
-    (disk' ≡ disk) × EndsSample number old new o o.fault
+Ends disks disk disk' (command.sample number) told old new o = (disk' ≡ disk) × EndsSample number old new o o.fault
 
 -- the words are none, and this names why; or memory ran out before they were read
 abbrev pub IsNoCommand : List (List ℕ) → Fault → Type 0

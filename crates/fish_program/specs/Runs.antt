@@ -59,9 +59,8 @@ pub record IsWholeRun {D : Type 0} (disks : Disks D) (disk disk' : D) (asked : A
   pub whole : IsWhole disks mid disk' opened told script log old new o.refused
 
 -- a log is left of a run that this fault stopped, or was lost since memory ran out
-abbrev pub IsLeft : {D : Type 0} → Disks D
-    → D → D → Opened → Option Files → List Block → Option (List ℕ) → Option (List ℕ) → Bool → RunFault → Option Remains
-    → Type 0
+abbrev pub IsLeft : {D : Type 0} → Disks D → D → D → Opened → Option Files → List Block → Option (List ℕ)
+    → Option (List ℕ) → Bool → RunFault → Option Remains → Type 0
 IsLeft disks mid disk' o told script old new refused why (Some log) =
     IsStopped disks mid disk' o told script log old new refused why
 IsLeft disks mid disk' o told script old new refused why None =

@@ -1,5 +1,6 @@
 -- What opening a store finds, and why it is refused.
-use Rattle.std.specs.Prelude.{ℕ, ◌≡◌, ◌≢◌, ◌+◌, ◌-◌, ◌*◌, ◌/◌, ◌≤◌, ◌⊎◌, ◌↔◌, List, Option, Some, None, IsTrue, length, ⊤}
+use Rattle.std.specs.Prelude.{ℕ, ◌≡◌, ◌≢◌, ◌+◌, ◌-◌, ◌*◌, ◌/◌, ◌≤◌, ◌⊎◌, ◌↔◌, List, Option, Some, None, IsTrue, length}
+use Rattle.std.specs.Prelude.{⊤}
 use Rattle.fish_catalog.specs.declared.commit.Checked.{Checked}
 use Rattle.fish_catalog.specs.declared.commit.Commit.{Commit}
 use Rattle.fish_image.specs.Checking.{HasChecked}
@@ -12,7 +13,8 @@ use Rattle.fish_recover.specs.Choosing.{IsSlotRead, IsSlotless}
 use Rattle.fish_recover.specs.declared.finding.Found.{Found}
 use Rattle.fish_recover.specs.declared.refusal.Asked.{Asked}
 use Rattle.fish_recover.specs.declared.refusal.OpenRefusal.{OpenRefusal}
-use Rattle.fish_recover.specs.declared.refusal.OpenRefusal.TheVariants.{Damaged, DiskFault, NotAStore, OutOfMemory, ShapeDiffers}
+use Rattle.fish_recover.specs.declared.refusal.OpenRefusal.TheVariants.{Damaged, DiskFault, NotAStore, OutOfMemory}
+use Rattle.fish_recover.specs.declared.refusal.OpenRefusal.TheVariants.{ShapeDiffers}
 
 -- ---- lines
 
@@ -39,8 +41,8 @@ IsOtherShape asked commit = Differs asked.pages commit.pages ⊎ Differs asked.b
 
 -- ---- the whole
 
--- the slot counts in the image and its body tells the commit, of the shape that is asked for, and the lines that it counts were
--- held to it; and whether the other gate is open too
+-- the slot counts in the image and its body tells the commit, of the shape that is asked for, and the lines that it
+-- counts were held to it; and whether the other gate is open too
 pub record IsFound (image : List ℕ) (asked : Asked) (found : Found) : Type 0 where
   pub body : List ℕ
   pub lines : List ℕ
@@ -51,7 +53,8 @@ pub record IsFound (image : List ℕ) (asked : Asked) (found : Found) : Type 0 w
   pub checked : HasChecked found.commit (words_in lines) found.checked
   pub older : IsTrue found.both ↔ IsOpen (1 - found.slot) image
 
--- whatever the disk tells of its content: it is one of the two slots, some body tells the commit, and some lines were held to it
+-- whatever the disk tells of its content: it is one of the two slots, some body tells the commit, and some lines were
+-- held to it
 pub record IsRead (found : Found) : Type 0 where
   pub slot : IsSlotRead found.slot found.commit
   pub lines : AreRead found.commit found.checked
@@ -67,8 +70,8 @@ pub record IsOther (image : List ℕ) (asked : Asked) (pages bits : ℕ) : Type 
   pub pages_are : commit.pages ≡ pages
   pub bits_are : commit.bucket_bits ≡ bits
 
--- the slot that counts tells a commit of the shape that is asked for, and its lines stand for no log: exactly so many leading
--- entries agree
+-- the slot that counts tells a commit of the shape that is asked for, and its lines stand for no log: exactly so many
+-- leading entries agree
 pub record IsBroken (image : List ℕ) (asked : Asked) (number : ℕ) : Type 0 where
   pub body : List ℕ
   pub lines : List ℕ
@@ -86,8 +89,8 @@ IsOfStore (ShapeDiffers kept asked) = ⊤
 IsOfStore DiskFault = ⊥
 IsOfStore OutOfMemory = ⊥
 
--- why a store isn't opened: no gate is open; no slot counts whose body tells a commit; the slot's shape is another one; its lines
--- stand for no log; or the disk failed, or memory ran out
+-- why a store isn't opened: no gate is open; no slot counts whose body tells a commit; the slot's shape is another one;
+-- its lines stand for no log; or the disk failed, or memory ran out
 abbrev pub IsOpenCause : List ℕ → Asked → OpenRefusal → Type 0
 IsOpenCause image asked NotAStore = (IsOpen 0 image → ⊥) × (IsOpen 1 image → ⊥)
 IsOpenCause image asked (Damaged n) = ((n ≡ 0) × IsSlotless image) ⊎ IsBroken image asked n

@@ -1,5 +1,6 @@
 -- What opening a store gives, and what it leaves.
-use Rattle.std.specs.Prelude.{ℕ, ◌≡◌, ◌+◌, ◌^◌, ◌<◌, ◌≤◌, List, [], Bool, true, false, Option, Some, IfSome, length, map, unwrap_or, ⊤}
+use Rattle.std.specs.Prelude.{ℕ, ◌≡◌, ◌+◌, ◌^◌, ◌<◌, ◌≤◌, List, [], Bool, true, false, Option, Some, IfSome, length}
+use Rattle.std.specs.Prelude.{map, unwrap_or, ⊤}
 use Rattle.fish_catalog.specs.Clamps.{clamped}
 use Rattle.fish_catalog.specs.declared.commit.Commit.{Commit}
 use Rattle.fish_catalog.specs.declared.entry.Entry.{Entry}
@@ -16,7 +17,8 @@ use Rattle.fish_recover.specs.Opening.{IsOpenCause, IsOtherShape}
 use Rattle.fish_recover.specs.declared.opened.Opened.{Opened}
 use Rattle.fish_recover.specs.declared.refusal.Asked.{Asked}
 use Rattle.fish_recover.specs.declared.refusal.OpenRefusal.{OpenRefusal}
-use Rattle.fish_recover.specs.declared.refusal.OpenRefusal.TheVariants.{Damaged, DiskFault, NotAStore, OutOfMemory, ShapeDiffers}
+use Rattle.fish_recover.specs.declared.refusal.OpenRefusal.TheVariants.{Damaged, DiskFault, NotAStore, OutOfMemory}
+use Rattle.fish_recover.specs.declared.refusal.OpenRefusal.TheVariants.{ShapeDiffers}
 
 -- the shape of a store that is made: what is asked for, and else 8 pages and 12 bits
 abbrev pub asked_shape : Asked → Shape
@@ -24,10 +26,12 @@ asked_shape asked = record { pages = unwrap_or asked.pages 8; bucket_bits = unwr
 
 -- ---- what is open
 
--- a table begins after a commit: every image stands for this log by the commit, and the table, at its first view, begins after them at a
--- version, with these rows cut to the commit's count, and has the lines and buckets of the commit's shape; a checkpoint may follow; what is
--- below the base is looked for in the file, whatever the disk tells of it, and where its content is told, it is read from there
-pub record IsBegun (at : ℕ) (from : List CatRow) (content : Option (List ℕ)) (images : List ℕ → Type 0) (c : Commit) (log : List Entry)
+-- a table begins after a commit: every image stands for this log by the commit, and the table, at its first view,
+-- begins after them at a version, with these rows cut to the commit's count, and has the lines and buckets of the
+-- commit's shape; a checkpoint may follow; what is below the base is looked for in the file, whatever the disk tells of
+-- it, and where its content is told, it is read from there
+pub record IsBegun (at : ℕ) (from : List CatRow) (content : Option (List ℕ)) (images : List ℕ → Type 0) (c : Commit)
+    (log : List Entry)
     (o : Opened) : Type 0 where
   pub pass : IsPassOf o.log o.pass
   pub first : view o.pass ≡ first_view o.log.key
@@ -49,8 +53,8 @@ pub record IsBegun (at : ℕ) (from : List CatRow) (content : Option (List ℕ))
 abbrev pub IsOpened : Option (List ℕ) → (List ℕ → Type 0) → Commit → List Entry → Opened → Type 0
 IsOpened content images c log o = IsBegun 0 c.rows content images c log o
 
--- the image is none, and a store without a record was made of it; or it stands for this log, by this commit of the shape that
--- is asked for
+-- the image is none, and a store without a record was made of it; or it stands for this log, by this commit of the
+-- shape that is asked for
 abbrev pub IsOf : Asked → Bool → Commit → List Entry → List ℕ → Type 0
 IsOf asked true c log image = (image ≡ []) × (c ≡ first_commit (asked_shape asked)) × (log ≡ [])
 IsOf asked false c log image = Stands c image log × (IsOtherShape asked c → ⊥)

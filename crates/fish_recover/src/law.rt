@@ -10,8 +10,8 @@ ghost use Rattle.fish_recover.specs.declared.finding.Found.{Found};
 ghost use Rattle.fish_recover.specs.declared.refusal.Asked.{Asked};
 ghost use Rattle.fish_recover.specs.declared.refusal.OpenRefusal.{OpenRefusal};
 
-/// An image gives one answer: two causes are never there for two refusals that speak of the store, and none is there where
-/// something is found.
+/// An image gives one answer: two causes are never there for two refusals that speak of the store, and none is there
+/// where something is found.
 pub fn causes_exclude()
     ensures one { (image : List ℕ) (asked : Asked) (e f : OpenRefusal) → IsOfStore e → IsOfStore f
         → IsOpenCause image asked e → IsOpenCause image asked f → e ≡ f }
@@ -19,8 +19,8 @@ pub fn causes_exclude()
         → IsFound image asked found → IsOpenCause image asked e → ⊥ }
 {}
 
-/// An image stands for one log at most; where it stands for one of the shape that is asked for, no refusal that speaks of the store
-/// has a cause, nor where it is empty.
+/// An image stands for one log at most; where it stands for one of the shape that is asked for, no refusal that speaks
+/// of the store has a cause, nor where it is empty.
 pub fn stores_open()
     ensures one { (image : List ℕ) (c d : Commit) (log other : List Entry) → Stands c image log → Stands d image other
         → (c ≡ d) × (log ≡ other) }

@@ -1,7 +1,7 @@
 //! Opening a store: which slot counts, and that its lines stand for a log.
 //!
-//! What is found is held to its commit before anything is written. Then the older gate is closed, where both are open, and a
-//! table begins where the commit ends.
+//! What is found is held to its commit before anything is written. Then the older gate is closed, where both are open,
+//! and a table begins where the commit ends.
 #![tactic(auto)]
 
 mod bytes;

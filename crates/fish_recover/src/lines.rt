@@ -10,7 +10,8 @@ ghost use Rattle.fish_image.specs.Stands.{words_in as all_words};
 ghost use Rattle.fish_slots.specs.Offsets.{lines_at};
 ghost use Rattle.fish_recover.specs.Choosing.{HasOpenCause};
 ghost use Rattle.fish_recover.specs.Opening.{AreRead};
-ghost use Rattle.fish_recover.specs.within.Opening.{HasRead, IsLinesCause, IsOutside, IsPieceCause, IsSame, first_words};
+ghost use Rattle.fish_recover.specs.within.Opening.{HasRead, IsLinesCause, IsOutside, IsPieceCause, IsSame};
+ghost use Rattle.fish_recover.specs.within.Opening.{first_words};
 ghost use Rattle.fish_recover.specs.Opening.{pages_of};
 
 use crate::bytes::zeros;

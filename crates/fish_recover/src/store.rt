@@ -32,19 +32,20 @@ const PAGES: u16 = 8;
 /// And how many bits its buckets.
 const BUCKET_BITS: u8 = 12;
 
-/// Opens the store on a disk; on an empty one a store of the shape that is asked for is made. Its table begins where the
-/// last commit ends: older records stay in the file.
+/// Opens the store on a disk; on an empty one a store of the shape that is asked for is made. Its table begins where
+/// the last commit ends: older records stay in the file.
 ///
-/// At most eight calls of the disk and one for each page of lines, and five more to bring the store to rest; to make one takes
-/// eight.
+/// At most eight calls of the disk and one for each page of lines, and five more to bring the store to rest; to make
+/// one takes eight.
 pub fn open_store<D: Disk>(alloc: Global, asked: Asked, disk: &mut D) -> Result<Opened, OpenRefusal>
     requires { IsShape (asked_shape asked) }
     ensures opened { IfOk result (HasOpened (D.content disk.old) (D.content disk.new) (D.images disk.new) asked) }
-    ensures since { OnOk result ((i : List ℕ) (c : Told) (log : List Entry) → D.content disk.old ≡ Some i → Stands c i log
-        → StandsSince D.since D.moment disk.old disk.new c log) }
+    ensures since { OnOk result ((i : List ℕ) (c : Told) (log : List Entry) → D.content disk.old ≡ Some i → Stands c i
+        log → StandsSince D.since D.moment disk.old disk.new c log) }
     ensures crash { (i : List ℕ) (c : Told) (log : List Entry) → D.content disk.old ≡ Some i → Stands c i log
         → LeavesOnly D.images D.since D.moment disk.old disk.new (λ e. D.images disk.old e ⊎ Stands c e log) }
-    ensures calls { IfSome (D.content disk.new) (λ _. D.content disk.old ≡ Some [] → D.moment disk.new ≤ D.moment disk.old + 8) }
+    ensures calls { IfSome (D.content disk.new) (λ _. D.content disk.old ≡ Some [] → D.moment disk.new ≤ D.moment
+        disk.old + 8) }
     ensures few { IfOk result (λ o. D.moment disk.new ≤ D.moment disk.old + pages_of o.log.key.line + 13) }
 
     ensures refused { IfErr result (λ e. IfSome (D.content disk.new) (λ c. IsStoreCause c asked e)) }
@@ -60,8 +61,8 @@ fn open_synced<D: Disk>(alloc: Global, asked: Asked, disk: &mut D) -> Result<Ope
     requires shape { IsShape (asked_shape asked) }
     requires synced { (c : List ℕ) → D.images disk.old c → D.content disk.old ≡ Some c }
     ensures opened { IfOk result (HasOpened (D.content disk.old) (D.content disk.new) (D.images disk.new) asked) }
-    ensures crash { (i : List ℕ) (c : Told) (log : List Entry) → ((e : List ℕ) → D.images disk.old e → e ≡ i) → Stands c i log
-        → LeavesOnly D.images D.since D.moment disk.old disk.new (λ e. Stands c e log) }
+    ensures crash { (i : List ℕ) (c : Told) (log : List Entry) → ((e : List ℕ) → D.images disk.old e → e ≡ i) → Stands c
+        i log → LeavesOnly D.images D.since D.moment disk.old disk.new (λ e. Stands c e log) }
     ensures few { IfOk result (λ o. D.moment disk.new ≤ D.moment disk.old + pages_of o.log.key.line + 12) }
     ensures calls { IfSome (D.content disk.new) (λ _. ((i : List ℕ) → D.content disk.old ≡ Some i → i ≡ [])
         → D.moment disk.new ≤ D.moment disk.old + 7) }
@@ -81,7 +82,8 @@ fn open_synced<D: Disk>(alloc: Global, asked: Asked, disk: &mut D) -> Result<Ope
 fn make_store<D: Disk>(alloc: Global, asked: Asked, disk: &mut D) -> Result<Opened, OpenRefusal>
     requires shape { IsShape (asked_shape asked) }
     requires empty { IfSome (D.content disk.old) (λ c. length c ≡ 0) }
-    ensures opened { IfOk result (λ o. IsOpened (D.content disk.new) (D.images disk.new) (first_commit (asked_shape asked)) [] o) }
+    ensures opened { IfOk result (λ o. IsOpened (D.content disk.new) (D.images disk.new)
+        (first_commit (asked_shape asked)) [] o) }
     ensures made { IfOk result (λ o. o.made ≡ true) }
     ensures crash { LeavesOnly D.images D.since D.moment disk.old disk.new (λ _. (i : List ℕ) × D.images disk.old i) }
     ensures calls { D.moment disk.new ≤ D.moment disk.old + 6 }
@@ -119,8 +121,8 @@ fn refusal_of(refusal: FlushRefusal) -> OpenRefusal
 fn open_kept<D: Disk>(alloc: Global, asked: Asked, disk: &mut D) -> Result<Opened, OpenRefusal>
     requires synced { (c : List ℕ) → D.images disk.old c → D.content disk.old ≡ Some c }
     ensures opened { IfOk result (HasOpened (D.content disk.old) (D.content disk.new) (D.images disk.new) asked) }
-    ensures crash { (i : List ℕ) (c : Told) (log : List Entry) → ((e : List ℕ) → D.images disk.old e → e ≡ i) → Stands c i log
-        → LeavesOnly D.images D.since D.moment disk.old disk.new (λ e. Stands c e log) }
+    ensures crash { (i : List ℕ) (c : Told) (log : List Entry) → ((e : List ℕ) → D.images disk.old e → e ≡ i) → Stands c
+        i log → LeavesOnly D.images D.since D.moment disk.old disk.new (λ e. Stands c e log) }
     ensures few { IfOk result (λ o. D.moment disk.new ≤ D.moment disk.old + pages_of o.log.key.line + 11) }
     ensures before { IfSome (D.content disk.new) (λ _. (i : List ℕ) × (D.content disk.old ≡ Some i)) }
     ensures refused { IfErr result (λ e. IfSome (D.content disk.new) (λ c. IsOpenCause c asked e)) }

@@ -1,4 +1,5 @@
-//! The table of a store: it begins where the commit ends that a flusher keeps, with its heads, and with rows cut to its count.
+//! The table of a store: it begins where the commit ends that a flusher keeps, with its heads, and with rows cut to its
+//! count.
 
 ghost use Rattle.std.specs.Prelude.{◌≡◌, ◌≤◌, IfOk};
 ghost use Rattle.fish_rule.specs.Start.{CanOpen, IsShape};
@@ -13,8 +14,9 @@ use fish_rule::{Base, Shape, Start, open_log};
 use fish_value::Numbers64;
 use std::alloc::{AllocError, Global};
 
-/// A table of this shape after the commit that a flusher keeps, with these rows, cut to its count, and at a version. No call of
-/// the disk is made. What the table is on a disk whose images all stand for that commit's log, the lemma `begun_open` says.
+/// A table of this shape after the commit that a flusher keeps, with these rows, cut to its count, and at a version. No
+/// call of the disk is made. What the table is on a disk whose images all stand for that commit's log, the lemma
+/// `begun_open` says.
 ///
 /// # Errors
 ///

@@ -38,15 +38,16 @@ pub record MayChange (r : Registrar) (v : View) : Type 0 where
   pub few : v.learned.version < 512
 
 -- the definition is the next row, and its registration waits
-pub record HasBegun (v : View) (r : Registrar) (name : List ℕ) (def : Def) (u : View) (s : Registrar) (id : ℕ) : Type 0 where
+pub record HasBegun (v : View) (r : Registrar) (name : List ℕ) (def : Def) (u : View) (s : Registrar) (id : ℕ)
+    : Type 0 where
   pub is_id : id ≡ length r.catalog
   pub rows : s.catalog ≡ r.catalog ++ new_row (length r.catalog) name (definition_text (definition_of def)) ∷ []
   pub waits : s.waiting ≡ Some (record { id = id; version = suc v.learned.version; lane = 2 })
   pub version : u.learned.version ≡ suc v.learned.version
   pub tail : u.tail ≡ v.tail
 
--- what a look at the lanes tells, and what it leaves: an index that begins now begins at the count of the tail, which is
--- all that the pass has counted; else the rows stay, and so does the registration that waits
+-- what a look at the lanes tells, and what it leaves: an index that begins now begins at the count of the tail, which
+-- is all that the pass has counted; else the rows stay, and so does the registration that waits
 abbrev pub PollSays : View → Registrar → View → Registrar → Poll → Type 0
 PollSays v r u s poll.Idle = (r.waiting ≡ None) × (s ≡ r) × (u ≡ v)
 PollSays v r u s (poll.NotYet seat version) = (w : Waiting) × (r.waiting ≡ Some w)

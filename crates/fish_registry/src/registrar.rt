@@ -75,8 +75,8 @@ impl Registrar {
     ///
     /// # Errors
     ///
-    /// A registration waits; no version is left; the name is active; as many definitions are active as may be; 256 are there; or
-    /// memory ran out. Then nothing has changed.
+    /// A registration waits; no version is left; the name is active; as many definitions are active as may be; 256 are
+    /// there; or memory ran out. Then nothing has changed.
     pub fn begin(
         &mut self,
         log: &Log,
@@ -120,8 +120,8 @@ impl Registrar {
     }
 
     /// Looks at the lanes that were not yet found to be out or at the version of the registration that waits. Where all
-    /// were, its index begins at the count of the log; so it does while no other lane is out. Waits for nobody, and takes
-    /// no memory.
+    /// were, its index begins at the count of the log; so it does while no other lane is out. Waits for nobody, and
+    /// takes no memory.
     pub fn poll(&mut self, log: &Log, pass: &mut Pass) -> Poll
         requires pass { IsPassOf log.now pass.old }
         requires knows { Knows (view pass.old) self.old }
@@ -175,7 +175,8 @@ impl Registrar {
         ensures rows { IfOk result (λ e. self.new.catalog ≡ with_to self.old.catalog e.0 e.1) }
         ensures counted { IfOk result (λ e. HasCounted (view pass.old) (view pass.new) e.1) }
         ensures alone { IsAlone (view pass.old) → IfOk result (λ e. IsAtTail (view pass.old) e.1) }
-        ensures reached { IfOk result (λ e. ((view pass.old).learned.count ≤ e.1) × ((view pass.new).learned.count ≡ e.1)) }
+        ensures reached { IfOk result
+            (λ e. ((view pass.old).learned.count ≤ e.1) × ((view pass.new).learned.count ≡ e.1)) }
         ensures version { OnOk result ((view pass.new).learned.version ≡ (view pass.old).learned.version + 1) }
         ensures settled { self.new.waiting ≡ self.old.waiting }
         ensures refused { OnErr result ((self.new ≡ self.old) × Stays (view pass.old) (view pass.new)) }
@@ -204,7 +205,8 @@ impl Registrar {
         requires outside { (view pass.old).epoch ≡ Out }
         ensures pass { IsPassOf log.now pass.new }
         ensures stays { Stays (view pass.old) (view pass.new) }
-        ensures version { IfOk result (λ n. (n ≡ (view pass.old).learned.version) × MayChange self.now (view pass.old)) }
+        ensures version { IfOk result (λ n. (n ≡ (view pass.old).learned.version) × MayChange self.now
+            (view pass.old)) }
         ensures rolling { (id : ℕ) → IsErrOf result (RegRefusal.Rolling id) ↔ IsWaiting self.now id }
         ensures versions { IsErrOf result RegRefusal.TooManyVersions ↔
             ((self.now.waiting ≡ None) × (512 ≤ (view pass.old).learned.version)) }

@@ -25,7 +25,8 @@ range_text from to = decimal from ++ (codes ".." ++ decimal to)
 
 -- ` stored S refused R`, and the end of the line
 unfoldable pub counts_text : ℕ → ℕ → List ℕ
-counts_text stored refused = codes " stored " ++ (decimal stored ++ (codes " refused " ++ (decimal refused ++ codes "\n")))
+counts_text stored refused =
+    codes " stored " ++ (decimal stored ++ (codes " refused " ++ (decimal refused ++ codes "\n")))
 
 -- `none`, or the numbers with a comma between each two
 abbrev pub numbers_text : List ℕ → List ℕ

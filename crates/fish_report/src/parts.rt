@@ -125,8 +125,8 @@ pub(crate) fn push_pieces(text: &mut String, pieces: &[Piece]) -> Result<(), All
 
 /// Puts pieces after the others, each after a blank.
 fn push_more_pieces(text: &mut String, pieces: &[Piece]) -> Result<(), AllocError>
-    ensures { OnOk result
-        (string_bytes text.new ≡ string_bytes text.old ++ flat_map (λ piece. codes " " ++ piece_text piece) pieces.now) }
+    ensures { OnOk result (string_bytes text.new ≡ string_bytes text.old ++ flat_map
+        (λ piece. codes " " ++ piece_text piece) pieces.now) }
 {
     for piece in pieces {
         text.push_str(" ")?;

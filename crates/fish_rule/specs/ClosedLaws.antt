@@ -32,8 +32,8 @@ abbrev pub DefinitionsAreClosed : Type 0
 DefinitionsAreClosed = (v : View) (remains : Remains) → (c : IsClosed v remains) → v.lane ≡ 1
     → definitions_at v.about c.moment.registry remains.version ≡ v.rows
 
--- what is left of a log has numbers and lines within the bounds of a start, a version, and one head for each bucket, of a
--- record before its last line
+-- what is left of a log has numbers and lines within the bounds of a start, a version, and one head for each bucket, of
+-- a record before its last line
 pub record MayFollow (k : Key) (remains : Remains) : Type 0 where
   pub number : remains.base + length remains.log ≤ last_number
   pub line : remains.lines ≤ last_line

@@ -36,10 +36,11 @@ pub record ArePageStarts (begins : ℕ → ℕ → Type 0) (base end : ℕ) (sta
 
 -- ---- the closed log
 
--- what is left is that of a moment that meets the rule: its log, its heads and version, where the log ends, and its page
--- starts; these own numbers are exact, and all of these facts hold; a pass there has a view that is later, of the same
--- lanes, own numbers and definitions, and nothing was claimed since the tail was here
-pub record IsClosedAt (k : Key) (is_later : View → Type 0) (lane : ℕ) (out : List ℕ) (own : List Own) (rows : List Listed)
+-- what is left is that of a moment that meets the rule: its log, its heads and version, where the log ends, and its
+-- page starts; these own numbers are exact, and all of these facts hold; a pass there has a view that is later, of the
+-- same lanes, own numbers and definitions, and nothing was claimed since the tail was here
+pub record IsClosedAt (k : Key) (is_later : View → Type 0) (lane : ℕ) (out : List ℕ) (own : List Own)
+    (rows : List Listed)
     (tail : Option Position) (learned : Learned) (remains : Remains) : Type 0 where
   pub moment : World
   pub rule : Rule k moment
@@ -76,8 +77,8 @@ pub record ReadsOn (v u : View) : Type 0 where
   pub tail : u.tail ≡ Some (record { number = high found; line = low found })
   pub rests : Rests (high found) (low found) v.tail
 
--- the control pass that could not close the log read on, and is as it was but for what it learned, its clock and the tail
--- that it found: as far entered, with its lanes and own numbers, and shut by what shut it
+-- the control pass that could not close the log read on, and is as it was but for what it learned, its clock and the
+-- tail that it found: as far entered, with its lanes and own numbers, and shut by what shut it
 pub record StaysOpen (v u : View) : Type 0 where
   pub on : ReadsOn v u
   pub frame : u ≡ record v { tail = u.tail; learned = u.learned; clock = u.clock }

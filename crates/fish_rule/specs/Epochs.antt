@@ -71,7 +71,8 @@ pub record Versions (k : Key) (count : ℕ) (g : ℕ → ℕ) (version_of : ℕ 
 -- no operation and no row has been made of the word at the index
 abbrev pub IsUnmade : Key → (ℕ → ℕ) → ℕ → Type 0
 IsUnmade k g p = ((v : ℕ) × (version_in g < v) × (v ≤ 512) × (p ≡ op_at v))
-    ⊎ ((id : ℕ) × (i : ℕ) × (length (definitions_at k g (version_in g)) ≤ id) × (id < 256) × (i < 39) × (p ≡ row_at id i))
+    ⊎ ((id : ℕ) × (i : ℕ) × (length (definitions_at k g (version_in g)) ≤ id) × (id < 256) × (i < 39)
+    × (p ≡ row_at id i))
 
 -- the word at the index is one that only the control pass stores: nothing is made of it yet, or it is a boundary
 abbrev pub IsOwned : Key → (ℕ → ℕ) → ℕ → Type 0
@@ -118,7 +119,8 @@ Carries k g version_of lane epoch (Some f) = IsCarried k g version_of lane epoch
 -- ---- all of it
 
 -- epochs, versions, boundaries, and what holds of each pass
-pub record Registry (k : Key) (count : ℕ) (g : ℕ → ℕ) (state : ℕ → Epoch) (version_of : ℕ → ℕ) (views : List View) : Type 0 where
+pub record Registry (k : Key) (count : ℕ) (g : ℕ → ℕ) (state : ℕ → Epoch) (version_of : ℕ → ℕ) (views : List View)
+    : Type 0 where
   pub epochs : Epochs g state
   pub versions : Versions k count g version_of
   pub boundaries : Boundaries k count g state version_of

@@ -41,14 +41,16 @@ pub record IsIndexed (k : Key) (w : World) (id : ℕ) (text : List ℕ) (n : ℕ
 -- in every moment of a pass that knows an interval, each of its records has the keys of a version at which the row's
 -- text is active
 abbrev pub IntervalsAreIndexed : Type 0
-IntervalsAreIndexed = (v : View) (w : World) (seat id from below n : ℕ) → Rule v.about w → get_elem? w.views seat ≡ some v
+IntervalsAreIndexed = (v : View) (w : World) (seat id from below n : ℕ) → Rule v.about w
+    → get_elem? w.views seat ≡ some v
     → HasInterval v id from below → v.about.number ≤ n → from ≤ n → n < below → high (w.dir n) ≡ code Stored
     → (l : Listed) × (slice_get (definitions_at v.about w.registry (version_in w.registry)) id ≡ Some l)
     × IsIndexed v.about w id l.def n
 
 -- a pass that knows as much knows the interval
 abbrev pub IntervalsStay : Type 0
-IntervalsStay = (v u : View) (id from below : ℕ) → Learns v u → HasInterval v id from below → HasInterval u id from below
+IntervalsStay = (v u : View) (id from below : ℕ) → Learns v u → HasInterval v id from below
+    → HasInterval u id from below
 
 -- ---- below the number at which the table begins
 

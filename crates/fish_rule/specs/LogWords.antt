@@ -31,7 +31,8 @@ form_with c = choose (ℕ_discrete c 1) Csv Json
 
 -- the entry that the words of a record are
 unfoldable pub record_in : List ℕ → Entry
-record_in words = entry.Stored (lane_of (slice_index words 0)) (form_with (form_of (slice_index words 0))) (payload_in words)
+record_in words = entry.Stored (lane_of (slice_index words 0)) (form_with (form_of (slice_index words 0)))
+    (payload_in words)
 
 -- the words of the region at a line, as many as its header says
 abbrev pub region_at : (ℕ → ℕ) → ℕ → List ℕ

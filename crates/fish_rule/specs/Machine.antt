@@ -74,9 +74,17 @@ Exchanged found expected u made missed = ((found ≡ expected) × (u ≡ made)) 
 -- the world goes by a step to another
 abbrev pub Goes : Key → World → Event → World → Type 0
 Goes k w (claim_lines id m) u = (v : View) × Seated k w id v × CanClaimLines v × (0 < m) × (m ≤ max_lines)
-    × (u ≡ record w { count = suc w.count; line = w.line + m; views = set w.views id (after_claim_lines v m w.count w.line) })
+    × (u ≡ record w {
+      count = suc w.count;
+      line = w.line + m;
+      views = set w.views id
+          (after_claim_lines v m w.count w.line);
+    })
 Goes k w (store_word id x) u = (v : View) × (f : Flight) × Seated k w id v × CanStoreWord v f
-    × (u ≡ record w { log = put w.log (f.line * 4 + length f.words) x; views = set w.views id (after_store_word v f x) })
+    × (u ≡ record w {
+      log = put w.log (f.line * 4 + length f.words) x;
+      views = set w.views id (after_store_word v f x);
+    })
 Goes k w (publish_region id) u = (v : View) × (f : Flight) × Seated k w id v × CanPublishRegion v f
     × (u ≡ record w {
       dir = put w.dir f.number (dir_word (flight_kind v f) f.line);
@@ -114,7 +122,10 @@ Goes k w (splice_entry id b q x) u = (v : View) × (f : Flight) × Seated k w id
 Goes k w (load_version id) u = (v : View) × Seated k w id v
     × (u ≡ record w { views = set w.views id (after_load_version v (w.registry version_at)) })
 Goes k w (announce id x) u = (v : View) × Seated k w id v × CanAnnounce v x
-    × (u ≡ record w { registry = put w.registry (epoch_at v.lane) (suc x); views = set w.views id (after_announce v x) })
+    × (u ≡ record w {
+      registry = put w.registry (epoch_at v.lane) (suc x);
+      views = set w.views id (after_announce v x);
+    })
 Goes k w (retire id) u = (v : View) × Seated k w id v × CanEnter v
     × (u ≡ record w { registry = put w.registry (epoch_at v.lane) 0; views = set w.views id (after_retire v) })
 Goes k w (load_registry id p) u = (v : View) × Seated k w id v × CanLoadRegistry v p
@@ -122,10 +133,15 @@ Goes k w (load_registry id p) u = (v : View) × Seated k w id v × CanLoadRegist
 Goes k w (define_word id p x) u = (v : View) × Seated k w id v × CanDefineWord v p x
     × (u ≡ record w { registry = put w.registry p x; views = set w.views id (after_define_word v p x) })
 Goes k w (raise_version id) u = (v : View) × Seated k w id v × CanRaiseVersion v
-    × (u ≡ record w { registry = put w.registry version_at (suc v.learned.version); views = set w.views id (after_raise_version v) })
+    × (u ≡ record w {
+      registry = put w.registry version_at (suc v.learned.version);
+      views = set w.views id
+          (after_raise_version v);
+    })
 Goes k w (check_lane id l) u = (v : View) × Seated k w id v × IsLane l
     × (u ≡ record w { views = set w.views id (after_check_lane v l (w.registry (epoch_at l))) })
-Goes k w (load_bound id) u = (v : View) × (o : Round) × (x : ℕ) × Seated k w id v × CanLoadBound v o × (high x ≡ w.count)
+Goes k w (load_bound id) u = (v : View) × (o : Round) × (x : ℕ) × Seated k w id v × CanLoadBound v o
+    × (high x ≡ w.count)
     × (low x ≡ w.line) × (u ≡ record w { views = set w.views id (after_load_bound v o x) })
 Goes k w (store_from id) u = (v : View) × (o : Round) × (n : ℕ) × Seated k w id v × CanStoreFrom v o n
     × (u ≡ record w {
@@ -152,7 +168,8 @@ Runs k w (e ∷ es) u = (m : World) × Goes k w e m × Runs k m es u
 
 -- from an empty log on, the rule holds after every list of steps
 abbrev pub EverySchedule : Type 0
-EverySchedule = (k : Key) (g : ℕ → ℕ) (events : List Event) (u : World) → Fits k → IsOpening k.version k.number k.rows.value g
+EverySchedule = (k : Key) (g : ℕ → ℕ) (events : List Event) (u : World) → Fits k
+    → IsOpening k.version k.number k.rows.value g
     → Runs k (empty_world k g) events u → Rule k u
 
 -- and each step keeps for good what lasts

@@ -1,5 +1,5 @@
--- Numbers that a pass found unpublished, one after the other, since it loaded the tail: what that says of the records that
--- come to stand there.
+-- Numbers that a pass found unpublished, one after the other, since it loaded the tail: what that says of the records
+-- that come to stand there.
 use Rattle.std.specs.Prelude.{ℕ, ◌≡◌, List}
 use Rattle.fish_catalog.specs.declared.entry.Entry.TheVariants as entry
 use Rattle.fish_rule.specs.Logs.{IsEntry}

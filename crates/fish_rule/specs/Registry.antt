@@ -46,7 +46,8 @@ row_in g id i = g (row_at id i)
 
 -- an operation registers the next row, or ends the row with its id
 abbrev pub made : (ℕ → ℕ) → ℕ → List Listed → List Listed
-made g x ls = choose (dec_lt x 512) (ls ++ listed_in (row_in g (length ls)) (length ls) true ∷ []) (ended_at (ended_id x) ls)
+made g x ls = choose (dec_lt x 512) (ls ++ listed_in (row_in g (length ls)) (length ls) true ∷ [])
+    (ended_at (ended_id x) ls)
 
 -- the definitions at a version: those of the start, changed by the operations that made the versions after the
 -- start's

@@ -24,7 +24,8 @@ pub record IsBound (k : Key) (count : ℕ) (version_of : ℕ → ℕ) (o : Round
 
 -- the control pass's registration made the version, and its index hasn't begun; no lane that was looked at is
 -- confirmed at an older version
-pub record IsRound (k : Key) (count : ℕ) (g : ℕ → ℕ) (state : ℕ → Epoch) (version_of : ℕ → ℕ) (lane : ℕ) (o : Round) : Type 0 where
+pub record IsRound (k : Key) (count : ℕ) (g : ℕ → ℕ) (state : ℕ → Epoch) (version_of : ℕ → ℕ) (lane : ℕ) (o : Round)
+    : Type 0 where
   pub control : lane ≡ 1
   pub few : o.id < 256
   pub reached : o.version ≤ version_in g

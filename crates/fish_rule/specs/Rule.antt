@@ -35,10 +35,10 @@ pub record Rule (k : Key) (w : World) : Type 0 where
   pub shuts : Each (λ v. ShutOk k w.count w.dir start v.shut) w.views
   pub opens : Each (λ v. AllOf (AreOpens k w.count w.dir lane_of) v.learned.opens) w.views
 
--- what every step keeps for good: the tail, the settled number, the version, heads and the first words of linked key entries
--- only rise; linked entries stay linked; claimed regions stay where they are; directory words that are set, and
--- the words of published regions but for previous nodes, never change; no word of a record below the settled
--- number changes at all, and no operation and no row that a version has, but for its boundaries
+-- what every step keeps for good: the tail, the settled number, the version, heads and the first words of linked key
+-- entries only rise; linked entries stay linked; claimed regions stay where they are; directory words that are set, and
+-- the words of published regions but for previous nodes, never change; no word of a record below the settled number
+-- changes at all, and no operation and no row that a version has, but for its boundaries
 pub record Final (k : Key) (start start' lane_of lane_of' : ℕ → ℕ) (w w' : World) : Type 0 where
   pub counts : w.count ≤ w'.count
   pub lines : w.line ≤ w'.line

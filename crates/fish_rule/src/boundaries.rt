@@ -42,7 +42,8 @@ pub fn load_bound(log: &Log, pass: &mut Pass) -> Position
     ensures pass { IsPassOf log.now pass.new }
     ensures view { (o : Round) → (view pass.old).round ≡ Some o → (x : ℕ)
         × (view pass.new ≡ after_load_bound (view pass.old) o x) × (result.number ≡ high x) × (result.line ≡ low x) }
-    ensures rests { (view pass.old).lane ≡ 1 → (view pass.old).out ≡ [] → Rests result.number result.line (view pass.old).tail }
+    ensures rests { (view pass.old).lane ≡ 1 → (view pass.old).out ≡ [] → Rests result.number result.line
+        (view pass.old).tail }
     ensures counted { (view pass.old).learned.count ≤ result.number }
 {
     let found = log.table.shared.load::<LoadBound>(&mut pass.seat, 0);
@@ -54,7 +55,8 @@ pub fn store_from(log: &Log, pass: &mut Pass, id: u64, from: u64)
     requires pass { IsPassOf log.now pass.old }
     requires view { (o : Round) × CanStoreFrom (view pass.old) o from × (o.id ≡ id) }
     ensures pass { IsPassOf log.now pass.new }
-    ensures view { (o : Round) → (view pass.old).round ≡ Some o → view pass.new ≡ after_store_from (view pass.old) o from }
+    ensures view { (o : Round) → (view pass.old).round ≡ Some o → view pass.new ≡ after_store_from (view pass.old) o
+        from }
 {
     let index = ROWS + id * 39;
     log.table
@@ -82,7 +84,8 @@ pub fn load_boundary(log: &Log, pass: &mut Pass, id: u64, place: u64) -> u64
     ensures pass { IsPassOf log.now pass.new }
     ensures view { view pass.new ≡ after_load_boundary (view pass.old) id place result }
     ensures few { result ≤ 268435456 }
-    ensures known { (x : RegistryWord) → Among x (view pass.old).learned.words → x.index ≡ row_at id place → result ≡ x.value }
+    ensures known { (x : RegistryWord) → Among x (view pass.old).learned.words → x.index ≡ row_at id place
+        → result ≡ x.value }
 {
     let index = ROWS + id * 39 + place;
     log.table

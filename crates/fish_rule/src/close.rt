@@ -74,8 +74,8 @@ enum Next {
     Mark(u64),
 }
 
-/// Closes a log, and shows what is left of it. No lane may be out, and nothing in flight. Where memory runs out the log and
-/// its control pass come back as they were, but for what the pass read.
+/// Closes a log, and shows what is left of it. No lane may be out, and nothing in flight. Where memory runs out the log
+/// and its control pass come back as they were, but for what the pass read.
 pub fn close_log(alloc: Global, log: Log, control: Pass) -> Result<Remains, CloseWant>
     requires pass { IsPassOf log control }
     requires alone { IsAlone (view control) }

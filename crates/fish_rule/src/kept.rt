@@ -14,8 +14,8 @@ use fish_layout::{Payload, lines_in, read_payload};
 use std::alloc::{AllocError, Global};
 use std::marker::Model;
 
-/// The entries of a closed log, by number. They stay in the words of the log's table: each is read anew where it is asked
-/// for.
+/// The entries of a closed log, by number. They stay in the words of the log's table: each is read anew where it is
+/// asked for.
 pub struct LogEntries {
     pub(crate) closed: Closed<bool, Global>,
     pub(crate) key: Key,
@@ -100,7 +100,8 @@ fn region_of(
     first: usize,
 ) -> Result<Vec<u64>, AllocError>
     requires full { IsFull closed.now.words }
-    requires room { first + lines_of (slice_index (slots_items closed.now.words) first) * 4 ≤ slots_len closed.now.words }
+    requires room { first + lines_of (slice_index (slots_items closed.now.words) first) * 4 ≤ slots_len
+        closed.now.words }
     requires some { first < slots_len closed.now.words }
     ensures { IfOk result (λ words. words.items ≡ map (λ i. slice_index (slots_items closed.now.words) (first + i))
         (range_with_len 0 (lines_of (slice_index (slots_items closed.now.words) first) * 4))) }

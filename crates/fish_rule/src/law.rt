@@ -17,8 +17,8 @@ pub fn law_every_schedule()
 {}
 
 /// Once a log is closed, each entry that a pass was told of is the one at its number, and the records of
-/// a lane are exactly the own numbers of the pass that has the lane. The definitions at the version that is left are those
-/// that the control pass knows, and what is left may begin the next log.
+/// a lane are exactly the own numbers of the pass that has the lane. The definitions at the version that is left are
+/// those that the control pass knows, and what is left may begin the next log.
 ///
 /// Its contract is that law.
 pub fn law_closed_log()

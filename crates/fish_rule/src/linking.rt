@@ -93,7 +93,8 @@ pub fn swing_head(log: &Log, pass: &mut Pass, bucket: u64, expected: u64, place:
 /// Puts the own next entry in below a higher one, where that one's first word is as expected.
 pub fn splice_entry(log: &Log, pass: &mut Pass, above: u64, expected: u64, place: u64) -> u64
     requires pass { IsPassOf log.now pass.old }
-    requires view { (f : Flight) × ((b : ℕ) × CanSpliceEntry (view pass.old) f b above expected × (place ≡ own_place f)) }
+    requires view { (f : Flight) × ((b : ℕ) × CanSpliceEntry (view pass.old) f b above expected
+        × (place ≡ own_place f)) }
     ensures pass { IsPassOf log.now pass.new }
     ensures view { (f : Flight) → (b : ℕ) → (view pass.old).flight ≡ Some f → HasNode (view pass.old) b above
         → view pass.new ≡ after_splice_entry (view pass.old) f b above expected result }

@@ -1,7 +1,8 @@
 //! The words of an empty log: the tail, and the registry's words of the definitions with which the
 //! log begins.
 
-ghost use Rattle.std.specs.Prelude.{◌≡◌, ℕ, ◌+◌, ◌*◌, ◌<◌, ◌≤◌, All, IfOk, Some, length, replicate, slice_get, slice_index};
+ghost use Rattle.std.specs.Prelude.{◌≡◌, ℕ, ◌+◌, ◌*◌, ◌<◌, ◌≤◌, All, IfOk, Some, length, replicate, slice_get};
+ghost use Rattle.std.specs.Prelude.{slice_index};
 ghost use Rattle.fish_catalog.specs.Clamps.{IsClamped};
 ghost use Rattle.fish_catalog.specs.Rows.{IsCatalog, IsRow};
 ghost use Rattle.fish_catalog.specs.Words.{IsWritable, row_word};

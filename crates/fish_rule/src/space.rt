@@ -82,9 +82,11 @@ pub fn claim_lines(log: &Log, pass: &mut Pass, lines: u64) -> Region
 /// Stores the next word of the region in flight.
 pub fn store_word(log: &Log, pass: &mut Pass, region: &Region, offset: u64, word: u64)
     requires pass { IsPassOf log.now pass.old }
-    requires view { (f : Flight) × CanStoreWord (view pass.old) f × (f.line ≡ region.now.line) × (length f.words ≡ offset) }
+    requires view { (f : Flight) × CanStoreWord (view pass.old) f × (f.line ≡ region.now.line)
+        × (length f.words ≡ offset) }
     ensures pass { IsPassOf log.now pass.new }
-    ensures view { (f : Flight) → (view pass.old).flight ≡ Some f → view pass.new ≡ after_store_word (view pass.old) f word }
+    ensures view { (f : Flight) → (view pass.old).flight ≡ Some f → view pass.new ≡ after_store_word (view pass.old) f
+        word }
 {
     let index = word_index(log, region.line * 4 + offset);
     log.table
@@ -106,7 +108,8 @@ pub fn store_at(log: &Log, pass: &mut Pass, first: u64, offset: u64, word: u64)
     requires view { (f : Flight) × CanStoreWord (view pass.old) f
         × (first_log_word log.now.key + (f.line * 4 - log.now.key.line * 4) ≡ first) × (length f.words ≡ offset) }
     ensures pass { IsPassOf log.now pass.new }
-    ensures view { (f : Flight) → (view pass.old).flight ≡ Some f → view pass.new ≡ after_store_word (view pass.old) f word }
+    ensures view { (f : Flight) → (view pass.old).flight ≡ Some f → view pass.new ≡ after_store_word (view pass.old) f
+        word }
 {
     log.table
         .shared
@@ -119,7 +122,8 @@ pub fn publish_region(log: &Log, pass: &mut Pass, region: &Region)
     requires view { (f : Flight) × CanPublishRegion (view pass.old) f × (f.number ≡ region.now.number)
         × (f.line ≡ region.now.line) × (f.lines ≡ region.now.lines) }
     ensures pass { IsPassOf log.now pass.new }
-    ensures view { (f : Flight) → (view pass.old).flight ≡ Some f → view pass.new ≡ after_publish_region (view pass.old) f }
+    ensures view { (f : Flight) → (view pass.old).flight ≡ Some f → view pass.new ≡ after_publish_region (view pass.old)
+        f }
 {
     let kind = region_kind(log.key.end, region.line, region.line + region.lines);
     let index = dir_at(&log.key) + (region.number - log.key.number);

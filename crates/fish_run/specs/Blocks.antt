@@ -1,5 +1,6 @@
 -- What a run tells of the whole log, by the rounds of its blocks.
-use Rattle.std.specs.Prelude.{ℕ, ◌≡◌, ◌<◌, ◌≤◌, ◌+◌, List, [], ◌∷◌, ◌++◌, length, map, slice_get, Bool, true, false, Option, Some, None, ⊤}
+use Rattle.std.specs.Prelude.{ℕ, ◌≡◌, ◌<◌, ◌≤◌, ◌+◌, List, [], ◌∷◌, ◌++◌, length, map, slice_get, Bool, true, false}
+use Rattle.std.specs.Prelude.{Option, Some, None, ⊤}
 use Rattle.fish_catalog.specs.Clamps.{clamped}
 use Rattle.fish_catalog.specs.declared.row.CatRow.{CatRow}
 use Rattle.fish_lanes.specs.Blocks.{AreEnded, EachLane, SaysBlock, control_items}
@@ -21,8 +22,8 @@ use Rattle.fish_run.specs.Faults.{lane_fault}
 use Rattle.fish_run.specs.declared.fault.RunFault.{RunFault}
 use Rattle.fish_whole.specs.Whole.{Whole}
 
--- what ran at once in one table: whether it was begun for it; what each lane was given; where it lies, its lanes with their
--- items, and what was found once they had ended
+-- what ran at once in one table: whether it was begun for it; what each lane was given; where it lies, its lanes with
+-- their items, and what was found once they had ended
 pub record Round : Type 0 where
   pub fresh : Bool
   pub given : List (List Work)
@@ -79,7 +80,8 @@ after_rounds r (b ∷ rounds) = after_rounds (after_round (begun_for b r) b) rou
 abbrev pub IsFullOf : List Round → ℕ → ℕ → ℕ → Type 0
 IsFullOf rounds line lines end = (b : Round) × Among b rounds × IsFullIn b.lanes line lines end
 
--- what found the table full, if anything did, is a claim that an item of these rounds tells of; and something did where an item tells so
+-- what found the table full, if anything did, is a claim that an item of these rounds tells of; and something did where
+-- an item tells so
 pub record HasFoundFull (rounds : List Round) (full : Option Shut) : Type 0 where
   pub told : (c : Shut) → full ≡ Some c → IsFullOf rounds c.line c.lines c.end
   pub some : (line lines end : ℕ) → IsFullOf rounds line lines end → (c : Shut) × (full ≡ Some c)
@@ -107,16 +109,18 @@ AreFullSince before (b ∷ rounds) = HasFoundFull (in_table b.fresh before) b.sp
 
 -- ---- what rounds tell
 
--- what a round of one lane tells besides, where the log has so many numbers before it, the rows are these, and this claim had found the
--- log full, if any: its items name no open number, and no lane for which a registration waits; and where one statement is all of the
--- round, its range is all that was asked for of that log, and planned by the rows; or its boundary is the log's end
+-- what a round of one lane tells besides, where the log has so many numbers before it, the rows are these, and this
+-- claim had found the log full, if any: its items name no open number, and no lane for which a registration waits; and
+-- where one statement is all of the round, its range is all that was asked for of that log, and planned by the rows; or
+-- its boundary is the log's end
 pub record SaysOneLane (rows : List CatRow) (full : Option Shut) (from : ℕ) (x : Lane) : Type 0 where
   pub none : AllOf NamesNone x.items
   pub whole : (w : Work) → x.works ≡ w ∷ [] → AllOf (SaysWhole rows full from w) (answers x.items)
 
--- what a round tells that begins where the log has so many numbers and the registry is this, even one in which a lane stopped at a fault:
--- its lanes' items are so of the log, and those of its first lane of the definitions; where a statement has no item, neither have those
--- after it; and of the items of a lane that a full log refused all name one claim, that of before the round if there was one
+-- what a round tells that begins where the log has so many numbers and the registry is this, even one in which a lane
+-- stopped at a fault: its lanes' items are so of the log, and those of its first lane of the definitions; where a
+-- statement has no item, neither have those after it; and of the items of a lane that a full log refused all name one
+-- claim, that of before the round if there was one
 pub record SaysPart (w : Whole) (from : ℕ) (r : Registry) (b : Round) : Type 0 where
   pub begins : b.span.from ≡ from
   pub ends : b.end.to ≡ b.span.to
@@ -130,8 +134,9 @@ pub record SaysPart (w : Whole) (from : ℕ) (r : Registry) (b : Round) : Type 0
   pub fulls : EachLane (λ i x. NamesOneClaim b.span.full x.items) b.lanes
   pub alone : (x : Lane) → b.lanes ≡ x ∷ [] → SaysOneLane r.rows b.span.full from x
 
--- what one tells in which a lane did: by the definitions after it, which are those that its first lane's items tell unless it was that
--- lane, pieces by an index lie where the index is complete, and no number is read one by one that was known to be so
+-- what one tells in which a lane did: by the definitions after it, which are those that its first lane's items tell
+-- unless it was that lane, pieces by an index lie where the index is complete, and no number is read one by one that
+-- was known to be so
 pub record SaysCut (w : Whole) (from : ℕ) (r : Registry) (b : Round) : Type 0 where
   pub part : SaysPart w from r b
   pub behind : Registry
@@ -139,8 +144,8 @@ pub record SaysCut (w : Whole) (from : ℕ) (r : Registry) (b : Round) : Type 0 
   pub plans : LanesSayPlans (RowsAre w) r behind.rows from b.lanes
   pub behind_is : (x : Lane) → slice_get b.lanes 0 ≡ Some x → x.fault ≡ cause.None → behind ≡ after_round r b
 
--- what one tells in which none did: every statement has its item; the definitions at each version are those that its first lane's items
--- tell, with the boundary that was found after them; and the same of plans, by these definitions
+-- what one tells in which none did: every statement has its item; the definitions at each version are those that its
+-- first lane's items tell, with the boundary that was found after them; and the same of plans, by these definitions
 pub record SaysOne (w : Whole) (from : ℕ) (r : Registry) (b : Round) : Type 0 where
   pub part : SaysPart w from r b
   pub whole : EachLane (λ i x. x.fault ≡ cause.None) b.lanes
@@ -149,7 +154,8 @@ pub record SaysOne (w : Whole) (from : ℕ) (r : Registry) (b : Round) : Type 0 
   pub last : b.span.last ≡ (after_round r b).version
   pub plans : LanesSayPlans (RowsAre w) r (after_round r b).rows from b.lanes
 
--- what rounds tell: each begins where the one before it ended, with the definitions that it left; the last one ends here
+-- what rounds tell: each begins where the one before it ended, with the definitions that it left; the last one ends
+-- here
 abbrev pub SaysRounds : Whole → ℕ → Registry → List Round → ℕ → Type 0
 SaysRounds w from r [] end = from ≡ end
 SaysRounds w from r (b ∷ rounds) end =
@@ -161,7 +167,8 @@ SaysRest w from r None end = from ≡ end
 SaysRest w from r (Some b) end = SaysCut w from (begun_for b r) b × (b.span.to ≡ end)
 
 -- what rounds tell, and after them the one that was cut
-pub record SaysFirst (w : Whole) (from : ℕ) (r : Registry) (rounds : List Round) (cut : Option Round) (end : ℕ) : Type 0 where
+pub record SaysFirst (w : Whole) (from : ℕ) (r : Registry) (rounds : List Round) (cut : Option Round) (end : ℕ)
+    : Type 0 where
   pub to : ℕ
   pub whole : SaysRounds w from r rounds to
   pub rest : SaysRest w to (after_rounds r rounds) cut end
@@ -171,8 +178,10 @@ abbrev pub with_cut : List Round → Option Round → List Round
 with_cut rounds None = rounds
 with_cut rounds (Some b) = rounds ++ b ∷ []
 
--- what all rounds of a run tell, from the number on at which the first table begins, with these rows, and where no claim had found it full
-pub record SaysRun (w : Whole) (first : ℕ) (rows : List CatRow) (rounds : List Round) (cut : Option Round) (end : ℕ) : Type 0 where
+-- what all rounds of a run tell, from the number on at which the first table begins, with these rows, and where no
+-- claim had found it full
+pub record SaysRun (w : Whole) (first : ℕ) (rows : List CatRow) (rounds : List Round) (cut : Option Round) (end : ℕ)
+    : Type 0 where
   pub tells : SaysFirst w first (first_registry rows) rounds cut end
   pub fulls : AreFullSince [] (with_cut rounds cut)
 

@@ -72,7 +72,8 @@ abbrev pub lanes_after : Bool → List Item → List Said → List Lane → List
 lanes_after fresh bound [] lanes = []
 lanes_after fresh bound (s ∷ said) [] = s ∷ said
 lanes_after fresh bound (s ∷ said) (x ∷ lanes) =
-    record { number = s.number; items = said_after fresh (goes_on x.works) s.items bound x.items } ∷ lanes_after fresh [] said lanes
+    record { number = s.number; items = said_after fresh (goes_on x.works) s.items bound x.items } ∷ lanes_after fresh
+    [] said lanes
 
 -- before a block its lanes have said nothing
 abbrev pub nothing_said : List Lane → List Said

@@ -73,7 +73,8 @@ GoOn a (b ∷ rounds) = Triples (IsNext b.fresh) a.lanes b.given b.lanes × AreN
 abbrev pub FollowOn : List Round → Type 0
 FollowOn [] = ⊤
 FollowOn (a ∷ rounds) =
-    Pairs (λ ws x. (to_do x ≡ ws) × AreAnewAfterFirst ws) a.given a.lanes × AreNumbered a.lanes × (a.fresh ≡ false) × GoOn a rounds
+    Pairs (λ ws x. (to_do x ≡ ws) × AreAnewAfterFirst ws) a.given a.lanes × AreNumbered a.lanes × (a.fresh ≡ false)
+    × GoOn a rounds
 
 -- what lanes were given over rounds
 abbrev pub given_after : List (List Work) → List Round → List (List Work)

@@ -23,7 +23,8 @@ is_next_new (b ∷ rounds) fresh = b.fresh
 abbrev pub AreRenewed : List Round → Bool → Type 0
 AreRenewed [] fresh = ⊤
 AreRenewed (b ∷ rounds) fresh =
-    ((line lines end : ℕ) → IsFullIn b.lanes line lines end → (is_next_new rounds fresh ≡ true) ⊎ IsNearLimits b.span.to end)
+    ((line lines end : ℕ) → IsFullIn b.lanes line lines end → (is_next_new rounds fresh ≡ true) ⊎ IsNearLimits b.span.to
+    end)
     × AreRenewed rounds fresh
 
 -- what is left is that of a closed log, with the buckets of the table with which the run began; refusals of a full log
@@ -36,4 +37,5 @@ pub record LastTable (o : Opened) (remains : Remains) (fresh : Bool) (rounds : L
   pub heads : length remains.heads ≡ o.log.key.buckets
   pub fulls : FullsAgree (left_table fresh [] rounds cut) view.about.end
   pub end : view.about.end ≡ view.about.line + table_lines o.log.shape.pages view.about.number view.about.line
-  pub same : remains.base ≡ o.log.key.number → (view.about ≡ o.log.key) × AreInOne (with_cut rounds cut) × (fresh ≡ false)
+  pub same : remains.base ≡ o.log.key.number → (view.about ≡ o.log.key) × AreInOne (with_cut rounds cut)
+      × (fresh ≡ false)

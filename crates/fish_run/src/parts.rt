@@ -140,7 +140,8 @@ where
     }
 }
 
-/// Gives lanes that said nothing yet their statements, and has them do what they were given, until nothing is left to be given.
+/// Gives lanes that said nothing yet their statements, and has them do what they were given, until nothing is left to
+/// be given.
 fn run_given<R: Threads + Sync, H: Host, D: Disk + Send, G: Gate + Sync>(
     rt: &R,
     alloc: Global,

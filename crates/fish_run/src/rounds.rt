@@ -1,6 +1,8 @@
-//! The rounds of a block: its lanes go on at once in one table, and where one finds it full, in a further round in a new one.
+//! The rounds of a block: its lanes go on at once in one table, and where one finds it full, in a further round in a
+//! new one.
 
-ghost use Rattle.std.specs.Prelude.{◌≡◌, ◌≢◌, ◌≤◌, length, ℕ, List, [], IfErr, IfOk, IsSome, MatchOption, OnOk, Some, None, false, true};
+ghost use Rattle.std.specs.Prelude.{◌≡◌, ◌≢◌, ◌≤◌, length, ℕ, List, [], IfErr, IfOk, IsSome, MatchOption, OnOk, Some};
+ghost use Rattle.std.specs.Prelude.{None, false, true};
 ghost use Rattle.std.specs.List.{list_any};
 ghost use Rattle.fish_lanes.specs.Blocks.{AreLanes};
 ghost use Rattle.fish_lanes.specs.Leaving.{LeavesLanes, LeavesStore};
@@ -86,8 +88,8 @@ pub(crate) fn run_turns<R: Threads + Sync, D: Disk + Send, G: Gate + Sync>(
     }
 }
 
-/// Runs lanes for a round, keeps what they said, and gives each what it goes on with, in a new table if something of the full one can be
-/// committed.
+/// Runs lanes for a round, keeps what they said, and gives each what it goes on with, in a new table if something of
+/// the full one can be committed.
 fn run_turn<R: Threads + Sync, D: Disk + Send, G: Gate + Sync>(
     rt: &R,
     alloc: Global,
@@ -203,7 +205,8 @@ fn run_round<R: Threads + Sync, D: Disk + Send, G: Gate + Sync>(
     run_block(rt, alloc, store, disk, lanes, gate)
 }
 
-/// Whether a lane goes on: with what it handed back; and where a new table may be begun, also where it found this one full.
+/// Whether a lane goes on: with what it handed back; and where a new table may be begun, also where it found this one
+/// full.
 fn go_on(lanes: &[Lane], some: bool) -> bool
     ensures done { result ≡ false → LeaveNone lanes.now }
     ensures left { result ≡ true → some ≡ false → LeaveNone lanes.now → ⊥ }

@@ -203,8 +203,8 @@ fn with_more(counted: Counted, item: Item) -> Item
     }
 }
 
-/// What a lane says in a round, after what it said before and a boundary that was found in between; where it goes on with
-/// the file of its last item, its first one is told in that.
+/// What a lane says in a round, after what it said before and a boundary that was found in between; where it goes on
+/// with the file of its last item, its first one is told in that.
 pub(crate) fn say(
     said: &mut ItemList,
     fresh: bool,

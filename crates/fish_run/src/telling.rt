@@ -6,7 +6,8 @@ ghost use Rattle.fish_outside.specs.Content.{Gained, GainedPart};
 ghost use Rattle.fish_report.specs.ReportText.{is_refusal, report_text};
 ghost use Rattle.fish_report.specs.Writing.{HasWriteCause};
 ghost use Rattle.fish_run.specs.Blocks.{IsFirstFault};
-ghost use Rattle.fish_run.specs.Reports.{block_foot, block_head, first_item, lane_foot, lane_head, lane_items, said_items};
+ghost use Rattle.fish_run.specs.Reports.{block_foot, block_head, first_item, lane_foot, lane_head, lane_items};
+ghost use Rattle.fish_run.specs.Reports.{said_items};
 ghost use Rattle.fish_run.specs.Reports.{said_refused};
 ghost use Rattle.fish_run.specs.within.Steps.{AreWhole};
 
@@ -93,7 +94,8 @@ fn write_head<W: Sink>(
     from: u32,
     end: BlockEnd,
 ) -> Result<(), WriteRefusal>
-    ensures written { OnOk result (Gained (W.written out.old) (W.written out.new) (report_text (block_head several from end.to))) }
+    ensures written { OnOk result (Gained (W.written out.old) (W.written out.new)
+        (report_text (block_head several from end.to))) }
     ensures part { OnErr result (GainedPart (W.written out.old) (W.written out.new)
         (report_text (block_head several from end.to))) }
     ensures cause { HasWriteCause (W.faults out.old) (W.faults out.new) result }
@@ -108,7 +110,8 @@ fn write_head<W: Sink>(
 /// Writes where several lanes end.
 fn write_foot<W: Sink>(alloc: Global, out: &mut W, several: bool) -> Result<(), WriteRefusal>
     ensures written { OnOk result (Gained (W.written out.old) (W.written out.new) (report_text (block_foot several))) }
-    ensures part { OnErr result (GainedPart (W.written out.old) (W.written out.new) (report_text (block_foot several))) }
+    ensures part { OnErr result (GainedPart (W.written out.old) (W.written out.new)
+        (report_text (block_foot several))) }
     ensures cause { HasWriteCause (W.faults out.old) (W.faults out.new) result }
 {
     if several {
@@ -164,8 +167,10 @@ fn write_number<W: Sink>(
     several: bool,
     number: u8,
 ) -> Result<(), WriteRefusal>
-    ensures written { OnOk result (Gained (W.written out.old) (W.written out.new) (report_text (lane_head several number))) }
-    ensures part { OnErr result (GainedPart (W.written out.old) (W.written out.new) (report_text (lane_head several number))) }
+    ensures written { OnOk result (Gained (W.written out.old) (W.written out.new)
+        (report_text (lane_head several number))) }
+    ensures part { OnErr result (GainedPart (W.written out.old) (W.written out.new)
+        (report_text (lane_head several number))) }
     ensures cause { HasWriteCause (W.faults out.old) (W.faults out.new) result }
 {
     if several {
@@ -182,8 +187,10 @@ fn write_bound<W: Sink>(
     number: u8,
     end: BlockEnd,
 ) -> Result<(), WriteRefusal>
-    ensures written { OnOk result (Gained (W.written out.old) (W.written out.new) (report_text (lane_foot number end))) }
-    ensures part { OnErr result (GainedPart (W.written out.old) (W.written out.new) (report_text (lane_foot number end))) }
+    ensures written { OnOk result (Gained (W.written out.old) (W.written out.new)
+        (report_text (lane_foot number end))) }
+    ensures part { OnErr result (GainedPart (W.written out.old) (W.written out.new)
+        (report_text (lane_foot number end))) }
     ensures cause { HasWriteCause (W.faults out.old) (W.faults out.new) result }
 {
     if number != 1 {

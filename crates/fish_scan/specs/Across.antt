@@ -27,8 +27,8 @@ use Rattle.fish_value.specs.declared.value.Value.{Value}
 
 -- ---- answers
 
--- how many words were loaded: of the log as the pieces there are allowed, and through the log to the chains of older records,
--- which the pass's own count has too; and of the file as the pieces below the log are allowed
+-- how many words were loaded: of the log as the pieces there are allowed, and through the log to the chains of older
+-- records, which the pass's own count has too; and of the file as the pieces below the log are allowed
 pub record IsWorkWith {content : Option (List ℕ)} {k : Key} {cold : Cold} (h : CarriesTable content k cold) (v u : View)
     (value : Value) (answer : Answer) (loaded loads : ℕ) : Type 0 where
   pub most : ℕ
@@ -40,17 +40,20 @@ pub record IsWorkWith {content : Option (List ℕ)} {k : Key} {cold : Cold} (h :
   pub counted : loads ≤ loaded + most + walked + older
 
 -- how often a record was parsed: those of the full pieces that aren't open, each once
-pub record HasParsedWith {content : Option (List ℕ)} {k : Key} {cold : Cold} (h : CarriesTable content k cold) (u : View)
+pub record HasParsedWith {content : Option (List ℕ)} {k : Key} {cold : Cold} (h : CarriesTable content k cold)
+    (u : View)
     (answer : Answer) (parsed parses : ℕ) : Type 0 where
   pub between : ℕ
-  pub above : HasParsed u answer.opens (pieces_above k.number answer.plan) (min (max answer.from k.number) answer.to) answer.to
+  pub above : HasParsed u answer.opens (pieces_above k.number answer.plan) (min (max answer.from k.number) answer.to)
+      answer.to
       parsed between
   pub below : parses ≡ between + older_parses h.end.entries (pieces_below k.number answer.plan)
 
--- on a disk that carries the table: the range and the plan are those of what is asked, and the rows are exactly the records of
--- the range on which the definition that the name means has the value, newest first. Those in the table are less the open ones;
--- the older ones are a selection of the entries for which the disk stands, and none of them is open
-pub record IsAnswerWith {content : Option (List ℕ)} {k : Key} {cold : Cold} (h : CarriesTable content k cold) (v u : View)
+-- on a disk that carries the table: the range and the plan are those of what is asked, and the rows are exactly the
+-- records of the range on which the definition that the name means has the value, newest first. Those in the table are
+-- less the open ones; the older ones are a selection of the entries for which the disk stands, and none of them is open
+pub record IsAnswerWith {content : Option (List ℕ)} {k : Key} {cold : Cold} (h : CarriesTable content k cold)
+    (v u : View)
     (known : Known) (ask : Ask) (answer : Answer) (parsed parses loaded loads : ℕ) : Type 0 where
   pub planned : IsPlanned v u known ask answer.from answer.to answer.opens answer.plan
   pub def : Definition
@@ -60,7 +63,8 @@ pub record IsAnswerWith {content : Option (List ℕ)} {k : Key} {cold : Cold} (h
   pub lower : List Row
   pub rows : answer.rows ≡ upper ++ lower
   pub above : Finds u def ask.value (min (max answer.from k.number) answer.to) answer.to answer.opens upper
-  pub below : lower ≡ select (map selectable h.end.entries) (evaluation def) ask.value answer.from (min answer.to k.number) []
+  pub below : lower ≡ select (map selectable h.end.entries) (evaluation def) ask.value answer.from
+      (min answer.to k.number) []
   pub parsed_are : HasParsedWith h u answer parsed parses
   pub work : IsWorkWith h v u ask.value answer loaded loads
 
@@ -75,8 +79,9 @@ pub record IsBroken (v u : View) (known : Known) (ask : Ask) (first : ℕ) : Typ
   pub planned : IsPlanned v u known ask from to opens plan
   pub least : from ≤ first
 
--- why there is no answer; a refusal comes only where none of those before it does. A fault or damage of the disk comes only where
--- a range was planned that begins below the table, and damage is at one of its numbers, or at the table's first
+-- why there is no answer; a refusal comes only where none of those before it does. A fault or damage of the disk comes
+-- only where a range was planned that begins below the table, and damage is at one of its numbers, or at the table's
+-- first
 abbrev pub IsRefusedWith : View → View → Known → Ask → ScanRefusal → Type 0
 IsRefusedWith v u known ask (refusal.UnknownName version) = IsUnplanned v u known ask (refusal.UnknownName version)
 IsRefusedWith v u known ask (refusal.EmptyRange from to) = IsUnplanned v u known ask (refusal.EmptyRange from to)

@@ -23,14 +23,16 @@ older_parses entries [] = 0
 older_parses entries (piece ∷ pieces) = older_parses_of entries piece + older_parses entries pieces
 
 -- a piece is allowed so many loads in the table and in the file
-abbrev pub IsOlderAllowed : {image : List ℕ} {count : ℕ} {end : Reached} → IsPrior image count end → View → Value → List Row → Piece
+abbrev pub IsOlderAllowed : {image : List ℕ} {count : ℕ} {end : Reached} → IsPrior image count end → View → Value
+    → List Row → Piece
     → ℕ → ℕ → Type 0
 IsOlderAllowed prior v value rows (Index id from to) walked most = IsWalkAllowed v (bucket_of_value v id value) walked
     × IsOlderIndexAllowed prior (bucket_of_value v id value) rows from to most
 IsOlderAllowed prior v value rows (Full from to) walked most = (walked ≡ 0) × IsOlderFullAllowed prior from to most
 
 -- and all pieces together
-abbrev pub AreOlderAllowed : {image : List ℕ} {count : ℕ} {end : Reached} → IsPrior image count end → View → Value → List Row
+abbrev pub AreOlderAllowed : {image : List ℕ} {count : ℕ} {end : Reached} → IsPrior image count end → View → Value
+    → List Row
     → List Piece → ℕ → ℕ → Type 0
 AreOlderAllowed prior v value rows [] walked most = (walked ≡ 0) × (most ≡ 0)
 AreOlderAllowed prior v value rows (piece ∷ pieces) walked most = (one : ℕ) × (first : ℕ) × (others : ℕ) × (rest : ℕ)

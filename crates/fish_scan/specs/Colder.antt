@@ -16,8 +16,8 @@ pub record IsBelow (k : Key) (cold : Cold) : Type 0 where
   pub number : cold.base.number ≡ k.number
   pub line : cold.base.line ≡ k.line
 
--- only pages were read: the base and the page starts are the same, each page that is held is what the disk reads, which reads
--- what it did, and a crash leaves what it might have left before
+-- only pages were read: the base and the page starts are the same, each page that is held is what the disk reads, which
+-- reads what it did, and a crash leaves what it might have left before
 pub record StaysCold {D : Type 0} (disks : Disks D) (old new : Cold) (disk next : D) : Type 0 where
   pub base : new.base ≡ old.base
   pub starts : new.starts ≡ old.starts

@@ -30,8 +30,8 @@ pub record IsIntervalOf (v : View) (settled : ℕ) (rows : List Listed) (text : 
   pub text_is : row.def ≡ text
   pub begun : IsBegun v settled x.id x
 
--- the intervals are those of rows with the text, of each one of whose index the pass knew that it has begun; and they end
--- where the pass knew an end
+-- the intervals are those of rows with the text, of each one of whose index the pass knew that it has begun; and they
+-- end where the pass knew an end
 pub record AreIntervals (v u : View) (rows : List Listed) (text : List ℕ) (intervals : List Interval) : Type 0 where
   pub each : (x : Interval) → Among x intervals → IsIntervalOf u v.learned.settled rows text x
   pub known : (id : ℕ) (row : Listed) → slice_get rows id ≡ Some row → row.def ≡ text

@@ -19,9 +19,10 @@ abbrev pub Matches : Definition → Value → Row → Key → World → Type 0
 Matches def value row k w = (lane : ℕ) × (form : Form)
     × IsEntry w row.number (entry.Stored lane form row.payload) × Gives def form row.payload value
 
--- the rows are exactly the records from a number on and below another, less the open ones, for which the definition gives
--- the value, newest first: in every moment of a pass that knows as much
-pub record Finds (v : View) (def : Definition) (value : Value) (from to : ℕ) (opens : List ℕ) (rows : List Row) : Type 0 where
+-- the rows are exactly the records from a number on and below another, less the open ones, for which the definition
+-- gives the value, newest first: in every moment of a pass that knows as much
+pub record Finds (v : View) (def : Definition) (value : Value) (from to : ℕ) (opens : List ℕ) (rows : List Row)
+    : Type 0 where
   pub falls : FallsBelow to rows
   pub above : (row : Row) → Among row rows → from ≤ row.number
   pub closed : (row : Row) → Among row rows → ¬ Among row.number opens

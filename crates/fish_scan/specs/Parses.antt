@@ -19,9 +19,10 @@ pub record IsInFull (pieces : List Piece) (n : ℕ) : Type 0 where
   pub above : from ≤ n
   pub below : n < to
 
--- the records at the numbers of the full pieces, less the open ones, each once, the newest first: each was found there, and
--- in every moment of a view that knows as much no other number of these has a record
-pub record AreParsed (v : View) (opens : List ℕ) (pieces : List Piece) (from to : ℕ) (records : List Found) : Type 0 where
+-- the records at the numbers of the full pieces, less the open ones, each once, the newest first: each was found there,
+-- and in every moment of a view that knows as much no other number of these has a record
+pub record AreParsed (v : View) (opens : List ℕ) (pieces : List Piece) (from to : ℕ) (records : List Found)
+    : Type 0 where
   pub are : AreRecords v from to records
   pub inside : (f : Found) → Among f records → IsInFull pieces f.number
   pub closed : (f : Found) → Among f records → ¬ Among f.number opens

@@ -17,8 +17,8 @@ abbrev pub Rise : ℕ → ℕ → List ℕ → Type 0
 Rise low high [] = low ≤ high
 Rise low high (n ∷ ns) = (low ≤ n) × Rise (suc n) high ns
 
--- between the two views the pass loaded the number's directory word, and it was 0: its record wasn't published; before them
--- it didn't know an entry there
+-- between the two views the pass loaded the number's directory word, and it was 0: its record wasn't published; before
+-- them it didn't know an entry there
 pub record WasOpen (v u : View) (n : ℕ) : Type 0 where
   pub loaded : HasLoaded v.clock u.clock (Directory n) 0
   pub unknown : ¬ KnowsEntry v n
@@ -29,8 +29,8 @@ pub record WasOpen (v u : View) (n : ℕ) : Type 0 where
 abbrev pub end_of : Option ℕ → ℕ → ℕ
 end_of to count = min (unwrap_or to count) count
 
--- the numbers from one on up to another are those of a scan that was asked for these: as far as it was asked and any were
--- claimed, or up to a mark
+-- the numbers from one on up to another are those of a scan that was asked for these: as far as it was asked and any
+-- were claimed, or up to a mark
 pub record IsRange (v u : View) (from : ℕ) (to : Option ℕ) (first last : ℕ) (opens : List ℕ) : Type 0 where
   pub first_is : first ≡ min from last
   -- so many were claimed, and as many as the pass knew
@@ -47,8 +47,9 @@ pub record IsRange (v u : View) (from : ℕ) (to : Option ℕ) (first last : ℕ
   -- and every other number of the range from the log's first one on is published, and no mark
   pub others : (n : ℕ) → v.about.number ≤ n → first ≤ n → n < last → ¬ Among n opens → KnowsEntry u n
 
--- a pass that was alone knows all of the log. So many numbers are claimed as it knew by the tail, and the log ends at the
--- settled number; the range goes up to there, or as far as it was asked, so all of it is settled; and no number is open
+-- a pass that was alone knows all of the log. So many numbers are claimed as it knew by the tail, and the log ends at
+-- the settled number; the range goes up to there, or as far as it was asked, so all of it is settled; and no number is
+-- open
 pub record IsExact (v u : View) (to : Option ℕ) (count settled last : ℕ) (opens : List ℕ) : Type 0 where
   pub counted : IsTailCount count v.tail
   pub ends : EndsAt u settled count

@@ -55,8 +55,8 @@ AreEmptyEnds ask from to = (ask.from ≡ Some from) × (ask.to ≡ Some to) × (
 abbrev pub IsEmptyAsk : Ask → Type 0
 IsEmptyAsk ask = (from : ℕ) × (to : ℕ) × AreEmptyEnds ask from to
 
--- the newest definition that has the name asked for, in the version that the pass loaded between the two views, which is no
--- older than the one that it knew, stands at this place
+-- the newest definition that has the name asked for, in the version that the pass loaded between the two views, which
+-- is no older than the one that it knew, stands at this place
 pub record IsNamed (v u : View) (known : Known) (ask : Ask) (position : ℕ) : Type 0 where
   pub loaded : HasLoaded v.clock u.clock Version (version_of known)
   pub least : v.learned.version ≤ version_of known
@@ -70,7 +70,8 @@ pub record IsAsked (v u : View) (known : Known) (ask : Ask) (position : ℕ) : T
 
 -- ---- plans
 
--- the plan covers the range by the intervals of the rows with a text, whose boundaries were loaded after the settled number
+-- the plan covers the range by the intervals of the rows with a text, whose boundaries were loaded after the settled
+-- number
 pub record IsCovered (v u : View) (rows : List Listed) (text : List ℕ) (from settled to : ℕ) (plan : List Piece)
     : Type 0 where
   pub moment : View
@@ -84,7 +85,8 @@ pub record IsCovered (v u : View) (rows : List Listed) (text : List ℕ) (from s
 abbrev pub IsPlan : View → View → List Listed → List ℕ → How → ℕ → ℕ → ℕ → List Piece → Type 0
 IsPlan v u rows text how.Full from settled to plan = plan ≡ one_full from to
 IsPlan v u rows text how.Auto from settled to plan = IsCovered v u rows text from settled to plan
-IsPlan v u rows text how.Index from settled to plan = IsCovered v u rows text from settled to plan × ¬ HasGap plan settled
+IsPlan v u rows text how.Index from settled to plan = IsCovered v u rows text from settled to plan
+    × ¬ HasGap plan settled
 
 -- ---- answers
 
@@ -109,8 +111,8 @@ pub record IsExplained (v u : View) (known : Known) (ask : Ask) (from to : ℕ) 
   pub planned : IsPlanned v u known ask from to opens plan
   pub fill : Fill plan from to
 
--- the range doesn't begin below the log's first number, and the rows are exactly the records of the range, less the open ones, on
--- which the definition that the name means has the value, newest first
+-- the range doesn't begin below the log's first number, and the rows are exactly the records of the range, less the
+-- open ones, on which the definition that the name means has the value, newest first
 pub record IsAnswer (v u : View) (known : Known) (ask : Ask) (answer : Answer) : Type 0 where
   pub explained : IsExplained v u known ask answer.from answer.to answer.opens answer.plan
   pub base : u.about.number ≤ answer.from

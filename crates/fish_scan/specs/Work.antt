@@ -25,8 +25,8 @@ AreRecords v from to [] = from ≤ to
 AreRecords v from to (f ∷ found) = (f.number < to) × Among f v.learned.found × (f.kind ≡ Stored)
     × AreRecords v from f.number found
 
--- places of entries of a bucket that are known to be linked, of numbers from one on, the higher first: below one place, and
--- none below another
+-- places of entries of a bucket that are known to be linked, of numbers from one on, the higher first: below one place,
+-- and none below another
 abbrev pub AreEntries : View → ℕ → ℕ → ℕ → ℕ → List ℕ → Type 0
 AreEntries v bucket first low high [] = low ≤ high
 AreEntries v bucket first low high (place ∷ places) = (place < high) × IsEntryFrom v bucket first place

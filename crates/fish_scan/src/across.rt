@@ -35,15 +35,16 @@ use fish_value::Rows;
 use std::alloc::Global;
 use std::sync::ledger::Ledger;
 
-/// The same as [`scan`](crate::scan), for a range that may begin below the log's first number: what is older is read from the
-/// disk that carries the log. What is at or past the first number is read from the log, as `scan` reads it.
+/// The same as [`scan`](crate::scan), for a range that may begin below the log's first number: what is older is read
+/// from the disk that carries the log. What is at or past the first number is read from the log, as `scan` reads it.
 ///
-/// The pieces of the plan are cut at the first number. Below it each record of a full piece is parsed exactly once, and takes
-/// one load for each of its words; an index piece takes two for each entry of the value's bucket in the log, 38 for each one in
-/// the file of a number at or above its first, one for each word of the records that it gives, and three more.
+/// The pieces of the plan are cut at the first number. Below it each record of a full piece is parsed exactly once, and
+/// takes one load for each of its words; an index piece takes two for each entry of the value's bucket in the log, 38
+/// for each one in the file of a number at or above its first, one for each word of the records that it gives, and
+/// three more.
 ///
-/// It is never refused for a range that begins below the log. `DiskFault` and `Damaged` come last: the disk failed, or what it
-/// has below the first number is no log.
+/// It is never refused for a range that begins below the log. `DiskFault` and `Damaged` come last: the disk failed, or
+/// what it has below the first number is no log.
 pub fn scan_with<D: Disk, P: Ledger, L: Ledger>(
     alloc: Global,
     log: &Log,
@@ -62,11 +63,11 @@ pub fn scan_with<D: Disk, P: Ledger, L: Ledger>(
     ensures only { OnlyScans (view pass.old) (view pass.new) }
     ensures defs { IsDefsOf (view pass.new) defs.new }
     ensures cold { StaysCold D.Disk cold.old cold.new disk.old disk.new }
-    ensures explained { IfOk result (λ a. IsExplained (view pass.old) (view pass.new) defs.new.known ask.now a.from a.to a.opens
-        a.plan) }
+    ensures explained { IfOk result (λ a. IsExplained (view pass.old) (view pass.new) defs.new.known ask.now a.from a.to
+        a.opens a.plan) }
     ensures opened { IfOk result (λ a. (n : ℕ) → Among n a.opens → (view pass.new).about.number ≤ n) }
-    ensures answer { IfOk result (λ answer. (h : CarriesTable (D.content disk.new) log.now.key cold.old) → IsAnswerWith h
-        (view pass.old) (view pass.new) defs.new.known ask.now answer parses.old parses.new loads.old loads.new) }
+    ensures answer { IfOk result (λ answer. (h : CarriesTable (D.content disk.new) log.now.key cold.old) → IsAnswerWith
+        h (view pass.old) (view pass.new) defs.new.known ask.now answer parses.old parses.new loads.old loads.new) }
     ensures kept { CarriesTable (D.content disk.old) log.now.key cold.old
         → IfSome (D.content disk.new) (λ _. CarriesTable (D.content disk.new) log.now.key cold.new) }
 
@@ -122,8 +123,9 @@ fn read_across<D: Disk, P: Ledger, L: Ledger>(
     ensures pass { IsPassOf log.now pass.new }
     ensures extends { Extends (view pass.old) (view pass.new) }
     ensures cold { StaysCold D.Disk cold.old cold.new disk.old disk.new }
-    ensures read { OnOk result ((h : CarriesTable (D.content disk.new) log.now.key cold.old) → HasReadAcross h (view pass.old)
-        (view pass.new) query.now pieces.now rows.old rows.new parses.old parses.new loads.old loads.new) }
+    ensures read { OnOk result ((h : CarriesTable (D.content disk.new) log.now.key cold.old) → HasReadAcross h
+        (view pass.old) (view pass.new) query.now pieces.now rows.old rows.new parses.old parses.new loads.old
+        loads.new) }
 
     ensures fault { IsFaultOf (D.faults disk.old) (D.faults disk.new) result }
     ensures damage { IfErr result (IsDamageIn query.now.reach.from log.now.key.number) }

@@ -47,8 +47,8 @@ pub(crate) fn read_below<D: Disk, P: Ledger, L: Ledger>(
     ensures pass { IsPassOf log.now pass.new }
     ensures extends { Extends (view pass.old) (view pass.new) }
     ensures cold { StaysCold D.Disk cold.old cold.new disk.old disk.new }
-    ensures read { OnOk result ((h : CarriesTable (D.content disk.new) log.now.key cold.old) → HasReadBelow h.prior (view pass.old)
-        (view pass.new) (definition_of query.now.def) query.now.value pieces.now query.now.reach.from
+    ensures read { OnOk result ((h : CarriesTable (D.content disk.new) log.now.key cold.old) → HasReadBelow h.prior
+        (view pass.old) (view pass.new) (definition_of query.now.def) query.now.value pieces.now query.now.reach.from
         (last_below log.now.key query.now.reach) rows.old rows.new parses.old parses.new loads.old loads.new) }
 
     ensures fault { IsFaultOf (D.faults disk.old) (D.faults disk.new) result }
@@ -83,9 +83,9 @@ fn read_older_piece<D: Disk, P: Ledger, L: Ledger>(
     ensures pass { IsPassOf log.now pass.new }
     ensures extends { Extends (view pass.old) (view pass.new) }
     ensures cold { StaysCold D.Disk cold.old cold.new disk.old disk.new }
-    ensures read { OnOk result ((h : CarriesTable (D.content disk.new) log.now.key cold.old) → HasReadPiece h.prior (view pass.old)
-        (view pass.new) (definition_of query.now.def) query.now.value piece.now rows.old rows.new parses.old parses.new loads.old
-        loads.new) }
+    ensures read { OnOk result ((h : CarriesTable (D.content disk.new) log.now.key cold.old) → HasReadPiece h.prior
+        (view pass.old) (view pass.new) (definition_of query.now.def) query.now.value piece.now rows.old rows.new
+        parses.old parses.new loads.old loads.new) }
 
     ensures fault { IsFaultOf (D.faults disk.old) (D.faults disk.new) result }
     ensures damage { IfErr result (IsDamageIn (piece_from piece.now) log.now.key.number) }

@@ -1,5 +1,5 @@
-//! Numbers below the base that an index holds: the chain of the value's bucket is followed in the file, and no record is
-//! parsed.
+//! Numbers below the base that an index holds: the chain of the value's bucket is followed in the file, and no record
+//! is parsed.
 
 ghost use Rattle.std.specs.Prelude.{◌≡◌, ◌≢◌, ◌↔◌, ◌+◌, ◌*◌, ◌<◌, ◌≤◌, ℕ, List, IfErr, IfOk, IsTrue, OnOk};
 ghost use Rattle.fish_cold.specs.Answers.{IsDamageOf};
@@ -18,7 +18,8 @@ ghost use Rattle.fish_rule.specs.declared.view.Key.{Key as TableKey};
 ghost use Rattle.fish_scan.specs.Colder.{IsBelow, StaysCold};
 ghost use Rattle.fish_scan.specs.within.Colder.{IsDamageIn, IsFaultOf};
 ghost use Rattle.fish_scan.specs.within.Indices.{IsIndex};
-ghost use Rattle.fish_scan.specs.within.OlderReading.{HasDescended, HasWalkedOlder, IsCoveredBy, IsHeadOf, IsPayloadAt, IsVisit};
+ghost use Rattle.fish_scan.specs.within.OlderReading.{HasDescended, HasWalkedOlder, IsCoveredBy, IsHeadOf, IsPayloadAt};
+ghost use Rattle.fish_scan.specs.within.OlderReading.{IsVisit};
 ghost use Rattle.fish_scan.specs.within.OlderWork.{IsWalkWork};
 
 use crate::matching::Query;
@@ -33,9 +34,10 @@ use fish_rule::{Log, Pass, base, buckets};
 use fish_value::{Row, Rows, Text};
 use std::sync::ledger::Ledger;
 
-/// Puts the records of a stretch below the base that have the value after the rows, newest first, by the index of the row
-/// with an id. The chain is followed through the table, and from there on in the file: at most 38 loads for each key entry
-/// there of a number at or above the stretch's first, those of the words of the records that it finds, and one more.
+/// Puts the records of a stretch below the base that have the value after the rows, newest first, by the index of the
+/// row with an id. The chain is followed through the table, and from there on in the file: at most 38 loads for each
+/// key entry there of a number at or above the stretch's first, those of the words of the records that it finds, and
+/// one more.
 pub(crate) fn read_chain<D: Disk, L: Ledger>(
     log: &Log,
     pass: &mut Pass,
@@ -55,9 +57,9 @@ pub(crate) fn read_chain<D: Disk, L: Ledger>(
     ensures pass { IsPassOf log.now pass.new }
     ensures extends { Extends (view pass.old) (view pass.new) }
     ensures cold { StaysCold D.Disk cold.old cold.new disk.old disk.new }
-    ensures walked { OnOk result ((h : CarriesTable (D.content disk.new) log.now.key cold.old) → HasWalkedOlder h.prior (view pass.old)
-        (view pass.new) (definition_of query.now.def) query.now.value id stretch.now.from stretch.now.to rows.old rows.new
-        loads.old loads.new) }
+    ensures walked { OnOk result ((h : CarriesTable (D.content disk.new) log.now.key cold.old) → HasWalkedOlder h.prior
+        (view pass.old) (view pass.new) (definition_of query.now.def) query.now.value id stretch.now.from stretch.now.to
+        rows.old rows.new loads.old loads.new) }
 
     ensures fault { IsFaultOf (D.faults disk.old) (D.faults disk.new) result }
     ensures damage { IfErr result (IsDamageIn stretch.now.from log.now.key.number) }
@@ -96,8 +98,8 @@ fn rest_of<L: Ledger>(log: &Log, pass: &mut Pass, bucket: u32, loads: &mut Steps
     }
 }
 
-/// Puts the records of a stretch that have the value after the rows, by the chain that begins at a place in the file, all of
-/// whose records are below the base.
+/// Puts the records of a stretch that have the value after the rows, by the chain that begins at a place in the file,
+/// all of whose records are below the base.
 fn walk_down<D: Disk, L: Ledger>(
     query: &Query,
     id: u16,
@@ -114,10 +116,11 @@ fn walk_down<D: Disk, L: Ledger>(
     requires some { stretch.now.from ≤ stretch.now.to }
     requires older { stretch.now.to ≤ base }
     ensures cold { StaysCold D.Disk cold.old cold.new disk.old disk.new }
-    ensures walked { OnOk result ((k : TableKey) (h : CarriesTable (D.content disk.new) k cold.old) (b : ℕ) → IsHeadOf h b head
-        → b ≡ bucket_in (key_hash_of id query.now.value) k.buckets
-        → IsCoveredBy h (definition_of query.now.def) id stretch.now.from stretch.now.to → HasDescended h.prior b
-        (definition_of query.now.def) query.now.value stretch.now.from stretch.now.to rows.old rows.new loads.old loads.new) }
+    ensures walked { OnOk result ((k : TableKey) (h : CarriesTable (D.content disk.new) k cold.old) (b : ℕ) → IsHeadOf h
+        b head → b ≡ bucket_in (key_hash_of id query.now.value) k.buckets
+        → IsCoveredBy h (definition_of query.now.def) id stretch.now.from stretch.now.to
+        → HasDescended h.prior b (definition_of query.now.def) query.now.value stretch.now.from stretch.now.to rows.old
+        rows.new loads.old loads.new) }
 
     ensures fault { IsFaultOf (D.faults disk.old) (D.faults disk.new) result }
     ensures damage { IfErr result (IsDamageIn stretch.now.from base) }
@@ -156,14 +159,15 @@ fn visit<D: Disk, L: Ledger>(
     requires older { node.now.number < cold.old.base.number }
     requires lower { node.now.place < 4 * cold.old.base.line }
     ensures cold { StaysCold D.Disk cold.old cold.new disk.old disk.new }
-    ensures visit { IfOk result (IsVisit node.now id query.now.value to rows.old rows.new loads.old loads.new (λ payload before now.
-        (k : TableKey) (h : CarriesTable (D.content disk.new) k cold.old) (b n : ℕ) (p : BodyParts) (key : KeyPart)
-        → IsKeyAt h.prior b node.now.place n p node.now.key key → IsPayloadAt p payload before now)) }
+    ensures visit { IfOk result (IsVisit node.now id query.now.value to rows.old rows.new loads.old loads.new
+        (λ payload before now. (k : TableKey) (h : CarriesTable (D.content disk.new) k cold.old) (b n : ℕ)
+        (p : BodyParts) (key : KeyPart) → IsKeyAt h.prior b node.now.place n p node.now.key key
+        → IsPayloadAt p payload before now)) }
 
     ensures fault { IsFaultOf (D.faults disk.old) (D.faults disk.new) result }
     ensures damage { IfErr result (IsDamageOf node.now.number) }
-    ensures whole { (k : TableKey) (h : CarriesTable (D.content disk.new) k cold.old) (b n : ℕ) (p : BodyParts) (key : KeyPart)
-        → IsKeyAt h.prior b node.now.place n p node.now.key key → IfErr result IsUndamaged }
+    ensures whole { (k : TableKey) (h : CarriesTable (D.content disk.new) k cold.old) (b n : ℕ) (p : BodyParts)
+        (key : KeyPart) → IsKeyAt h.prior b node.now.place n p node.now.key key → IfErr result IsUndamaged }
 {
     if !is_taken(query, id, to, node) {
         return Ok(to);
@@ -191,14 +195,14 @@ fn payload_of<D: Disk, L: Ledger>(
     requires older { node.now.number < cold.old.base.number }
     requires lower { node.now.place < 4 * cold.old.base.line }
     ensures cold { StaysCold D.Disk cold.old cold.new disk.old disk.new }
-    ensures payload { IfOk result (λ payload. (k : TableKey) (h : CarriesTable (D.content disk.new) k cold.old) (b n : ℕ)
-        (p : BodyParts) (key : KeyPart) → IsKeyAt h.prior b node.now.place n p node.now.key key
+    ensures payload { IfOk result (λ payload. (k : TableKey) (h : CarriesTable (D.content disk.new) k cold.old)
+        (b n : ℕ) (p : BodyParts) (key : KeyPart) → IsKeyAt h.prior b node.now.place n p node.now.key key
         → IsPayloadAt p payload loads.old loads.new) }
 
     ensures fault { IsFaultOf (D.faults disk.old) (D.faults disk.new) result }
     ensures damage { IfErr result (IsDamageOf node.now.number) }
-    ensures whole { (k : TableKey) (h : CarriesTable (D.content disk.new) k cold.old) (b n : ℕ) (p : BodyParts) (key : KeyPart)
-        → IsKeyAt h.prior b node.now.place n p node.now.key key → IfErr result IsUndamaged }
+    ensures whole { (k : TableKey) (h : CarriesTable (D.content disk.new) k cold.old) (b n : ℕ) (p : BodyParts)
+        (key : KeyPart) → IsKeyAt h.prior b node.now.place n p node.now.key key → IfErr result IsUndamaged }
 {
     match cold.cold_row(disk, node, loads) {
         Ok(Entry::Stored { payload, .. }) => Ok(payload),

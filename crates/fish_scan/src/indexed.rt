@@ -44,10 +44,10 @@ pub(crate) fn read_indexed<L: Ledger>(
     requires some { stretch.now.from ≤ stretch.now.to }
     ensures pass { IsPassOf log.now pass.new }
     ensures extends { Extends (view pass.old) (view pass.new) }
-    ensures rows { OnOk result (Adds (view pass.new) (definition_of query.now.def) query.now.value stretch.now.from stretch.now.to
-        query.now.reach.opens rows.old rows.new) }
-    ensures loads { OnOk result (IsIndexWork (view pass.old) (view pass.new) query.now.value rows.new id stretch.now.from
-        stretch.now.to loads.old loads.new) }
+    ensures rows { OnOk result (Adds (view pass.new) (definition_of query.now.def) query.now.value stretch.now.from
+        stretch.now.to query.now.reach.opens rows.old rows.new) }
+    ensures loads { OnOk result (IsIndexWork (view pass.old) (view pass.new) query.now.value rows.new id
+        stretch.now.from stretch.now.to loads.old loads.new) }
 {
     let bucket = bucket_of(key_hash(id, &query.value), buckets(log)) as u32;
     walk_start(log, pass, bucket, stretch.from, stretch.to, loads);
@@ -78,7 +78,8 @@ fn read_node<L: Ledger>(
     ensures walk { walk_of pass.new ≡ walk_of pass.old }
     ensures row { OnOk result (node.now.id ≡ id → AddsNode (view pass.new) query.now.value node.now rows.old rows.new) }
     ensures other { OnOk result (node.now.id ≢ id → rows.new ≡ rows.old) }
-    ensures loads { OnOk result (HasLoadedRows (view pass.old) (view pass.new) rows.old rows.new loads.old loads.new 36) }
+    ensures loads { OnOk result (HasLoadedRows (view pass.old) (view pass.new) rows.old rows.new loads.old loads.new
+        36) }
 {
     if node.id != id {
         return Ok(());
@@ -111,7 +112,8 @@ fn payload_with<L: Ledger>(
     ensures pass { IsPassOf log.now pass.new }
     ensures extends { Extends (view pass.old) (view pass.new) }
     ensures payload { IfOk result (IsValued (view pass.new) query.now.value node.now) }
-    ensures loads { IfOk result (λ payload. IsComparison (view pass.old) (view pass.new) node.now payload loads.old loads.new) }
+    ensures loads { IfOk result (λ payload. IsComparison (view pass.old) (view pass.new) node.now payload loads.old
+        loads.new) }
 {
     if !node_has(log, pass, node, &query.value, loads) {
         return Ok(None);

@@ -44,7 +44,8 @@ fn add_interval(
     requires few { row.now.id < 256 }
     ensures pass { IsPassOf log.now pass.new }
     ensures only { OnlyBoundaries (view pass.old) (view pass.new) }
-    ensures added { OnOk result (AddsInterval (view pass.old) (view pass.new) row.now text.now intervals.old intervals.new) }
+    ensures added { OnOk result (AddsInterval (view pass.old) (view pass.new) row.now text.now intervals.old
+        intervals.new) }
 {
     if row.def.as_bytes() != text {
         return Ok(());

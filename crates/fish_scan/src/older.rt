@@ -41,8 +41,8 @@ pub(crate) fn read_older<D: Disk, P: Ledger, L: Ledger>(
     requires older { stretch.now.to ≤ cold.old.base.number }
     ensures cold { StaysCold D.Disk cold.old cold.new disk.old disk.new }
     ensures read { OnOk result ((k : Key) (h : CarriesTable (D.content disk.new) k cold.old) → HasReadOlder h.prior
-        (definition_of query.now.def) query.now.value stretch.now.from stretch.now.to rows.old rows.new parses.old parses.new
-        loads.old loads.new) }
+        (definition_of query.now.def) query.now.value stretch.now.from stretch.now.to rows.old rows.new parses.old
+        parses.new loads.old loads.new) }
 
     ensures fault { IsFaultOf (D.faults disk.old) (D.faults disk.new) result }
     ensures damage { IfErr result (IsDamageIn stretch.now.from stretch.now.to) }
@@ -73,8 +73,8 @@ fn read_older_at<D: Disk, P: Ledger, L: Ledger>(
     requires older { number < cold.old.base.number }
     ensures cold { StaysCold D.Disk cold.old cold.new disk.old disk.new }
     ensures read { OnOk result ((k : Key) (h : CarriesTable (D.content disk.new) k cold.old) → HasReadOlder h.prior
-        (definition_of query.now.def) query.now.value number (number + 1) rows.old rows.new parses.old parses.new loads.old
-        loads.new) }
+        (definition_of query.now.def) query.now.value number (number + 1) rows.old rows.new parses.old parses.new
+        loads.old loads.new) }
 
     ensures fault { IsFaultOf (D.faults disk.old) (D.faults disk.new) result }
     ensures damage { IfErr result (IsDamageIn number (number + 1)) }

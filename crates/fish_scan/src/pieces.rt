@@ -47,8 +47,8 @@ pub(crate) fn read_pieces<P: Ledger, L: Ledger>(
     ensures parses { OnOk result (HasParsed (view pass.new) query.now.reach.opens pieces.now
         (first_in log.now.key query.now.reach) query.now.reach.to parses.old parses.new) }
     ensures few { parses.new ≤ parses.old + full_numbers pieces.now }
-    ensures loads { OnOk result (ArePiecesWork (view pass.old) (view pass.new) query.now.value query.now.reach.opens rows.new
-        pieces.now loads.old loads.new) }
+    ensures loads { OnOk result (ArePiecesWork (view pass.old) (view pass.new) query.now.value query.now.reach.opens
+        rows.new pieces.now loads.old loads.new) }
 {
     for piece in pieces {
         read_piece(alloc, log, pass, reader, query, piece, rows, parses, loads)?;
@@ -74,12 +74,13 @@ fn read_piece<P: Ledger, L: Ledger>(
     requires readable { IsReadable (view pass.old) (definition_of query.now.def) query.now.reach piece.now }
     ensures pass { IsPassOf log.now pass.new }
     ensures extends { Extends (view pass.old) (view pass.new) }
-    ensures rows { OnOk result (Adds (view pass.new) (definition_of query.now.def) query.now.value (piece_from piece.now)
-        (piece_to piece.now) query.now.reach.opens rows.old rows.new) }
-    ensures parses { OnOk result (HasParsedPiece (view pass.new) query.now.reach.opens piece.now parses.old parses.new) }
+    ensures rows { OnOk result (Adds (view pass.new) (definition_of query.now.def) query.now.value
+        (piece_from piece.now) (piece_to piece.now) query.now.reach.opens rows.old rows.new) }
+    ensures parses { OnOk result (HasParsedPiece (view pass.new) query.now.reach.opens piece.now parses.old
+        parses.new) }
     ensures few { parses.new ≤ parses.old + full_of piece.now }
-    ensures loads { OnOk result (IsPieceWork (view pass.old) (view pass.new) query.now.value query.now.reach.opens rows.new
-        piece.now loads.old loads.new) }
+    ensures loads { OnOk result (IsPieceWork (view pass.old) (view pass.new) query.now.value query.now.reach.opens
+        rows.new piece.now loads.old loads.new) }
 {
     let stretch = Stretch {
         from: piece.from(),

@@ -33,8 +33,8 @@ pub(crate) fn find_plan(
     requires settled { reach.now.settled ≤ (view pass.old).learned.settled }
     ensures pass { IsPassOf log.now pass.new }
     ensures only { OnlyBoundaries (view pass.old) (view pass.new) }
-    ensures plan { IfOk result (IsPlan (view pass.old) (view pass.new) rows.now text.now how reach.now.from reach.now.settled
-        reach.now.to) }
+    ensures plan { IfOk result (IsPlan (view pass.old) (view pass.new) rows.now text.now how reach.now.from
+        reach.now.settled reach.now.to) }
     ensures refused { IfErr result (IsPlanRefused (view pass.old) (view pass.new) rows.now text.now how reach.now.from
         reach.now.settled reach.now.to) }
 {
@@ -70,8 +70,8 @@ fn plan_by(
     requires settled { reach.now.settled ≤ (view pass.old).learned.settled }
     ensures pass { IsPassOf log.now pass.new }
     ensures only { OnlyBoundaries (view pass.old) (view pass.new) }
-    ensures plan { IfOk result (IsCovered (view pass.old) (view pass.new) rows.now text.now reach.now.from reach.now.settled
-        reach.now.to) }
+    ensures plan { IfOk result (IsCovered (view pass.old) (view pass.new) rows.now text.now reach.now.from
+        reach.now.settled reach.now.to) }
 {
     let intervals = load_intervals(alloc, log, pass, rows, text)?;
     plan(

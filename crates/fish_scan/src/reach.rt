@@ -31,8 +31,8 @@ pub(crate) struct Reach {
 }
 
 /// How far a scan that is asked for the numbers from one on, up to another or as far as any are claimed, may look:
-/// up to the first mark. Takes the loads of settling, one for each number of the range that isn't settled, and one where
-/// the range begins after the number at which the settled ones stop.
+/// up to the first mark. Takes the loads of settling, one for each number of the range that isn't settled, and one
+/// where the range begins after the number at which the settled ones stop.
 pub(crate) fn find_reach(
     alloc: Global,
     log: &Log,

@@ -46,13 +46,13 @@ pub(crate) fn read_stretch<P: Ledger, L: Ledger>(
     requires to { stretch.now.to ≤ query.now.reach.to }
     ensures pass { IsPassOf log.now pass.new }
     ensures extends { Extends (view pass.old) (view pass.new) }
-    ensures rows { OnOk result (Adds (view pass.new) (definition_of query.now.def) query.now.value stretch.now.from stretch.now.to
-        query.now.reach.opens rows.old rows.new) }
-    ensures parses { OnOk result (HasParsedPiece (view pass.new) query.now.reach.opens (Full stretch.now.from stretch.now.to)
-        parses.old parses.new) }
+    ensures rows { OnOk result (Adds (view pass.new) (definition_of query.now.def) query.now.value stretch.now.from
+        stretch.now.to query.now.reach.opens rows.old rows.new) }
+    ensures parses { OnOk result (HasParsedPiece (view pass.new) query.now.reach.opens
+        (Full stretch.now.from stretch.now.to) parses.old parses.new) }
     ensures few { parses.new + stretch.now.from ≤ parses.old + stretch.now.to }
-    ensures loads { OnOk result (IsFullWork (view pass.old) (view pass.new) query.now.reach.opens stretch.now.from stretch.now.to
-        loads.old loads.new) }
+    ensures loads { OnOk result (IsFullWork (view pass.old) (view pass.new) query.now.reach.opens stretch.now.from
+        stretch.now.to loads.old loads.new) }
 {
     let mut number = stretch.to;
     while number > stretch.from {
@@ -83,11 +83,11 @@ fn read_at<P: Ledger, L: Ledger>(
     ensures extends { Extends (view pass.old) (view pass.new) }
     ensures row { OnOk result (Adds (view pass.new) (definition_of query.now.def) query.now.value number (number + 1)
         query.now.reach.opens rows.old rows.new) }
-    ensures parses { OnOk result (HasParsedPiece (view pass.new) query.now.reach.opens (Full number (number + 1)) parses.old
-        parses.new) }
+    ensures parses { OnOk result (HasParsedPiece (view pass.new) query.now.reach.opens (Full number (number + 1))
+        parses.old parses.new) }
     ensures few { parses.new ≤ parses.old + 1 }
-    ensures loads { OnOk result (IsFullWork (view pass.old) (view pass.new) query.now.reach.opens number (number + 1) loads.old
-        loads.new) }
+    ensures loads { OnOk result (IsFullWork (view pass.old) (view pass.new) query.now.reach.opens number (number + 1)
+        loads.old loads.new) }
 {
     match seen_at(log, pass, &query.reach, number) {
         Look::Stored => read_number(alloc, log, pass, reader, query, number, rows, parses, loads),
@@ -115,11 +115,11 @@ fn read_number<P: Ledger, L: Ledger>(
     ensures extends { Extends (view pass.old) (view pass.new) }
     ensures row { OnOk result (Adds (view pass.new) (definition_of query.now.def) query.now.value number (number + 1)
         query.now.reach.opens rows.old rows.new) }
-    ensures parses { OnOk result (HasParsedPiece (view pass.new) query.now.reach.opens (Full number (number + 1)) parses.old
-        parses.new) }
+    ensures parses { OnOk result (HasParsedPiece (view pass.new) query.now.reach.opens (Full number (number + 1))
+        parses.old parses.new) }
     ensures few { parses.new ≤ parses.old + 1 }
-    ensures loads { OnOk result (IsFullWork (view pass.old) (view pass.new) query.now.reach.opens number (number + 1) loads.old
-        loads.new) }
+    ensures loads { OnOk result (IsFullWork (view pass.old) (view pass.new) query.now.reach.opens number (number + 1)
+        loads.old loads.new) }
 {
     let entry = read_entry(alloc, log, pass, number, loads)?;
     if let Some(payload) = matching(alloc, reader, query, entry, parses)? {

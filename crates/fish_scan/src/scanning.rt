@@ -39,8 +39,8 @@ pub(crate) struct PlannedScan {
 /// active or not; `defs` then has that version.
 ///
 /// Each stored record of the plan's full pieces that isn't open is parsed exactly once, as `parses` counts, and nothing
-/// else is; it takes one load and one for each of its words. An index piece takes at most 38 loads for each entry of the
-/// value's bucket at or above its first number, one for each word of the records that it gives, and two more.
+/// else is; it takes one load and one for each of its words. An index piece takes at most 38 loads for each entry of
+/// the value's bucket at or above its first number, one for each word of the records that it gives, and two more.
 ///
 /// Refused, in this order, where no definition of that version has the name, where both ends are asked for and no
 /// number lies between, where the index is asked for and misses a settled number, and where the range begins below
@@ -61,9 +61,10 @@ pub fn scan<P: Ledger, L: Ledger>(
     ensures defs { IsDefsOf (view pass.new) defs.new }
     ensures answer { IfOk result (IsAnswer (view pass.old) (view pass.new) defs.new.known ask.now) }
     ensures refused { IfErr result (IsRefused (view pass.old) (view pass.new) defs.new.known ask.now) }
-    ensures parses { IfOk result (λ answer. HasParsed (view pass.new) answer.opens answer.plan answer.from answer.to parses.old
-        parses.new) }
-    ensures loads { IfOk result (λ answer. IsWork (view pass.old) (view pass.new) ask.now.value answer loads.old loads.new) }
+    ensures parses { IfOk result (λ answer. HasParsed (view pass.new) answer.opens answer.plan answer.from answer.to
+        parses.old parses.new) }
+    ensures loads { IfOk result (λ answer. IsWork (view pass.old) (view pass.new) ask.now.value answer loads.old
+        loads.new) }
 {
     let planned = plan_scan_in_table(alloc, log, pass, &mut defs.known, ask)?;
     let mut rows = Rows::new(alloc);
@@ -114,8 +115,9 @@ pub(crate) fn answer_of(planned: PlannedScan, rows: Rows) -> Answer
     }
 }
 
-/// How a scan would read its range, which may begin below the log's first number, as for [`scan_with`](crate::scan_with), and with
-/// the same refusals but for that. No record is read, and no word of the log is loaded.
+/// How a scan would read its range, which may begin below the log's first number, as for
+/// [`scan_with`](crate::scan_with), and with the same refusals but for that. No record is read, and no word of the log
+/// is loaded.
 pub fn explain(
     alloc: Global,
     log: &Log,
@@ -128,8 +130,8 @@ pub fn explain(
     ensures pass { IsPassOf log.now pass.new }
     ensures only { OnlyPlans (view pass.old) (view pass.new) }
     ensures defs { IsDefsOf (view pass.new) defs.new }
-    ensures explained { IfOk result (λ e. (opens : List ℕ) × IsExplained (view pass.old) (view pass.new) defs.new.known ask.now
-        e.from e.to opens e.plan) }
+    ensures explained { IfOk result (λ e. (opens : List ℕ) × IsExplained (view pass.old) (view pass.new) defs.new.known
+        ask.now e.from e.to opens e.plan) }
     ensures refused { IfErr result (IsUnplanned (view pass.old) (view pass.new) defs.new.known ask.now) }
 {
     let planned = plan_scan(alloc, log, pass, &mut defs.known, ask)?;
@@ -138,7 +140,11 @@ pub fn explain(
 
 /// How what was planned would be read.
 fn explained_of(planned: PlannedScan) -> Explained
-    ensures { let reach = planned.query.reach in result ≡ record { from = reach.from; to = reach.to; plan = planned.plan } }
+    ensures { let reach = planned.query.reach in result ≡ record {
+      from = reach.from;
+      to = reach.to;
+      plan = planned.plan;
+    } }
 {
     let PlannedScan { query, plan } = planned;
     let Query { def, value, reach } = query;

@@ -10,7 +10,15 @@ use Rattle.fish_whole.specs.Whole.{Whole}
 -- what is there as the control pass begins
 abbrev pub opened_point : {D : Type 0} → D → Opened → Point D
 opened_point disk o =
-    record { disk = disk; flusher = o.flusher; cold = o.cold; shape = o.log.shape; rows = o.catalog; view = view o.pass }
+    record {
+      disk = disk;
+      flusher = o.flusher;
+      cold = o.cold;
+      shape = o.log.shape;
+      rows = o.catalog;
+      view = view
+          o.pass;
+    }
 
 -- what is there before the table: the log of the disk, and the definitions with which the table begins
 abbrev pub first_past : List Entry → Opened → Whole

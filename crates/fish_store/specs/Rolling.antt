@@ -15,7 +15,8 @@ use Rattle.fish_store.specs.declared.store.Store.{Store}
 use Rattle.fish_walk.specs.Settling.{EndsAt, HasTail}
 
 -- another table may take this one's place: the control pass has all lanes and nothing in flight, it knows the
--- registrar's rows, a checkpoint may follow, and the log ends at the last commit's count, so that all of it is committed
+-- registrar's rows, a checkpoint may follow, and the log ends at the last commit's count, so that all of it is
+-- committed
 pub record MayRoll {D : Type 0} (images : D → List ℕ → Type 0) (disk : D) (s : Store) : Type 0 where
   pub pass : IsPassOf s.log s.pass
   pub alone : IsAlone (view s.pass)

@@ -19,8 +19,8 @@ use Rattle.fish_rule.specs.declared.view.View.{View}
 use Rattle.fish_scan.specs.Colder.{StaysCold}
 use Rattle.fish_whole.specs.Whole.{FitsPast, GoesOn, IsKnown, Whole, WillHold}
 
--- the disk; what is kept of the last commit, and of the pages below the table; the table's shape, the rows of the catalogue, and
--- what the control pass knows
+-- the disk; what is kept of the last commit, and of the pages below the table; the table's shape, the rows of the
+-- catalogue, and what the control pass knows
 pub record Point (D : Type 0) : Type 0 where
   pub disk : D
   pub flusher : Flusher
@@ -64,8 +64,8 @@ pub record HasPast {D : Type 0} (content : D → Option (List ℕ)) (p : Point D
   pub table : CarriesTable (content p.disk) p.view.about p.cold
   pub entries : table.end.entries ≡ past.log
 
--- the table comes after its past, which the disk has; every image stands for a part of the log that has the last commit's entries,
--- and where no call of the disk failed, for these alone
+-- the table comes after its past, which the disk has; every image stands for a part of the log that has the last
+-- commit's entries, and where no call of the disk failed, for these alone
 pub record Sound {D : Type 0} (disks : Disks D) (p : Point D) (past : Whole) : Type 0 where
   pub fits : FitsPast past p.view
   pub has : HasPast disks.content p past
@@ -80,8 +80,9 @@ pub record IsSoundBehind {D : Type 0} (disks : Disks D) (p : Point D) (later : O
 
 -- ---- from one moment to a later one
 
--- to one of the same table, over statements, checkpoints and reads: what is sound stays so after the same past, as far as the disk's
--- content is told, and since the first moment a crash left parts of the log, none shorter than that moment's commit
+-- to one of the same table, over statements, checkpoints and reads: what is sound stays so after the same past, as far
+-- as the disk's content is told, and since the first moment a crash left parts of the log, none shorter than that
+-- moment's commit
 pub record GoesOnHere {D : Type 0} (disks : Disks D) (p q : Point D) : Type 0 where
   pub learns : Learns p.view q.view
   pub told_before : IsSome (disks.content q.disk) → IsSome (disks.content p.disk)
@@ -90,8 +91,9 @@ pub record GoesOnHere {D : Type 0} (disks : Disks D) (p q : Point D) : Type 0 wh
   pub crash : (past : Whole) → Sound disks p past → IsSome (disks.content q.disk)
       → LeavesOnly disks.images disks.since disks.moment p.disk q.disk (IsImageOf past q.view p.flusher.count)
 
--- what is so of a later moment, of the same table or of one that took its place: it has a past in which nothing more may be in the end,
--- each whole that may be in the end is as is told, it is sound, and a crash left what it leaves in one table
+-- what is so of a later moment, of the same table or of one that took its place: it has a past in which nothing more
+-- may be in the end, each whole that may be in the end is as is told, it is sound, and a crash left what it leaves in
+-- one table
 pub record Reaches {D : Type 0} (disks : Disks D) (past : Whole) (p q : Point D) (tells : Whole → Type 0) : Type 0 where
   pub next : Whole
   pub goes : GoesOn past p.view next q.view

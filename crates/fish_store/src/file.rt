@@ -35,8 +35,8 @@ pub struct StoreFile {
 }
 
 impl StoreFile {
-    /// Commits the log up to the settled number that a `settle` of this call answers, and answers that number, as [`checkpoint`]
-    /// does.
+    /// Commits the log up to the settled number that a `settle` of this call answers, and answers that number, as
+    /// [`checkpoint`] does.
     pub fn checkpoint<D: Disk>(
         &mut self,
         alloc: Global,
@@ -59,7 +59,8 @@ impl StoreFile {
             (point_of disk.new self.new log.now pass.new registrar.now) }
 
         ensures cause { HasFlushCause (D.faults disk.old) (D.faults disk.new) result }
-        ensures shut { IsErrOf result FlushRefusal.DiskFault → self.new.flusher ≡ record self.old.flusher { shut = true } }
+        ensures shut { IsErrOf result FlushRefusal.DiskFault → self.new.flusher ≡ record self.old.flusher
+            { shut = true } }
         ensures memory { IsErrOf result FlushRefusal.OutOfMemory → (disk.new ≡ disk.old) × (self.new ≡ self.old) }
     {
         checkpoint(
@@ -93,15 +94,17 @@ impl StoreFile {
         ensures base { IsBelow log.now.key self.new.cold }
         ensures flusher { self.new.flusher ≡ self.old.flusher }
         ensures reads { ReadsPages D.Disk log.now.key self.old.cold self.new.cold disk.old disk.new }
-        ensures explained { IfOk result (λ a. IsExplained (view pass.old) (view pass.new) defs.new.known ask.now a.from a.to a.opens
-            a.plan) }
+        ensures explained { IfOk result (λ a. IsExplained (view pass.old) (view pass.new) defs.new.known ask.now a.from
+            a.to a.opens a.plan) }
         ensures opened { IfOk result (λ a. (n : ℕ) → Among n a.opens → (view pass.new).about.number ≤ n) }
-        ensures answer { IfOk result (λ answer. (h : CarriesTable (D.content disk.new) log.now.key self.old.cold) → IsAnswerWith h
-            (view pass.old) (view pass.new) defs.new.known ask.now answer parses.old parses.new loads.old loads.new) }
+        ensures answer { IfOk result (λ answer. (h : CarriesTable (D.content disk.new) log.now.key self.old.cold)
+            → IsAnswerWith h (view pass.old) (view pass.new) defs.new.known ask.now answer parses.old parses.new
+            loads.old loads.new) }
 
         ensures refused { IfErr result (IsRefusedWith (view pass.old) (view pass.new) defs.new.known ask.now) }
         ensures fault { IsScanFault (D.faults disk.old) (D.faults disk.new) result }
-        ensures whole { (h : CarriesTable (D.content disk.new) log.now.key self.old.cold) → IfErr result IsUndamagedScan }
+        ensures whole { (h : CarriesTable (D.content disk.new) log.now.key self.old.cold) → IfErr result
+            IsUndamagedScan }
     {
         scan_with(
             alloc,

@@ -1,4 +1,5 @@
-//! An open store: the log with its control pass and its registrar, and what is kept of the file, and how moments of it go on.
+//! An open store: the log with its control pass and its registrar, and what is kept of the file, and how moments of it
+//! go on.
 #![tactic(auto)]
 
 mod file;

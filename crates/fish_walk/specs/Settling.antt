@@ -27,8 +27,8 @@ IsMark word = look_of word ≡ Overflow
 abbrev pub IsEnd : ℕ → Type 0
 IsEnd word = (look_of word ≡ Unfinished) ⊎ IsMark word
 
--- a number below the count whose directory word meets P, as the pass found it between the two views; before them it didn't
--- know an entry there
+-- a number below the count whose directory word meets P, as the pass found it between the two views; before them it
+-- didn't know an entry there
 pub record HasEnd (P : ℕ → Type 0) (v u : View) (number count : ℕ) : Type 0 where
   pub below : number < count
   pub word : ℕ

@@ -16,16 +16,20 @@ DefinitionsStay = (past : Whole) (v : View) (n : ℕ) (rows : List Listed) → K
 
 -- the whole begins with each part of the log that a pass knows for good
 abbrev pub PartsStay : Type 0
-PartsStay = (past : Whole) (v : View) (log : List Entry) → IsKnown past v log → MustHold past v (λ w. IsPrefix log w.log)
+PartsStay = (past : Whole) (v : View) (log : List Entry) → IsKnown past v log
+    → MustHold past v (λ w. IsPrefix log w.log)
 
 -- what follows a table that its control pass closed may be in the end
 abbrev pub TablesEnd : Type 0
-TablesEnd = (past : Whole) (v : View) (remains : Remains) (c : IsClosed v remains) → FitsPast past v → v.lane ≡ 1 → v.out ≡ []
+TablesEnd = (past : Whole) (v : View) (remains : Remains) (c : IsClosed v remains) → FitsPast past v → v.lane ≡ 1
+    → v.out ≡ []
     → MayEnd past v (behind_table past v remains c)
 
--- a state goes on to the first one of a table that begins where its own was closed, at the version and with the definitions there
+-- a state goes on to the first one of a table that begins where its own was closed, at the version and with the
+-- definitions there
 abbrev pub TablesGoOn : Type 0
-TablesGoOn = (past : Whole) (v u : View) (remains : Remains) (c : IsClosed v remains) → FitsPast past v → v.lane ≡ 1 → v.out ≡ []
+TablesGoOn = (past : Whole) (v u : View) (remains : Remains) (c : IsClosed v remains) → FitsPast past v → v.lane ≡ 1
+    → v.out ≡ []
     → u.about.number ≡ v.about.number + length remains.log → u.about.version ≡ remains.version
     → definitions_at v.about c.moment.registry remains.version ≡ map listed_of u.about.rows.value
     → (next : Whole) × GoesOn past v next u

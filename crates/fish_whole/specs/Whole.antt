@@ -30,9 +30,10 @@ IsPrefix {A} xs ys = (rest : List A) × (ys ≡ xs ++ rest)
 
 -- ---- the end
 
--- the whole begins with what stood before a table and what is left of the table; its definitions are those from before, up to the
--- version with which the table began, and from there on those of the table's words
-pub record IsBehind (past : Whole) (u : View) (remains : Remains) (closed : IsClosed u remains) (w : Whole) : Type 0 where
+-- the whole begins with what stood before a table and what is left of the table; its definitions are those from before,
+-- up to the version with which the table began, and from there on those of the table's words
+pub record IsBehind (past : Whole) (u : View) (remains : Remains) (closed : IsClosed u remains) (w : Whole)
+    : Type 0 where
   pub starts : IsPrefix (past.log ++ remains.log) w.log
   pub before : (n : ℕ) → n ≤ u.about.version → w.rows n ≡ past.rows n
   pub since : (n : ℕ) → u.about.version ≤ n → n ≤ remains.version
@@ -60,7 +61,8 @@ pub record Later (v u : View) : Type 0 where
   pub learns : Learns v u
   pub gained : (o : Own) → Among o u.own → Among o v.own ⊎ (v.learned.count ≤ o.number)
 
--- the table may yet be closed by the control pass in a later state, with no lane out, and the whole begins with what it leaves
+-- the table may yet be closed by the control pass in a later state, with no lane out, and the whole begins with what it
+-- leaves
 pub record MayEnd (past : Whole) (v : View) (w : Whole) : Type 0 where
   pub last : View
   pub remains : Remains
@@ -92,7 +94,8 @@ pub record FitsPast (past : Whole) (v : View) : Type 0 where
   pub base : v.about.number ≡ length past.log
   pub joins : past.rows v.about.version ≡ map listed_of v.about.rows.value
 
--- the list is a part of the log for good: what stood before the table, and entries after it that the pass was told, begin with it
+-- the list is a part of the log for good: what stood before the table, and entries after it that the pass was told,
+-- begin with it
 pub record IsKnown (past : Whole) (v : View) (log : List Entry) : Type 0 where
   pub entries : List Entry
   pub told : AreKnown v (length past.log) entries

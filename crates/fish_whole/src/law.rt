@@ -7,10 +7,10 @@ ghost use Rattle.fish_rule.specs.declared.view.View.{View};
 ghost use Rattle.fish_whole.specs.Laws.{DefinitionsStay, PartsStay, TablesEnd, TablesGoOn};
 ghost use Rattle.fish_whole.specs.Whole.{MustHold, Whole};
 
-/// An entry that a pass was told of stands at its number in each whole that may be in the end, whatever stood before the
-/// table and whatever comes after it; all that it knows to be settled is there; so are the definitions that it knows of a
-/// version, and each part of the log that it knows. What stands when a table is closed may be in the end, and another
-/// table may go on from there.
+/// An entry that a pass was told of stands at its number in each whole that may be in the end, whatever stood before
+/// the table and whatever comes after it; all that it knows to be settled is there; so are the definitions that it
+/// knows of a version, and each part of the log that it knows. What stands when a table is closed may be in the end,
+/// and another table may go on from there.
 ///
 /// Its contract is that law.
 pub fn law_whole()

@@ -1,5 +1,5 @@
-//! How a scan of lane 2 would read what the lane itself stored, while the control pass does nothing: by the index, since
-//! the lane settles what it stored in its own call. Each question is asked on a log of its own.
+//! How a scan of lane 2 would read what the lane itself stored, while the control pass does nothing: by the index,
+//! since the lane settles what it stored in its own call. Each question is asked on a log of its own.
 
 ghost use Rattle.std.specs.Prelude.{◌≡◌};
 ghost use Rattle.fish_ingest.specs.Ingestion.{CanIngest};

@@ -1,8 +1,8 @@
 //! Scans while three lanes store records and the control pass registers and ends definitions, each of which scans now
 //! and then. What each of them answered is kept, with the closed log.
 //!
-//! A record of a lane is told by its place: each fifth has no value for any definition, and the others have one of three
-//! kinds, and a size from 10 to 39.
+//! A record of a lane is told by its place: each fifth has no value for any definition, and the others have one of
+//! three kinds, and a size from 10 to 39.
 
 ghost use Rattle.std.specs.Prelude.{◌≡◌, ◌∷◌, [], None, OnOk};
 ghost use Rattle.std.specs.Thread.{IsSync};

@@ -1,7 +1,7 @@
 //! Payloads that are stored, and those that are refused, under `take type`: by one pass, and by two that are joined.
 //!
-//! A payload of 524,000 bytes takes 16,376 lines, one of 600 bytes 19 and one of 700 bytes 23, so a third record doesn't
-//! fit after two on the first page of 32,768 lines.
+//! A payload of 524,000 bytes takes 16,376 lines, one of 600 bytes 19 and one of 700 bytes 23, so a third record
+//! doesn't fit after two on the first page of 32,768 lines.
 
 ghost use Rattle.std.specs.Prelude.{◌≡◌, ◌∷◌, [], IfOk};
 ghost use Rattle.fish_ingest.specs.Ingestion.{CanIngest};

@@ -230,8 +230,8 @@ fn statements(rt: HostRuntime) -> Result<(), Fail> {
     Ok(())
 }
 
-/// Definitions by which each of 17 values has a record: the name, the text, and the id of the index by which it is read.
-/// Of two with one text and one interval that is the least. In 16 buckets two values of each share one.
+/// Definitions by which each of 17 values has a record: the name, the text, and the id of the index by which it is
+/// read. Of two with one text and one interval that is the least. In 16 buckets two values of each share one.
 const NAMED: &[(&str, &str, u16)] = &[
     ("v", "take v", 0),
     ("w", "take v", 0),

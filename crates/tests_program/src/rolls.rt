@@ -13,7 +13,8 @@ use std::thread::Threads;
 /// A run with a table of one page.
 const RUN: &str = "run|store|script|--pages|1|--bits|4|";
 
-/// Letters of a record's text. With these eight times over its line has 12,000 bytes and its region, with a key, 377 lines.
+/// Letters of a record's text. With these eight times over its line has 12,000 bytes and its region, with a key, 377
+/// lines.
 const PART: usize = 1_496;
 
 /// A file of so many records, from 100 on, with a line that is none and a blank one before each seventh.
@@ -68,7 +69,8 @@ fn ended_by<R: Threads + Sync>(
     short_of(alloc, told.as_str())
 }
 
-/// A file of 200 records by one lane, in three tables. A page has room for 86 of them, and padding has the numbers 86 and 173.
+/// A file of 200 records by one lane, in three tables. A page has room for 86 of them, and padding has the numbers 86
+/// and 173.
 const ONE: &str = "register k as take kind\n\
 ingest json f\n\
 scan k = \"one\"\n\
@@ -128,7 +130,8 @@ fn a_log_outgrows_its_table(rt: HostRuntime) -> Result<(), Fail> {
     Ok(expect_both(&rt, rt.alloc())?)
 }
 
-/// Sixteen lanes that store the file, of which the first registers, scans and commits, and others scan; and scans of all.
+/// Sixteen lanes that store the file, of which the first registers, scans and commits, and others scan; and scans of
+/// all.
 fn sixteen(alloc: Global) -> Result<String, AllocError> {
     let mut text = String::new(alloc);
     text.push_str("register k as take kind\nlanes\n")?;

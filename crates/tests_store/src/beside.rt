@@ -1,5 +1,6 @@
-//! Two lanes store while the control pass checkpoints. Whatever the schedule, no checkpoint commits fewer entries than the
-//! one before, and a last one commits all that the lanes stored. All records have one value, so the image has one chain.
+//! Two lanes store while the control pass checkpoints. Whatever the schedule, no checkpoint commits fewer entries than
+//! the one before, and a last one commits all that the lanes stored. All records have one value, so the image has one
+//! chain.
 
 ghost use Rattle.std.specs.Prelude.{◌≡◌, OnOk};
 ghost use Rattle.std.specs.Thread.{IsSync};

@@ -1,6 +1,6 @@
-//! A store is made, two records are committed, then a third, then nothing, and the disk in memory fails at one call. What
-//! each of eight picks of a crash leaves then is read as an opening reads it: it is the log of the last commit or of the
-//! next one, and nothing between.
+//! A store is made, two records are committed, then a third, then nothing, and the disk in memory fails at one call.
+//! What each of eight picks of a crash leaves then is read as an opening reads it: it is the log of the last commit or
+//! of the next one, and nothing between.
 //!
 //! The third record is of the first one's bucket, so its previous node comes from what is kept of the first commit.
 
@@ -27,9 +27,9 @@ const STEPS: &[&[&str]] = &[
 ];
 
 /// The number of the call that fails; what the commits answered, `s` for a fault that shut the flusher; and how many
-/// entries each of eight picks leaves then. The calls of a commit with lines are: the lines' write, that of the body and
-/// its sync, those of the new gate and those of the old one. The first six calls make the store, and the last commit has
-/// no lines.
+/// entries each of eight picks leaves then. The calls of a commit with lines are: the lines' write, that of the body
+/// and its sync, those of the new gate and those of the old one. The first six calls make the store, and the last
+/// commit has no lines.
 const STOPS: &[(u64, &str)] = &[
     (6, "s 00000000"),
     (7, "s 00000000"),

@@ -1,5 +1,5 @@
-//! A log that was opened goes on: a record more is stored and committed, and then the store opens with all of them. What is below
-//! its base is read from the file.
+//! A log that was opened goes on: a record more is stored and committed, and then the store opens with all of them.
+//! What is below its base is read from the file.
 
 ghost use Rattle.std.specs.Prelude.{◌≡◌, false};
 ghost use Rattle.tests_store.specs.Flushing.{IsFlushing, IsOpenStore};
@@ -105,7 +105,8 @@ fn going_on(rt: HostRuntime) -> Result<(), Fail> {
     Ok(())
 }
 
-/// A store, and what the numbers answer from the newest, and then the chain of the bucket of `Push` from its head at 17.
+/// A store, and what the numbers answer from the newest, and then the chain of the bucket of `Push` from its head at
+/// 17.
 const OLDER: (Case, &str) = (
     ((1, 0, 3, 6), (1, 2, 2, 4), ALL),
     r#"1:{"type":"Push"} 2:{"type":"Pull"} 1:{"type":"Push"} / 2 "Push" 1 1:{"type":"Push"} 0 "Push" 0 1:{"type":"Push"} end"#,

@@ -167,8 +167,8 @@ fn images(rt: HostRuntime) -> Result<(), Fail> {
     Ok(())
 }
 
-/// Words of one record with the payload `{"tags":["a","b","a"]}`, with entries of `each tags`. Of sixteen buckets "a" falls
-/// into 4, "b" into 13 and "c" into 10, under id 0.
+/// Words of one record with the payload `{"tags":["a","b","a"]}`, with entries of `each tags`. Of sixteen buckets "a"
+/// falls into 4, "b" into 13 and "c" into 10, under id 0.
 ///
 /// No entry.
 const NONE: &[u64] = &[

@@ -1,5 +1,5 @@
-//! Tests of the store file: disks, slots and gates, making a store, checkpoints, and images, over the public calls of the
-//! crates below.
+//! Tests of the store file: disks, slots and gates, making a store, checkpoints, and images, over the public calls of
+//! the crates below.
 #![tactic(auto)]
 
 #[cfg(test)]

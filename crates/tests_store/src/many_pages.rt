@@ -132,8 +132,8 @@ fn is_void<L: Ledger>(
     }
 }
 
-/// How often the disk was read after all numbers from the newest, after the first sixteen twice, and after the seventeenth,
-/// with the numbers that were no void.
+/// How often the disk was read after all numbers from the newest, after the first sixteen twice, and after the
+/// seventeenth, with the numbers that were no void.
 fn reads_told<L: Ledger>(
     alloc: Global,
     blank: Blank,

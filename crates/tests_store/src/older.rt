@@ -23,9 +23,9 @@ type Case = (usize, u64, usize, u64);
 
 /// What is answered for the numbers from the newest, and for the chain of the bucket of `Push` from its head at 17.
 ///
-/// The changes: none; the second header put to nothing, and to that of a void of two lines; a byte of the second payload
-/// that is no UTF-8; the number of the third record's entry 5, and its previous node its own place; the last line
-/// missing; and the first call of the disk fails.
+/// The changes: none; the second header put to nothing, and to that of a void of two lines; a byte of the second
+/// payload that is no UTF-8; the number of the third record's entry 5, and its previous node its own place; the last
+/// line missing; and the first call of the disk fails.
 const CASES: &[(Case, &str)] = &[
     (
         (0, 0, 24, 99),

@@ -170,8 +170,8 @@ fn openings(rt: HostRuntime) -> Result<(), Fail> {
     Ok(())
 }
 
-/// The number of the call that fails, of a store both of whose gates are open. The calls are a sync, two reads of gates and two of
-/// turns, one of a body, and one of a page.
+/// The number of the call that fails, of a store both of whose gates are open. The calls are a sync, two reads of gates
+/// and two of turns, one of a body, and one of a page.
 const STOPS: &[(u64, &str)] = &[
     (0, "disk"),
     (1, "disk"),

@@ -1,5 +1,5 @@
-//! Stores that are opened: the older gate is closed and a short file lengthened, whatever call of the disk fails in between the
-//! store opens as the same log, and a log that was opened goes on.
+//! Stores that are opened: the older gate is closed and a short file lengthened, whatever call of the disk fails in
+//! between the store opens as the same log, and a log that was opened goes on.
 
 use crate::openings::{ALL, Slot, store};
 use crate::told::{expect_all, numbers};
@@ -190,9 +190,9 @@ fn formats(rt: HostRuntime) -> Result<(), Fail> {
     Ok(())
 }
 
-/// The number of the call that fails as a store is opened both of whose gates are open; what was answered; and how many records
-/// each of eight picks of a crash opens with then. The calls are a sync, the length, a sync, two reads of gates and two of
-/// turns, one of a body and one of a page; the write of the older gate and its sync; and the length again.
+/// The number of the call that fails as a store is opened both of whose gates are open; what was answered; and how many
+/// records each of eight picks of a crash opens with then. The calls are a sync, the length, a sync, two reads of gates
+/// and two of turns, one of a body and one of a page; the write of the older gate and its sync; and the length again.
 const STOPS: &[(u64, &str)] = &[
     (0, "disk 22222222"),
     (1, "disk 22222222"),
@@ -212,8 +212,8 @@ const STOPS: &[(u64, &str)] = &[
     ),
 ];
 
-/// The same of a store without a record whose file ends after its body: a sync, the length, a sync, two reads of gates and one
-/// of a body; the length again, the write of zero bytes, and its sync.
+/// The same of a store without a record whose file ends after its body: a sync, the length, a sync, two reads of gates
+/// and one of a body; the length again, the write of zero bytes, and its sync.
 const SHORT_STOPS: &[(u64, &str)] = &[
     (5, "disk 00000000"),
     (6, "disk 00000000"),

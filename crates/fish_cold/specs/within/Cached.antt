@@ -24,8 +24,10 @@ pub record Brings {D : Type 0} (disks : Disks D) (number : ℕ) (cold : Cold) (o
   pub cause : HasDiskCause (disks.faults old) (disks.faults new) result
   pub whole : IfErr result IsUndamaged
 
--- what was read of the page is answered, and then the page was used; or memory ran out; where nothing is answered nothing changed
-pub record Answered {T : Type 0} (number : ℕ) (fresh : Option Page) (old new : Cold) (read result : Result T ColdRefusal) : Type 0 where
+-- what was read of the page is answered, and then the page was used; or memory ran out; where nothing is answered
+-- nothing changed
+pub record Answered {T : Type 0} (number : ℕ) (fresh : Option Page) (old new : Cold)
+    (read result : Result T ColdRefusal) : Type 0 where
   pub same : IfOk result (λ x. read ≡ Ok x)
   pub err : IfErr result (λ e. (read ≡ Err e) ⊎ (e ≡ OutOfMemory))
   pub used : OnOk result ((p : Page) → Some p ≡ option_or fresh (held_in old number) → Uses number p old new)

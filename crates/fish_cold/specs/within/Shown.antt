@@ -14,4 +14,5 @@ Shows from p j (Entry number key words) = (from ≤ p.number) × (number ≡ p.n
 abbrev pub IsShownIn : ℕ → ℕ → ℕ → ℕ → Shown → Type 0
 IsShownIn size at below from Older = ⊤
 IsShownIn size at below from Damaged = ⊤
-IsShownIn size at below from (Entry number key words) = (at + 2 < size) × (from ≤ number) × (number < below) × (words ≤ 38)
+IsShownIn size at below from (Entry number key words) = (at + 2 < size) × (from ≤ number) × (number < below)
+    × (words ≤ 38)

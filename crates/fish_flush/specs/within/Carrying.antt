@@ -44,8 +44,10 @@ flusher_after f d =
       shut = f.shut;
     }
 
--- the draft has the body of the next commit, up to a number and the line at which it begins, and its batch goes on from the last one
-pub record Drafts (u : View) (end : ℕ) (s : Shape) (f : Flusher) (rows : List CatRow) (to : ℕ) (d : Draft) : Type 0 where
+-- the draft has the body of the next commit, up to a number and the line at which it begins, and its batch goes on from
+-- the last one
+pub record Drafts (u : View) (end : ℕ) (s : Shape) (f : Flusher) (rows : List CatRow) (to : ℕ) (d : Draft)
+    : Type 0 where
   pub told : IsBodyOf (commit_of (flusher_after f d) s rows) d.body
   pub turn : d.turn ≡ (f.turn + 1) % 3
   pub count : d.count ≡ to
@@ -54,7 +56,8 @@ pub record Drafts (u : View) (end : ℕ) (s : Shape) (f : Flusher) (rows : List 
   pub begins : Begins f d.line d.batch
 
 -- the draft with these lines is a commit of all that the last one has, and of the entries after it up to a number
-pub record IsDrafted (u : View) (s : Shape) (f : Flusher) (rows : List CatRow) (to : ℕ) (d : Draft) (lines : List ℕ) : Type 0 where
+pub record IsDrafted (u : View) (s : Shape) (f : Flusher) (rows : List CatRow) (to : ℕ) (d : Draft) (lines : List ℕ)
+    : Type 0 where
   pub told : IsBodyOf (commit_of (flusher_after f d) s rows) d.body
   pub turn : d.turn ≡ (f.turn + 1) % 3
   pub count : d.count ≡ to
@@ -66,8 +69,10 @@ pub record IsDrafted (u : View) (s : Shape) (f : Flusher) (rows : List CatRow) (
       → (more : List Entry) × AreKnown u f.count more × (length more + f.count ≡ to)
       × IsCommitted (flusher_after f d) (commit_of (flusher_after f d) s rows) d.body (before ++ lines) (old ++ more)
 
--- the draft may be committed: it is one of the log up to a number that is settled, after the log that every image stands for
-pub record MaySave (images : List ℕ → Type 0) (v : View) (end : ℕ) (s : Shape) (f : Flusher) (d : Draft) (rows : List CatRow)
+-- the draft may be committed: it is one of the log up to a number that is settled, after the log that every image
+-- stands for
+pub record MaySave (images : List ℕ → Type 0) (v : View) (end : ℕ) (s : Shape) (f : Flusher) (d : Draft)
+    (rows : List CatRow)
     (c : Commit) (log : List Entry) : Type 0 where
   pub may : MayDraft v s f rows d.count
   pub drafts : Drafts v end s f rows d.count d
@@ -81,6 +86,9 @@ pub record MaySave (images : List ℕ → Type 0) (v : View) (end : ℕ) (s : Sh
 -- ---- checkpoints
 
 -- a draft is committed: the file carries the log that it carried and more, as this flusher keeps it
-abbrev pub IsSaved : (List ℕ → Type 0) → (List ℕ → Type 0) → View → View → ℕ → Shape → Flusher → Draft → Flusher → Type 0
-IsSaved images images' v u end s f d f' = (rows : List CatRow) (c : Commit) (old : List Entry) → MaySave images v end s f d rows c old
-    → (more : List Entry) × (length (old ++ more) ≡ d.count) × Carries images' f' u s rows (commit_of f' s rows) (old ++ more)
+abbrev pub IsSaved : (List ℕ → Type 0) → (List ℕ → Type 0) → View → View → ℕ → Shape → Flusher → Draft → Flusher
+    → Type 0
+IsSaved images images' v u end s f d f' = (rows : List CatRow) (c : Commit) (old : List Entry)
+    → MaySave images v end s f d rows c old
+    → (more : List Entry) × (length (old ++ more) ≡ d.count)
+    × Carries images' f' u s rows (commit_of f' s rows) (old ++ more)

@@ -27,8 +27,8 @@ region_words = 74500
 abbrev pub buffer_bytes : ℕ
 buffer_bytes = 1644576
 
--- there is memory for the bytes of a page and of a region more, for the words of a region, and for the starts of the pages up to
--- the end: of those after the line's, and of its own where it has none yet
+-- there is memory for the bytes of a page and of a region more, for the words of a region, and for the starts of the
+-- pages up to the end: of those after the line's, and of its own where it has none yet
 pub record HasRoom (b : Batch) : Type 0 where
   pub bytes : length b.bytes.items ≡ buffer_bytes
   pub words : length b.words.items ≡ region_words
@@ -37,8 +37,8 @@ pub record HasRoom (b : Batch) : Type 0 where
 
 -- ---- regions
 
--- the first words are those of the region of a number, which the pass found, with the previous nodes that the heads gave; and the
--- heads after are those with its key entries
+-- the first words are those of the region of a number, which the pass found, with the previous nodes that the heads
+-- gave; and the heads after are those with its key entries
 pub record IsCopied (v : View) (n : ℕ) (heads heads' : List ℕ) (size : ℕ) (words : List ℕ) : Type 0 where
   pub read : List ℕ
   pub found : Found
@@ -56,7 +56,8 @@ pub record IsCopied (v : View) (n : ℕ) (heads heads' : List ℕ) (size : ℕ) 
 abbrev pub pending : Batch → List ℕ
 pending b = take (32 * (b.line - b.written)) b.bytes.items
 
--- the region of a number was copied after the others, and is pending; all else is as it was, but for the heads, the page and its starts
+-- the region of a number was copied after the others, and is pending; all else is as it was, but for the heads, the
+-- page and its starts
 pub record HasAdded (v u : View) (end n : ℕ) (a b : Batch) : Type 0 where
   pub line : IsLineAt u (n + 1) b.line
   pub later : a.line < b.line
@@ -90,7 +91,8 @@ pub record Begins (f : Flusher) (end : ℕ) (b : Batch) : Type 0 where
   pub starts : b.starts.items ≡ f.starts.items
   pub room : HasRoom b
 
--- lines that were copied from a number on up to another: whatever was read up to the first is read up to the second with them
+-- lines that were copied from a number on up to another: whatever was read up to the first is read up to the second
+-- with them
 pub record HasCopied (v u : View) (from to : ℕ) (a b : Batch) (lines : List ℕ) : Type 0 where
   pub line : IsLineAt u to b.line
   pub ordered : a.line ≤ b.line

@@ -7,8 +7,8 @@ use Rattle.fish_layout.specs.Cleared.{unlinked}
 use Rattle.fish_layout.specs.Header.{keys_of}
 use Rattle.fish_layout.specs.declared.parts.BodyParts.{BodyParts}
 
--- words are those of a record that differs in its previous nodes alone: each is the newest key entry of its bucket before
--- it, where the heads before say the newest; and the heads after are those with its key entries
+-- words are those of a record that differs in its previous nodes alone: each is the newest key entry of its bucket
+-- before it, where the heads before say the newest; and the heads after are those with its key entries
 pub record IsLinked (line : ℕ) (q : BodyParts) (words heads heads' out : List ℕ) (places : List (ℕ × ℕ)) : Type 0 where
   pub p : BodyParts
   pub size : length out ≡ length words

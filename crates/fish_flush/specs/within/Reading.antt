@@ -22,8 +22,8 @@ pub record IsLooked (v : View) (n line : ℕ) (f : Found) : Type 0 where
 abbrev pub EndsWithin : ℕ → ℕ → ℕ → Type 0
 EndsWithin end from to = (from ≤ to) × (to ≤ end)
 
--- the words are those of so many entries, which agree with the commit's rows and end at the line; these are the newest key
--- entries of all buckets, and where pages begin to hold regions, before the page in which none begins yet
+-- the words are those of so many entries, which agree with the commit's rows and end at the line; these are the newest
+-- key entries of all buckets, and where pages begin to hold regions, before the page in which none begins yet
 pub record IsReadTo (c : Commit) (words : List ℕ) (log : List Entry) (number line : ℕ) (heads : List ℕ) (page : ℕ)
     (starts : List PageStart) : Type 0 where
   pub end : Reached

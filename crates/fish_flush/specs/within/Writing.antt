@@ -19,8 +19,8 @@ IsPut line lines c = (lines_at + 32 * line ≤ length c) × (part (lines_at + 32
 abbrev pub EitherCommit : List ℕ → List ℕ → List ℕ → List ℕ → List ℕ → Type 0
 EitherCommit b w d v c = HasCommit b w c ⊎ HasCommit d v c
 
--- each image has one commit, in the other slot alone, whose lines end at a line; and a body counts these and more, with the
--- turn after it
+-- each image has one commit, in the other slot alone, whose lines end at a line; and a body counts these and more, with
+-- the turn after it
 pub record Grows (images : List ℕ → Type 0) (slot line : ℕ) (b w d more : List ℕ) : Type 0 where
   pub rests : (c : List ℕ) → images c → Rests (1 - slot) b w c
   pub long : (c : List ℕ) → images c → lines_at + 32 * line ≤ length c
@@ -30,7 +30,8 @@ pub record Grows (images : List ℕ → Type 0) (slot line : ℕ) (b w d more : 
   pub turn : turn_of d ≡ next_turn (turn_of b)
 
 -- so it is of a disk on which the lines stand at their place
-pub record GrowsBy {D : Type 0} (content : D → Option (List ℕ)) (images : D → List ℕ → Type 0) (disk : D) (slot line : ℕ)
+pub record GrowsBy {D : Type 0} (content : D → Option (List ℕ)) (images : D → List ℕ → Type 0) (disk : D)
+    (slot line : ℕ)
     (b w d more : List ℕ) : Type 0 where
   pub grows : Grows (images disk) slot line b w d more
   pub put : IfSome (content disk) (IsPut line more)

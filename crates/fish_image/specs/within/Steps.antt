@@ -19,8 +19,8 @@ pub record IsReading (terms : Terms) (at : Progress) : Type 0 where
   pub is_at : IsAt commit come at
   pub wanted : come.number < commit.count
 
--- what a step does: it reads the region at the front of what is left, which takes so many words; or no region is there as
--- yet; or none will be, whatever comes after
+-- what a step does: it reads the region at the front of what is left, which takes so many words; or no region is there
+-- as yet; or none will be, whatever comes after
 abbrev pub Stepped : Step → Commit → Reached → List ℕ → Progress → Type 0
 Stepped (Took n) c s rest new =
     (m : Reached) × FollowsAt c s rest m × IsAt c m new × (n ≡ 4 * region_lines rest) × (n ≤ length rest)

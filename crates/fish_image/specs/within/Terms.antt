@@ -22,4 +22,5 @@ pub record HasIndexValues (x : IndexRow) (number : ℕ) (fields : Fields) (vs : 
 -- each key entry is of a definition, and the entries of each have such values
 pub record HasKeysFor (xs : List IndexRow) (number : ℕ) (fields : Fields) (keys : List KeyPart) : Type 0 where
   pub known : (j : ℕ) (k : KeyPart) → slice_get keys j ≡ Some k → k.id < length xs
-  pub values : (id : ℕ) (x : IndexRow) → slice_get xs id ≡ Some x → HasIndexValues x number fields (values_under id keys)
+  pub values : (id : ℕ) (x : IndexRow) → slice_get xs id ≡ Some x
+      → HasIndexValues x number fields (values_under id keys)

@@ -1,5 +1,6 @@
 -- How far the statements of a lane are done.
-use Rattle.std.specs.Prelude.{ℕ, ◌≡◌, ◌≢◌, ◌⊎◌, ◌+◌, ◌≤◌, List, [], ◌∷◌, ◌++◌, Option, Some, None, Result, Ok, Err, length, take}
+use Rattle.std.specs.Prelude.{ℕ, ◌≡◌, ◌≢◌, ◌⊎◌, ◌+◌, ◌≤◌, List, [], ◌∷◌, ◌++◌, Option, Some, None, Result, Ok, Err}
+use Rattle.std.specs.Prelude.{length, take}
 use Rattle.std.specs.Prelude.{Bool, false}
 use Rattle.fish_cold.specs.declared.cold.Cold.{Cold}
 use Rattle.fish_lanes.specs.within.Doing.{IsItem, IsStopped}
@@ -94,12 +95,15 @@ IsOnAnyhow v u works items why = (content : Option (List ℕ)) (k : Key) (cold :
 
 -- whichever pass had begun its statements, and whatever a disk has before the table, it goes on from where they were
 abbrev pub GoesOnBy : View → View → List Work → List Item → List Item → LaneFault → Type 0
-GoesOnBy v u works old new why = (start : View) (content : Option (List ℕ)) (k : Key) (cold : Cold) (later : Option (List ℕ))
-    → IsSoFar (WasHere content k cold later) start v works old → IsOn (WasHere content k cold later) start u works new why
+GoesOnBy v u works old new why =
+    (start : View) (content : Option (List ℕ)) (k : Key) (cold : Cold) (later : Option (List ℕ))
+    → IsSoFar (WasHere content k cold later) start v works old
+    → IsOn (WasHere content k cold later) start u works new why
 
 -- the same after such pasts alone
 abbrev pub FinishesBy : (Whole → Type 0) → View → View → List Work → List Item → List Item → LaneFault → Type 0
-FinishesBy Past v u works old new why = (start : View) → IsSoFar Past start v works old → IsOn Past start u works new why
+FinishesBy Past v u works old new why = (start : View) → IsSoFar Past start v works old
+    → IsOn Past start u works new why
 
 -- the next statement has its item, which is so whatever stood before the table; or it has none
 abbrev pub HasNext : View → View → Work → List Item → List Item → Result (Unit {0}) Stop → Type 0
@@ -126,8 +130,8 @@ pub record HasGone (log : Log) (old new : Lane) : Type 0 where
   pub more : length old.items ≤ length new.items
   pub answers : AllOf IsAnswer old.items → AllOf IsAnswer new.items
 
--- it has no statement without an item, but for those that it hands back since it found the log full, unless it was so when the block
--- began; or it stopped at a fault; after each such past, whichever pass had begun it
+-- it has no statement without an item, but for those that it hands back since it found the log full, unless it was so
+-- when the block began; or it stopped at a fault; after each such past, whichever pass had begun it
 pub record HasFinished (Past : Whole → Type 0) (full : Bool) (log : Log) (old new : Lane) : Type 0 where
   pub before : LanePass
   pub before_is : old.seat ≡ Some before
@@ -137,7 +141,10 @@ pub record HasFinished (Past : Whole → Type 0) (full : Bool) (log : Log) (old 
   pub works : old.works ≡ new.works ++ new.left
   pub number : new.number ≡ old.number
   pub run : (start : View) → IsOnAnyhow start (view before.pass) old.works old.items old.fault
-      → HasRun Past start (view after.pass) new.works new.items new.fault × SayPlans start (view after.pass) new.works new.items
-  pub cut : AllOf IsAnswer old.items → new.left ≢ [] → (new.fault ≡ fault.None) × (full ≡ false) × WasShut (view after.pass)
-  pub last : full ≡ false → SaysLast (view before.pass) old.items old.fault → SaysLast (view after.pass) new.items new.fault
+      → HasRun Past start (view after.pass) new.works new.items new.fault
+      × SayPlans start (view after.pass) new.works new.items
+  pub cut : AllOf IsAnswer old.items → new.left ≢ [] → (new.fault ≡ fault.None) × (full ≡ false)
+      × WasShut (view after.pass)
+  pub last : full ≡ false → SaysLast (view before.pass) old.items old.fault
+      → SaysLast (view after.pass) new.items new.fault
   pub answers : AllOf IsAnswer old.items → AllOf IsAnswer new.items

@@ -1,5 +1,6 @@
 -- The lanes of a block: how the control pass gives each its pass, what they do, and how it takes the passes back.
-use Rattle.std.specs.Prelude.{ℕ, ◌≡◌, ◌⊎◌, ◌+◌, ◌++◌, ◌<◌, ◌≤◌, List, [], All, length, slice_get, slice_index_or, Some, None}
+use Rattle.std.specs.Prelude.{ℕ, ◌≡◌, ◌⊎◌, ◌+◌, ◌++◌, ◌<◌, ◌≤◌, List, [], All, length, slice_get, slice_index_or, Some}
+use Rattle.std.specs.Prelude.{None}
 use Rattle.fish_lanes.specs.within.Advancing.{HasGone}
 use Rattle.fish_lanes.specs.within.Controlling.{HasControlled}
 use Rattle.fish_lanes.specs.within.Full.{StopsFull}
@@ -179,7 +180,8 @@ pub record HasTakenAll (m u : View) (lanes : List Lane) (many : ℕ) : Type 0 wh
   pub own : (o : Own) → Among o u.own → Among o m.own ⊎ IsOfLane lanes many o
   pub shut : (s : Shut) → u.shut ≡ Some s → (m.shut ≡ Some s) ⊎ IsShutOfLane lanes many s
   pub keeps : KeepsShut m u
-  pub shuts : (i : ℕ) (x : Lane) (seat : LanePass) (s : Shut) → i < many → slice_get lanes i ≡ Some x → x.seat ≡ Some seat
+  pub shuts : (i : ℕ) (x : Lane) (seat : LanePass) (s : Shut) → i < many → slice_get lanes i ≡ Some x
+      → x.seat ≡ Some seat
       → (view seat.pass).shut ≡ Some s → WasShut u
   pub clock : IsLater m.clock u.clock
   pub out_of : (l : ℕ) → Among l u.out → (many + 2 ≤ l) × (l < length lanes + 2)

@@ -6,7 +6,8 @@ use Rattle.fish_lanes.specs.within.Gains.{Gains}
 use Rattle.fish_lanes.specs.Pending.{AreFound, HasFoundOlder}
 use Rattle.fish_lanes.specs.within.Plans.{PlansHoldFor}
 use Rattle.fish_lanes.specs.Records.{LaneRow, contents}
-use Rattle.fish_lanes.specs.Registering.{ItemsFit, IsBetween, ItemFits, KnowsEach, KnowsRegistry, after, after_all, bound, registry_of}
+use Rattle.fish_lanes.specs.Registering.{ItemsFit, IsBetween, ItemFits, KnowsEach, KnowsRegistry, after, after_all}
+use Rattle.fish_lanes.specs.Registering.{bound, registry_of}
 use Rattle.fish_lanes.specs.within.Running.{HasRun}
 use Rattle.fish_lanes.specs.Single.{NamesNone, SaysOnly}
 use Rattle.fish_lanes.specs.within.Sizes.{SaysShut}
@@ -105,7 +106,8 @@ SaysTail u (item.Deregistered name id to) = IsAtTail u to
 SaysTail u x = ⊤
 
 -- one statement was done
-pub record IsControlled (Past : Whole → Type 0) (u : View) (r : Registrar) (t : View) (s : Registrar) (w : Work) (x : Item) : Type 0 where
+pub record IsControlled (Past : Whole → Type 0) (u : View) (r : Registrar) (t : View) (s : Registrar) (w : Work)
+    (x : Item) : Type 0 where
   pub rows : List LaneRow
   pub gains : Gains u t rows
   pub first : contents rows ≡ take (count_of x) (content_of w)
@@ -123,9 +125,11 @@ pub record IsPartControlled (u t : View) (w : Work) : Type 0 where
   pub gains : Gains u t rows
   pub first : contents rows ≡ take count (content_of w)
 
--- what the statements of the first lane leave: their items, which are so of the definitions where they stand, what those of pending
--- registrations have after them, and what one that is alone tells besides; and, unless there was a fault, the registry after them
-pub record HasControlled (Past : Whole → Type 0) (v u : View) (r s : Registrar) (works : List Work) (items : List Item) (fault : LaneFault) : Type 0 where
+-- what the statements of the first lane leave: their items, which are so of the definitions where they stand, what
+-- those of pending registrations have after them, and what one that is alone tells besides; and, unless there was a
+-- fault, the registry after them
+pub record HasControlled (Past : Whole → Type 0) (v u : View) (r s : Registrar) (works : List Work) (items : List Item)
+    (fault : LaneFault) : Type 0 where
   pub run : HasRun Past v u works items fault
   pub so : ItemsFit v.learned.count u.learned.count (registry_of v r) items
   pub closed : IsAlone v → AllOf NamesNone items

@@ -14,7 +14,8 @@ use Rattle.fish_walk.specs.Settling.{EndsAt, HasTail, OnlySettles}
 use Rattle.fish_whole.specs.Whole.{Whole}
 
 -- the control pass gave each other lane its pass, and all did their statements
-pub record AllRan (Past : Whole → Type 0) (log : Log) (v w : View) (r q : Registrar) (first first' : Lane) (before done : List Lane)
+pub record AllRan (Past : Whole → Type 0) (log : Log) (v w : View) (r q : Registrar) (first first' : Lane)
+    (before done : List Lane)
     : Type 0 where
   pub control : View
   pub given : List Lane
@@ -34,7 +35,8 @@ pub record AllBack (w u : View) (done after : List Lane) : Type 0 where
   pub size : length after ≡ length done
 
 -- the one and the other
-pub record HasRunLanes (Past : Whole → Type 0) (log : Log) (v u : View) (r q : Registrar) (first first' : Lane) (before after : List Lane) : Type 0 where
+pub record HasRunLanes (Past : Whole → Type 0) (log : Log) (v u : View) (r q : Registrar) (first first' : Lane)
+    (before after : List Lane) : Type 0 where
   pub ran : View
   pub done : List Lane
   pub run : AllRan Past log v ran r q first first' before done

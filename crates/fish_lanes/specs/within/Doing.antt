@@ -71,7 +71,8 @@ cause_of (refusal.Damaged number) = None
 cause_of refusal.OutOfMemory = None
 
 -- the rows are those that the table has, and then a selection of what stood before it
-pub record FindsAcross (past : Whole) (u : View) (def : Definition) (value : Value) (from to : ℕ) (opens : List ℕ) (rows : List Row)
+pub record FindsAcross (past : Whole) (u : View) (def : Definition) (value : Value) (from to : ℕ) (opens : List ℕ)
+    (rows : List Row)
     : Type 0 where
   pub upper : List Row
   pub lower : List Row
@@ -92,13 +93,15 @@ pub record IsExplainedAnswer (v u : View) (known : Known) (ask : Ask) (answer : 
   pub opened : (n : ℕ) → Among n answer.opens → u.about.number ≤ n
 
 -- on a disk that carries the table, the answer is one after what the disk has before it, and few words were loaded
-pub record IsAnswerHere (content : Option (List ℕ)) (k : Key) (cold : Cold) (v u : View) (known : Known) (ask : Ask) (answer : Answer)
+pub record IsAnswerHere (content : Option (List ℕ)) (k : Key) (cold : Cold) (v u : View) (known : Known) (ask : Ask)
+    (answer : Answer)
     : Type 0 where
   pub each : (past : Whole) → IsHere content k cold past → IsAnswerBehind past v u known ask answer
   pub loads : (past : Whole) → IsHere content k cold past → LoadsAcross past v u ask.value answer
 
 -- an answer at a version, for which no more words were loaded than its plan allows
-pub record IsScanned (Past : Whole → Type 0) (v u : View) (ask : Ask) (from to : ℕ) (opens : List ℕ) (rows : List Row) (version : ℕ)
+pub record IsScanned (Past : Whole → Type 0) (v u : View) (ask : Ask) (from to : ℕ) (opens : List ℕ) (rows : List Row)
+    (version : ℕ)
     : Type 0 where
   pub known : Known
   pub version_is : version ≡ version_of known
@@ -123,14 +126,16 @@ pub record IsRefusedAt (v u : View) (ask : Ask) (version : ℕ) (why : ScanCause
   pub refused : IsRefused v u known ask (refusal_of version why)
 
 -- the item tells of a refusal for this cause
-pub record IsRefusedItem (name : List ℕ) (version : ℕ) (why : ScanRefusal) (refused : List ℕ → ℕ → ScanCause → Item) (x : Item)
+pub record IsRefusedItem (name : List ℕ) (version : ℕ) (why : ScanRefusal) (refused : List ℕ → ℕ → ScanCause → Item)
+    (x : Item)
     : Type 0 where
   pub cause : ScanCause
   pub cause_is : cause_of why ≡ Some cause
   pub is : x ≡ refused name version cause
 
 -- the records before one that found the log full are stored
-pub record FitsFull (v u : View) (form : Form) (outs : List (Option (List ℕ))) (name file : List ℕ) (x : Item) : Type 0 where
+pub record FitsFull (v u : View) (form : Form) (outs : List (Option (List ℕ))) (name file : List ℕ) (x : Item)
+    : Type 0 where
   pub line : ℕ
   pub lines : ℕ
   pub end : ℕ
@@ -168,8 +173,8 @@ pub record FitsRefused (v u : View) (ask : Ask) (refused : List ℕ → ℕ → 
   pub is : x ≡ refused ask.name version why
   pub fits : IsRefusedAt v u ask version why
 
--- all below a number is stored; a pass that is alone finds it where the log ends, with as many claimed as it knew by the tail, and no
--- fewer than it had counted
+-- all below a number is stored; a pass that is alone finds it where the log ends, with as many claimed as it knew by
+-- the tail, and no fewer than it had counted
 pub record FitsCheckpoint (v u : View) (x : Item) : Type 0 where
   pub count : ℕ
   pub is : x ≡ item.Checkpointed count
@@ -199,7 +204,8 @@ pub record IsItem (Past : Whole → Type 0) (v u : View) (w : Work) (x : Item) :
 abbrev pub IsPart : View → View → Work → Type 0
 IsPart v u w = (count : ℕ) × GainsFirst v u (content_of w) count
 
--- the statement has no item: memory ran out when a part of it was done, or it is a scan of older records, and nothing was done
+-- the statement has no item: memory ran out when a part of it was done, or it is a scan of older records, and nothing
+-- was done
 abbrev pub IsStopped : View → View → Work → Stop → Type 0
 IsStopped v u w stop.Memory = IsPart v u w
 IsStopped v u w stop.Older = (ask : Ask) × (w ≡ work.Scan ask) × OnlyScans v u

@@ -26,8 +26,8 @@ done_of fault.Memory many works = works
 done_of fault.Disk many works = works
 done_of (fault.Damaged n) many works = works
 
--- a lane that had so many statements done, or stopped at a fault, is left with these, and hands back those: at a fault it keeps all, and
--- else those that are done, unless memory runs out
+-- a lane that had so many statements done, or stopped at a fault, is left with these, and hands back those: at a fault
+-- it keeps all, and else those that are done, unless memory runs out
 abbrev pub IsHandedBack : List Work → ℕ → LaneFault → List Work → List Work → LaneFault → Type 0
 IsHandedBack works many why kept left last = ((why ≢ fault.None) × (last ≡ why) × (kept ≡ works) × (left ≡ []))
     ⊎ (((why ≡ fault.None) × (last ≡ fault.None) × (kept ≡ take many works) × (left ≡ drop many works))
@@ -39,8 +39,8 @@ pub record IsCut (v u : View) (x : Lane) : Type 0 where
   pub unshut : v.shut ≡ None
   pub shut : WasShut u
 
--- what it leaves undone it does since it found the log full; and where its pass wasn't shut before its statements, none but its last item
--- tells that the log is full
+-- what it leaves undone it does since it found the log full; and where its pass wasn't shut before its statements, none
+-- but its last item tells that the log is full
 pub record StopsFull (v u : View) (x : Lane) : Type 0 where
   pub cut : x.left ≢ [] → IsCut v u x
   pub last : v.shut ≡ None → SaysLast u x.items x.fault

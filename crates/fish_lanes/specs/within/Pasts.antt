@@ -15,6 +15,7 @@ pub record IsHere (content : Option (List ℕ)) (k : Key) (cold : Cold) (past : 
   pub entries : table.end.entries ≡ past.log
 
 -- the same at an earlier moment, of a disk whose content is told later
-pub record WasHere (content : Option (List ℕ)) (k : Key) (cold : Cold) (later : Option (List ℕ)) (past : Whole) : Type 0 where
+pub record WasHere (content : Option (List ℕ)) (k : Key) (cold : Cold) (later : Option (List ℕ)) (past : Whole)
+    : Type 0 where
   pub here : IsHere content k cold past
   pub told : IsSome later

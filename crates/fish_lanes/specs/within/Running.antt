@@ -29,7 +29,8 @@ use Rattle.fish_lanes.specs.Running.{IsEnded, IsShared}
 
 -- an item that was refused since the log is full names the claim that shut the pass
 abbrev pub IsFullItem : View → Item → Type 0
-IsFullItem u x = (file : List ℕ) (line lines end stored refused : ℕ) → x ≡ item.IngestFull file line lines end stored refused
+IsFullItem u x = (file : List ℕ) (line lines end stored refused : ℕ)
+    → x ≡ item.IngestFull file line lines end stored refused
     → IsFullBy u line lines end
 
 -- it changes no definition
@@ -38,9 +39,10 @@ IsFree (work.Register name def) = ⊥
 IsFree (work.Deregister name) = ⊥
 IsFree w = ⊤
 
--- what a pass left that did these statements; what their items tell is so, after each such past, of each whole whose table goes up to
--- the block's end
-pub record HasRun (Past : Whole → Type 0) (v u : View) (works : List Work) (items : List Item) (fault : LaneFault) : Type 0 where
+-- what a pass left that did these statements; what their items tell is so, after each such past, of each whole whose
+-- table goes up to the block's end
+pub record HasRun (Past : Whole → Type 0) (v u : View) (works : List Work) (items : List Item) (fault : LaneFault)
+    : Type 0 where
   pub rows : List LaneRow
   pub gains : Gains v u rows
   pub tells : (past : Whole) → Past past → (s : Span) → IsWithinSpan v u s → s.full ≡ v.shut

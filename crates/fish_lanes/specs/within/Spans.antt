@@ -5,8 +5,8 @@ use Rattle.fish_rule.specs.declared.view.View.{View}
 use Rattle.fish_walk.specs.Looks.{KnowsEntry}
 use Rattle.fish_lanes.specs.Spans.{Span}
 
--- what a lane's pass knew at its start and knows at its end lies within the block, which begins in the pass's table; what it knows to be
--- settled or an entry lies below the block's end
+-- what a lane's pass knew at its start and knows at its end lies within the block, which begins in the pass's table;
+-- what it knows to be settled or an entry lies below the block's end
 pub record IsWithinSpan (v u : View) (s : Span) : Type 0 where
   pub first : s.first ≤ v.learned.version
   pub last : u.learned.version ≤ s.last

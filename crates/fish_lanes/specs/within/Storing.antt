@@ -71,7 +71,8 @@ pub record IsStoredUpTo (v u : View) (form : Form) (outs behind : List (Option (
   pub counted : AreCounted front tally.stored tally.refused
 
 -- the next one is a record and found the log full
-pub record IsFullAt (v u : View) (form : Form) (outs : List (Option (List ℕ))) (tally : Tally) (shut : Shut) : Type 0 where
+pub record IsFullAt (v u : View) (form : Form) (outs : List (Option (List ℕ))) (tally : Tally) (shut : Shut)
+    : Type 0 where
   pub payload : List ℕ
   pub rest : List (Option (List ℕ))
   pub stored : IsStoredUpTo v u form outs (Some payload ∷ rest) tally
@@ -90,4 +91,5 @@ EndsWith v u form outs tally (Some shut) = IsFullAt v u form outs tally shut
 
 -- some are
 abbrev pub IsPartStored : View → View → Form → List (Option (List ℕ)) → Type 0
-IsPartStored v u form outs = (behind : List (Option (List ℕ))) × (tally : Tally) × IsStoredUpTo v u form outs behind tally
+IsPartStored v u form outs = (behind : List (Option (List ℕ))) × (tally : Tally)
+    × IsStoredUpTo v u form outs behind tally

@@ -21,8 +21,8 @@ pub record IsChosen (image : List ℕ) (slot : ℕ) (both : Bool) (commit : Comm
   pub told : IsBodyOf commit (body_of slot image)
   pub older : IsTrue both ↔ IsOpen (1 - slot) image
 
--- why no slot is taken: no gate is open; or one is, and yet no slot counts whose body tells a commit; or the disk failed, or
--- memory ran out
+-- why no slot is taken: no gate is open; or one is, and yet no slot counts whose body tells a commit; or the disk
+-- failed, or memory ran out
 abbrev pub IsSlotCause : List ℕ → OpenRefusal → Type 0
 IsSlotCause image NotAStore = (IsOpen 0 image → ⊥) × (IsOpen 1 image → ⊥)
 IsSlotCause image (Damaged n) = (n ≡ 0) × IsSlotless image

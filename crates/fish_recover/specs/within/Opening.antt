@@ -19,7 +19,8 @@ use Rattle.fish_slots.specs.Slots.{lines_of}
 abbrev pub first_words : ℕ → List ℕ → List ℕ
 first_words lines image = words_in (lines_of lines image)
 
--- whatever the disk tells of its content: the checker has seen the words of some bytes, which are no more than so many lines have
+-- whatever the disk tells of its content: the checker has seen the words of some bytes, which are no more than so many
+-- lines have
 pub record HasRead (commit : Commit) (checker : Checker) (line : ℕ) : Type 0 where
   pub bytes : List ℕ
   pub words : ℕ
@@ -27,7 +28,8 @@ pub record HasRead (commit : Commit) (checker : Checker) (line : ℕ) : Type 0 w
   pub within : length bytes ≤ 32 * line
   pub seen : HasSeen commit checker (words_in bytes)
 
--- no more words are taken: so many entries agree, and no other will, whatever comes after; or the disk failed, or memory ran out
+-- no more words are taken: so many entries agree, and no other will, whatever comes after; or the disk failed, or
+-- memory ran out
 abbrev pub IsPieceCause : Commit → List ℕ → OpenRefusal → Type 0
 IsPieceCause commit w NotAStore = ⊥
 IsPieceCause commit w (Damaged n) = Breaks commit w n

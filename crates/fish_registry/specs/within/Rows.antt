@@ -69,7 +69,8 @@ pub record HasEnded (v : View) (id to : ℕ) (u : View) : Type 0 where
   pub end : control_word u.control_words (row_at id 1) ≡ suc to
   pub read : Among (record { index = row_at id 1; value = suc to }) u.learned.words
   pub from : control_word u.control_words (row_at id 0) ≡ control_word v.control_words (row_at id 0)
-  pub bounds : (n i : ℕ) → i < 2 → n ≢ id → control_word u.control_words (row_at n i) ≡ control_word v.control_words (row_at n i)
+  pub bounds : (n i : ℕ) → i < 2 → n ≢ id → control_word u.control_words (row_at n i) ≡ control_word v.control_words
+      (row_at n i)
 
 -- the tail was loaded, and its count is this number, which is one of this table's
 pub record HasTailed (v u : View) (n : ℕ) : Type 0 where

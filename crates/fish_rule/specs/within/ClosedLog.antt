@@ -72,8 +72,8 @@ pub record IsRead (v : View) (end line : ℕ) (read : ReadLog) : Type 0 where
   pub upto : IsReadUpTo v number read
   pub ends : ((number ≡ end) × (read.lines ≡ line)) ⊎ ((number < end) × HasMarkAt v number read.lines)
 
--- a bucket's head has reached this place, no entry of a record below the number lies above it, and it is the head of the
--- start where it is no place of the table
+-- a bucket's head has reached this place, no entry of a record below the number lies above it, and it is the head of
+-- the start where it is no place of the table
 pub record HasHead (v : View) (settled b x : ℕ) : Type 0 where
   pub top : Among (record { bucket = b; place = x }) v.learned.least_heads
   pub gap : (end : ℕ) × (settled ≤ end)

@@ -37,9 +37,8 @@ pub record EndsParts {D F : Type 0} (disks : Disks D) (disk : D) (s : Store) (fr
   pub rounds : EndsRounds disks disk s from disk' t end said given
   pub done : (texts : List (List Statement)) → AreUngiven before left texts queues → Pairs (AreDone now) texts given
 
-abbrev pub EndsBlock
-    : {D F : Type 0} → Disks D → D → Store → ℕ
-    → (F → Option (List ℕ)) → Option Files → List (Queue F) → D → Option Files → Ended → Type 0
+abbrev pub EndsBlock : {D F : Type 0} → Disks D → D → Store → ℕ → (F → Option (List ℕ)) → Option Files → List (Queue F)
+    → D → Option Files → Ended → Type 0
 EndsBlock disks disk s from left before queues disk' now e =
     EndsParts disks disk s from left before queues disk' now e.store e.end e.said.items
 

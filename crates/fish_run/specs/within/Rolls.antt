@@ -14,8 +14,8 @@ use Rattle.fish_store.specs.Points.{point_at}
 use Rattle.fish_store.specs.Sound.{Point, Runs}
 use Rattle.fish_store.specs.declared.store.Store.{Store}
 
--- the log of so many entries was committed, and a new table begins after it, which isn't full; the definitions are those of before, and no
--- index begins or ends past the log
+-- the log of so many entries was committed, and a new table begins after it, which isn't full; the definitions are
+-- those of before, and no index begins or ends past the log
 pub record RollsOn {D : Type 0} (disks : Disks D) (disk : D) (s : Store) (from : ℕ) (disk' : D) (t : Store)
     : Type 0 where
   pub runs : Runs disks (point_at disk s) (point_at disk' t) (λ w. ⊤)

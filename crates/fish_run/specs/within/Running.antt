@@ -36,18 +36,21 @@ pub record EndsOne {D : Type 0} (disks : Disks D) (disk disk' : D) (a : Lasts) (
   pub block : Block
   pub is : IsBlockOf told text block
   pub ran : HasRounds disks (point_at disk a.store) (point_at disk' b.store) a.count
-      (registry_of (view a.store.pass) a.store.registrar) block.rounds false b.count (registry_of (view b.store.pass) b.store.registrar)
+      (registry_of (view a.store.pass) a.store.registrar) block.rounds false b.count
+      (registry_of (view b.store.pass) b.store.registrar)
   pub renewed : AreRenewed block.rounds false
   pub written : Gained old new (report_text (block_items block))
   pub refused : now ≡ before || said_refused (block_said block.rounds)
 
--- rounds and one that was cut are the first ones of the block, of which nothing was written; or all of it ran, and a first part was written
+-- rounds and one that was cut are the first ones of the block, of which nothing was written; or all of it ran, and a
+-- first part was written
 abbrev pub HowStopped : Option Files → script.Block → Option (List ℕ) → Option (List ℕ) → Bool → Bool → List Round
     → Option Round → Stopped → Type 0
 HowStopped told text old new before now rounds cut s =
     (AreRounds told text.lanes (with_cut rounds cut) × Gained old new [] × (s.why ≡ fault.Input → cut ≡ None)
     × (now ≡ before))
-    ⊎ ((b : Block) × IsBlockOf told text b × (b.rounds ≡ rounds) × (cut ≡ None) × GainedPart old new (report_text (block_items b))
+    ⊎ ((b : Block) × IsBlockOf told text b × (b.rounds ≡ rounds) × (cut ≡ None) × GainedPart old new
+    (report_text (block_items b))
     × (s.why ≢ fault.Input) × (now ≡ before || said_refused (block_said b.rounds)))
 
 -- a fault came before it ran, in it, or as it was written
@@ -73,9 +76,8 @@ pub record EndsRun {D : Type 0} (disks : Disks D) (disk disk' : D) (s : Store) (
   pub committed : lasts ≡ true → HasEnd (view b.store.pass) b.store.file.flusher.count
 
 -- a fault stopped it
-abbrev pub StopsRun : {D : Type 0} → Disks D
-    → D → D → Store → ℕ → Item → Option Files → List script.Block → Option (List ℕ) → Option (List ℕ) → Bool → Stopped
-    → Type 0
+abbrev pub StopsRun : {D : Type 0} → Disks D → D → D → Store → ℕ → Item → Option Files → List script.Block
+    → Option (List ℕ) → Option (List ℕ) → Bool → Stopped → Type 0
 StopsRun disks disk disk' s first begin told text old new refused e =
     RunsSome disks (point_at disk s) disk' first (first_registry s.registrar.catalog) begin told text old new
     refused e

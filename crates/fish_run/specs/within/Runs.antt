@@ -35,7 +35,8 @@ pub record CanGoOn {D : Type 0} (images : D → List ℕ → Type 0) (disk : D) 
   pub settled : s.registrar.waiting ≡ None
   pub table : IsTable s.log
 
--- the store was just opened: it may go on where its table begins, whose definitions were not changed, and no claim had found the log full
+-- the store was just opened: it may go on where its table begins, whose definitions were not changed, and no claim had
+-- found the log full
 pub record IsNewStore {D : Type 0} (images : D → List ℕ → Type 0) (disk : D) (s : Store) : Type 0 where
   pub go : CanGoOn images disk s s.log.key.number
   pub version : (view s.pass).learned.version ≡ 0

@@ -22,7 +22,8 @@ use Rattle.fish_report.specs.declared.item.Item.TheVariants as item
 use Rattle.fish_rule.specs.Views.{AllOf}
 use Rattle.fish_rule.specs.declared.view.Shut.{Shut}
 use Rattle.fish_rule.specs.declared.view.View.{View}
-use Rattle.fish_run.specs.Blocks.{AreAcknowledged, AreFullSince, AreInOne, Block, HasFoundFull, IsFirstFault, Round, SaysCut, SaysFirst}
+use Rattle.fish_run.specs.Blocks.{AreAcknowledged, AreFullSince, AreInOne, Block, HasFoundFull, IsFirstFault, Round}
+use Rattle.fish_run.specs.Blocks.{SaysCut, SaysFirst}
 use Rattle.fish_run.specs.within.Blocks.{AreMarked}
 use Rattle.fish_run.specs.Blocks.{SaysOne, SaysOneLane, SaysRounds, after_round, after_rounds, begun, first_items}
 use Rattle.fish_run.specs.Blocks.{in_table, last_table, left_table, rounds_of, with_cut}
@@ -41,10 +42,11 @@ use Rattle.fish_whole.specs.Whole.{Whole, WillHold}
 
 -- ---- one round
 
--- a round ran, and no lane stopped at a fault: after it the log has so many numbers, and the registry is this; what shuts the
--- pass had shut it before, and then still does, or an item of the round tells of it; an item that tells of a claim leaves it shut; and
--- no checkpoint that it tells has more entries than the last commit
-pub record HasRunOne (Past : Whole → Type 0) (count : ℕ) (fresh : Bool) (full : Option Shut) (u : View) (r t : Registry) (from to : ℕ)
+-- a round ran, and no lane stopped at a fault: after it the log has so many numbers, and the registry is this; what
+-- shuts the pass had shut it before, and then still does, or an item of the round tells of it; an item that tells of a
+-- claim leaves it shut; and no checkpoint that it tells has more entries than the last commit
+pub record HasRunOne (Past : Whole → Type 0) (count : ℕ) (fresh : Bool) (full : Option Shut) (u : View) (r t : Registry)
+    (from to : ℕ)
     (b : Round) : Type 0 where
   pub fresh_is : b.fresh ≡ fresh
   pub full_is : b.span.full ≡ full
@@ -59,7 +61,8 @@ pub record HasRunOne (Past : Whole → Type 0) (count : ℕ) (fresh : Bool) (ful
   pub after : t ≡ after_round r b
 
 -- a round ran, and a lane stopped at a fault
-pub record HasCutOne (Past : Whole → Type 0) (count : ℕ) (fresh : Bool) (full : Option Shut) (u : View) (r : Registry) (from to : ℕ)
+pub record HasCutOne (Past : Whole → Type 0) (count : ℕ) (fresh : Bool) (full : Option Shut) (u : View) (r : Registry)
+    (from to : ℕ)
     (b : Round) : Type 0 where
   pub fresh_is : b.fresh ≡ fresh
   pub full_is : b.span.full ≡ full
@@ -69,9 +72,10 @@ pub record HasCutOne (Past : Whole → Type 0) (count : ℕ) (fresh : Bool) (ful
   pub marks : NameMarks u b.lanes
   pub committed : AllOf (IsCommitted count) (first_items b.lanes)
 
--- what a round left after a number of the log: what its lanes tell is so of each whole that the control pass may leave later, after
--- such a past
-pub record Leaves (Past : Whole → Type 0) (count : ℕ) (v u : View) (r s : Registrar) (from : ℕ) (lanes : List Lane) (end : BlockEnd)
+-- what a round left after a number of the log: what its lanes tell is so of each whole that the control pass may leave
+-- later, after such a past
+pub record Leaves (Past : Whole → Type 0) (count : ℕ) (v u : View) (r s : Registrar) (from : ℕ) (lanes : List Lane)
+    (end : BlockEnd)
     : Type 0 where
   pub some : 0 < length lanes
   pub begins : HasEnd v from
@@ -91,14 +95,14 @@ AreWhole lanes = (i : ℕ) (x : Lane) → slice_get lanes i ≡ Some x → x.fau
 
 -- ---- rounds
 
--- no table begins at a lower number after these rounds; where it begins at the same one, it is the same table, and none was begun for one
--- of them nor after them
+-- no table begins at a lower number after these rounds; where it begins at the same one, it is the same table, and none
+-- was begun for one of them nor after them
 pub record IsTableAfter (v u : View) (rounds : List Round) (fresh : Bool) : Type 0 where
   pub rises : v.about.number ≤ u.about.number
   pub same : u.about.number ≡ v.about.number → (u.about ≡ v.about) × AreInOne rounds × (fresh ≡ false)
 
--- from one moment of the store to a later one these rounds ran, each of them without a fault, where the log had so many numbers and the
--- registry was this; then it has so many, and this one; and perhaps a new table was begun since
+-- from one moment of the store to a later one these rounds ran, each of them without a fault, where the log had so many
+-- numbers and the registry was this; then it has so many, and this one; and perhaps a new table was begun since
 pub record HasRounds {D : Type 0} (disks : Disks D) (p q : Point D) (from : ℕ) (r : Registry) (rounds : List Round)
     (fresh : Bool) (to : ℕ) (t : Registry) : Type 0 where
   pub runs : Runs disks p q (λ w. SaysRounds w from r rounds to)
@@ -125,8 +129,8 @@ pub record HasRunFirst {D : Type 0} (disks : Disks D) (p q : Point D) (from : �
 
 -- ---- why a run stops
 
--- a fault stopped rounds of a block, before a next one or in it, when the store was at a moment: it is there still, and may be closed,
--- unless memory ran out for its table
+-- a fault stopped rounds of a block, before a next one or in it, when the store was at a moment: it is there still, and
+-- may be closed, unless memory ran out for its table
 pub record StopsRounds {D : Type 0} (disks : Disks D) (p : Point D) (disk : D) (from : ℕ) (r : Registry)
     (rounds : List Round) (cut : Option Round) (s : Stopped) : Type 0 where
   pub at : Point D

@@ -34,9 +34,7 @@ FindNoneFull lanes = EachLane (λ i x. list_any says_full x.items ≡ false) lan
 -- ---- a round
 
 -- the store is in the table of before, or in a new one
-abbrev pub IsRenewed
-    : {D : Type 0} → Disks D → D → Store → ℕ → Bool → D → Store
-    → Type 0
+abbrev pub IsRenewed : {D : Type 0} → Disks D → D → Store → ℕ → Bool → D → Store → Type 0
 IsRenewed disks disk s from false disk' t = (disk' ≡ disk) × (t ≡ s)
 IsRenewed disks disk s from true disk' t = RollsOn disks disk s from disk' t
 
@@ -85,9 +83,7 @@ pub record TurnsAll {D : Type 0} (disks : Disks D) (disk : D) (a : RoundStart) (
       → EndsRounds disks d s from disk' t.next.store t.end said' given
 
 -- a fault stopped them
-abbrev pub StopsTurn
-    : {D : Type 0} → Disks D → D → RoundStart → List Lane
-    → List Said → D → Stopped → Type 0
+abbrev pub StopsTurn : {D : Type 0} → Disks D → D → RoundStart → List Lane → List Said → D → Stopped → Type 0
 StopsTurn disks disk a lanes said disk' e = (d : _) (s : Store) (from : ℕ) (now given : List (List Work))
     → IsReady disks d s from disk a lanes said now given
     → StopsBlock disks d s from given disk' e

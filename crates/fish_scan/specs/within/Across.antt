@@ -20,16 +20,21 @@ use Rattle.fish_value.specs.declared.row.Row.{Row}
 -- ---- what is read
 
 -- the part of the range in the table was read, and then that below it
-pub record HasReadAcross {content : Option (List ℕ)} {k : Key} {cold : Cold} (h : CarriesTable content k cold) (v u : View)
+pub record HasReadAcross {content : Option (List ℕ)} {k : Key} {cold : Cold} (h : CarriesTable content k cold)
+    (v u : View)
     (query : Query) (pieces : List Piece) (before after : List Row) (parsed parses loaded loads : ℕ) : Type 0 where
   pub between : View
   pub learns : Learns between u
   pub rows : List Row
   pub parses_between : ℕ
   pub loads_between : ℕ
-  pub above : Adds u (definition_of query.def) query.value (first_in k query.reach) query.reach.to query.reach.opens before rows
-  pub parsed_above : HasParsed u query.reach.opens (pieces_above k.number pieces) (first_in k query.reach) query.reach.to parsed
+  pub above : Adds u (definition_of query.def) query.value (first_in k query.reach) query.reach.to query.reach.opens
+      before rows
+  pub parsed_above : HasParsed u query.reach.opens (pieces_above k.number pieces) (first_in k query.reach)
+      query.reach.to parsed
       parses_between
-  pub work_above : ArePiecesWork v between query.value query.reach.opens rows (pieces_above k.number pieces) loaded loads_between
-  pub below : HasReadBelow h.prior between u (definition_of query.def) query.value (pieces_below k.number pieces) query.reach.from
+  pub work_above : ArePiecesWork v between query.value query.reach.opens rows (pieces_above k.number pieces) loaded
+      loads_between
+  pub below : HasReadBelow h.prior between u (definition_of query.def) query.value (pieces_below k.number pieces)
+      query.reach.from
       (last_below k query.reach) rows after parses_between parses loads_between loads

@@ -14,7 +14,8 @@ use Rattle.fish_value.specs.declared.value.Value.{Value}
 
 -- a piece was read: its rows came after others, its records were parsed, and the loads are allowed
 pub record HasReadPiece {image : List ℕ} {count : ℕ} {end : Reached} (prior : IsPrior image count end) (v u : View)
-    (def : Definition) (value : Value) (piece : Piece) (before after : List Row) (parsed parses loaded loads : ℕ) : Type 0 where
+    (def : Definition) (value : Value) (piece : Piece) (before after : List Row) (parsed parses loaded loads : ℕ)
+    : Type 0 where
   pub rows : AddsOlder end.entries def value (piece_from piece) (piece_to piece) before after
   pub parses_are : parses ≡ parsed + older_parses_of end.entries piece
   pub walked : ℕ

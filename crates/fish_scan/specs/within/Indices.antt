@@ -19,7 +19,8 @@ use Rattle.fish_value.specs.declared.field.Form.{Form}
 use Rattle.fish_value.specs.declared.row.Row.{Row}
 use Rattle.fish_value.specs.declared.value.Value.{Value}
 
--- each record of the range has its key entries by a definition that is this one, as a row of the registry with the id says
+-- each record of the range has its key entries by a definition that is this one, as a row of the registry with the id
+-- says
 pub record IsIndex (v : View) (def : Definition) (id from to : ℕ) : Type 0 where
   pub version : ℕ
   pub rows : List Listed
@@ -33,9 +34,10 @@ pub record IsIndex (v : View) (def : Definition) (id from to : ℕ) : Type 0 whe
   pub after : begin ≤ from
   pub before : to ≤ end
 
--- on its way down the bucket's chain, with all entries at or above a place passed, these rows were found: the records of
--- the range that have the value in an entry so high
-pub record Gathers (v : View) (def : Definition) (value : Value) (id bucket from to given : ℕ) (rows : List Row) : Type 0 where
+-- on its way down the bucket's chain, with all entries at or above a place passed, these rows were found: the records
+-- of the range that have the value in an entry so high
+pub record Gathers (v : View) (def : Definition) (value : Value) (id bucket from to given : ℕ) (rows : List Row)
+    : Type 0 where
   pub falls : FallsBelow to rows
   pub above : (row : Row) → Among row rows → from ≤ row.number
   pub sound : (row : Row) → Among row rows → Always v (Matches def value row)
@@ -44,7 +46,8 @@ pub record Gathers (v : View) (def : Definition) (value : Value) (id bucket from
       → Matches def value row k w → Among row rows)
   -- an entry further down with the value is that of an older record
   pub older : (row : Row) → Among row rows
-      → Always v (λ k w. (n c p : ℕ) → IsNodeIn bucket n c p id k w → HasValue n c value k w → p < given → n < row.number)
+      → Always v (λ k w. (n c p : ℕ) → IsNodeIn bucket n c p id k w → HasValue n c value k w → p < given
+      → n < row.number)
 
 -- the entry has the value, and its record this payload; or it has another value
 abbrev pub IsValued : View → Value → Node → Option (List ℕ) → Type 0

@@ -13,11 +13,14 @@ use Rattle.fish_value.specs.declared.value.Value.{Value}
 
 -- the entry at the row's number is a record with this payload, and the definition gives the value for it
 abbrev pub IsOlderMatch : List Entry → Definition → Value → Row → Type 0
-IsOlderMatch entries def value row = (lane : ℕ) × (form : Form) × (slice_get entries row.number ≡ Some (Stored lane form row.payload))
+IsOlderMatch entries def value row = (lane : ℕ) × (form : Form)
+    × (slice_get entries row.number ≡ Some (Stored lane form row.payload))
     × Gives def form row.payload value
 
--- the rows are exactly the records from a number on and below another for which the definition gives the value, newest first
-pub record FindsOlder (entries : List Entry) (def : Definition) (value : Value) (from to : ℕ) (rows : List Row) : Type 0 where
+-- the rows are exactly the records from a number on and below another for which the definition gives the value, newest
+-- first
+pub record FindsOlder (entries : List Entry) (def : Definition) (value : Value) (from to : ℕ) (rows : List Row)
+    : Type 0 where
   pub falls : FallsBelow to rows
   pub above : (row : Row) → Among row rows → from ≤ row.number
   pub sound : (row : Row) → Among row rows → IsOlderMatch entries def value row

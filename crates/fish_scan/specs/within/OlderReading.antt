@@ -18,9 +18,10 @@ use Rattle.fish_scan.specs.OlderWork.{IsOlderFullAllowed, IsOlderIndexAllowed, I
 use Rattle.fish_value.specs.declared.row.Row.{Row}
 use Rattle.fish_value.specs.declared.value.Value.{Value}
 
--- numbers from one on and below another were read one by one: the rows that have the value came after others, each record was
--- parsed once, and the loads are those of a full piece
-pub record HasReadOlder {image : List ℕ} {count : ℕ} {end : Reached} (prior : IsPrior image count end) (def : Definition)
+-- numbers from one on and below another were read one by one: the rows that have the value came after others, each
+-- record was parsed once, and the loads are those of a full piece
+pub record HasReadOlder {image : List ℕ} {count : ℕ} {end : Reached} (prior : IsPrior image count end)
+    (def : Definition)
     (value : Value) (from to : ℕ) (before after : List Row) (parsed parses loaded loads : ℕ) : Type 0 where
   pub rows : AddsOlder end.entries def value from to before after
   pub parses_are : parses ≡ parsed + stored_within end.entries from to
@@ -47,7 +48,8 @@ pub record Takes (node : ColdNode) (id : ℕ) (value : Value) (to : ℕ) (before
   pub payload_is : told payload old new
 
 -- or nothing did, since it is another definition's, has another value, or its record isn't below the one that came last
-pub record Passes (node : ColdNode) (id : ℕ) (value : Value) (to : ℕ) (before after : List Row) (old new last : ℕ) : Type 0 where
+pub record Passes (node : ColdNode) (id : ℕ) (value : Value) (to : ℕ) (before after : List Row) (old new last : ℕ)
+    : Type 0 where
   pub other : node.number < to → node.id ≡ id → node.value ≡ value → ⊥
   pub last_is : last ≡ to
   pub same : after ≡ before
@@ -62,7 +64,8 @@ abbrev pub IsHeadOf : {content : Option (List ℕ)} {k : Key} {cold : Cold} → 
 IsHeadOf h b place = place ≡ head_of h.end.places b
 
 -- each record of a range below the base has its key entries by a definition, under an id
-abbrev pub IsCoveredBy : {content : Option (List ℕ)} {k : Key} {cold : Cold} → CarriesTable content k cold → Definition → ℕ → ℕ → ℕ
+abbrev pub IsCoveredBy : {content : Option (List ℕ)} {k : Key} {cold : Cold} → CarriesTable content k cold → Definition
+    → ℕ → ℕ → ℕ
     → Type 0
 IsCoveredBy h def id from to = (n : ℕ) (p : BodyParts) → IsPriorRecord h.prior n p → from ≤ n → n < to
     → values_under id p.keys ≡ evaluation def p.form p.payload

@@ -12,14 +12,15 @@ use Rattle.fish_walk.specs.Settling.{IsEnd, StopsAt}
 use Rattle.fish_walk.specs.declared.outcome.Look.TheVariants.{Overflow, Unfinished}
 use Rattle.fish_walk.specs.declared.outcome.Look.{Look}
 
--- these looks were made at the numbers from one on, none of them told of a mark, and the unfinished numbers among them are
--- exactly the open ones
+-- these looks were made at the numbers from one on, none of them told of a mark, and the unfinished numbers among them
+-- are exactly the open ones
 pub record AreSeen (v : View) (first : ℕ) (looks : List Look) (opens : List ℕ) : Type 0 where
   pub each : (i : ℕ) (look : Look) → slice_get looks i ≡ Some look → IsLookAt v (first + i) look × (look ≢ Overflow)
   pub unfinished : (i : ℕ) → slice_get looks i ≡ Some Unfinished → Among (first + i) opens
   pub open_ones : (n : ℕ) → Among n opens → (i : ℕ) × (n ≡ first + i) × (slice_get looks i ≡ Some Unfinished)
 
--- the numbers of a range were counted; up to a first one those of the table are settled, and from there on each was looked at
+-- the numbers of a range were counted; up to a first one those of the table are settled, and from there on each was
+-- looked at
 pub record IsReached (v : View) (reach : Reach) : Type 0 where
   pub settled : reach.settled ≤ v.learned.settled
   pub counted : reach.to ≤ v.learned.count

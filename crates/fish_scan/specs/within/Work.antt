@@ -41,7 +41,8 @@ pub record IsRecordAt (v : View) (n : ℕ) (f : Found) : Type 0 where
 -- the value of an entry was compared, and where it was the one asked for its record was loaded
 abbrev pub IsComparison : View → View → Node → Option (List ℕ) → ℕ → ℕ → Type 0
 IsComparison v u node None old new = RisesBy v u old new 36
-IsComparison v u node (Some payload) old new = (f : Found) × IsRecordAt u node.number f × RisesBy v u old new (36 + f.lines * 4)
+IsComparison v u node (Some payload) old new = (f : Found) × IsRecordAt u node.number f
+    × RisesBy v u old new (36 + f.lines * 4)
 
 -- the rows' records, one of each
 abbrev pub AreRecordsOf : View → List Row → List Found → Type 0
