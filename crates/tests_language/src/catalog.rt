@@ -1,7 +1,8 @@
 //! One catalogue through a table of calls, and one row as words, with answers worked out by hand.
 
-ghost use Rattle.std.specs.Prelude.{IfOk, IsTrue};
+ghost use Rattle.std.specs.Prelude.{◌≡◌, ◌≤◌, ℕ, IfOk, IsTrue, Some};
 ghost use Rattle.fish_catalog.specs.Canonical.{IsCanonical};
+ghost use Rattle.fish_catalog.specs.Closing.{MayClose};
 ghost use Rattle.fish_catalog.specs.Rows.{AwaitsFrom, IsName, IsRow};
 
 use crate::expecting::expect;
@@ -62,6 +63,17 @@ const THIRD: &[((&str, &str), &str)] = &[
 ];
 
 const ALL_FOUND: &[(&str, &str)] = &[("32", "none none"), ("31", "31 31"), ("15", "15 15")];
+
+/// Names, numbers, and what ending the index of the active row with the name there answers.
+const CLOSED: &[(&str, u32, &str)] = &[
+    ("Kind", 6, "not begun"),
+    ("2", 9, "not begun"),
+    ("kin", 9, "no active definition has the name"),
+    ("Kind", 7, "1"),
+    ("Kind", 8, "no active definition has the name"),
+];
+
+const CLOSED_FOUND: &[(&str, &str)] = &[("Kind", "none 1"), ("kind", "0 0")];
 
 /// Ids, and the rows at the end: the id, the name, the canonical text, the beginning and the end.
 const ROWS: &[(usize, &str)] = &[
@@ -198,6 +210,49 @@ fn set_from(catalog: &mut Catalog, id: u16, from: u32) {
     }
 }
 
+/// Whether a row's index has begun at a number or before it.
+fn has_begun(row: &CatRow, to: u32) -> bool
+    ensures { IsTrue result → (from : ℕ) × (row.now.from ≡ Some from) × (from ≤ to) }
+{
+    match row.from {
+        Some(from) => from <= to,
+        None => false,
+    }
+}
+
+/// Whether that of each active row with a name has.
+fn may_close(catalog: &Catalog, name: &Text, to: u32) -> bool
+    ensures { IsTrue result → MayClose catalog.now name.now to }
+{
+    let rows = catalog.rows();
+    for row in rows {
+        if row.is_active() && row.name.is(name) && !has_begun(row, to) {
+            return false;
+        }
+    }
+    true
+}
+
+/// What ending the index of an active row answers, if it may end.
+fn closed(alloc: Global, catalog: &mut Catalog, name: &str, to: u32) -> Result<String, AllocError> {
+    let name = Text::copy_of(alloc, name)?;
+    if !may_close(catalog, &name, to) {
+        return String::from_str(alloc, "not begun");
+    }
+    match catalog.close_row(&name, to) {
+        Ok(id) => format!(in alloc; "{id}"),
+        Err(refusal) => format!(in alloc; "{refusal}"),
+    }
+}
+
+fn expect_closed<R: Abort>(rt: &R, alloc: Global, catalog: &mut Catalog) -> Result<(), AllocError> {
+    for &(name, to, want) in CLOSED {
+        let found = closed(alloc, catalog, name, to)?;
+        expect(rt, found.as_str(), want);
+    }
+    expect_found(rt, alloc, catalog, CLOSED_FOUND)
+}
+
 fn expect_first<R: Abort>(rt: &R, alloc: Global, catalog: &mut Catalog) -> Result<(), AllocError> {
     expect_found(rt, alloc, catalog, NONE_FOUND)?;
     expect_added(rt, alloc, catalog, FIRST)?;
@@ -212,7 +267,8 @@ fn expect_calls<R: Abort>(rt: &R, alloc: Global, catalog: &mut Catalog) -> Resul
     set_from(catalog, 0, 0);
     expect_added(rt, alloc, catalog, THIRD)?;
     expect_found(rt, alloc, catalog, ALL_FOUND)?;
-    expect_rows(rt, alloc, catalog)
+    expect_rows(rt, alloc, catalog)?;
+    expect_closed(rt, alloc, catalog)
 }
 
 #[test]
