@@ -12,13 +12,14 @@ use Rattle.fish_disk.proofs.Regions.{put_part, put_within, told_at, torn_apart}
 use Rattle.fish_flush.proofs.Committed.{body_lines}
 use Rattle.fish_flush.specs.Kept.{IsAtRest, first_commit}
 use Rattle.fish_flush.specs.declared.flusher.Flusher.{Flusher}
+use Rattle.fish_flush.specs.within.Writing.{IsOnlyOpen}
 use Rattle.fish_image.specs.Progress.{AreHeads}
 use Rattle.fish_image.specs.Reached.{unread}
 use Rattle.fish_image.specs.Reading.{IsBodyOf}
 use Rattle.fish_rule.specs.declared.table.Shape.{Shape}
 use Rattle.fish_slots.specs.Commits.{Rests}
 use Rattle.fish_slots.specs.Offsets.{body_at, body_bytes, gate_at, lines_at}
-use Rattle.fish_slots.specs.Slots.{IsAlone, IsOpen, body_of, lines_of}
+use Rattle.fish_slots.specs.Slots.{IsOpen, body_of, lines_of}
 
 -- over nothing, a piece is all
 at_nothing : (z o : List ℕ) → length o ≡ 0 → put_at 0 z o ≡ z
@@ -88,7 +89,7 @@ few_heads b few =
 -- a store without a record is at rest
 pub first_rests : (images : List ℕ → Type 0) (f : Flusher) (s : Shape) (b : List ℕ) →
     f.slot ≡ 0 → f.turn ≡ 0 → f.count ≡ 0 → f.line ≡ 0 → f.page ≡ 0 → f.starts.items ≡ [] → IsBodyOf (first_commit s) b
-    → ((c : List ℕ) → images c → IsAlone 0 c × (body_of 0 c ≡ b)) → ((c : List ℕ) → images c → lines_at ≤ length c)
+    → ((c : List ℕ) → images c → IsOnlyOpen 0 c × (body_of 0 c ≡ b)) → ((c : List ℕ) → images c → lines_at ≤ length c)
     → AreHeads (2 ^ s.bucket_bits) [] f.heads.items → IsAtRest images f (first_commit s) []
 first_rests images f s b slot turn count line page starts told alone long heads = record {
   slot_is = omega (arith, slot);

@@ -1,11 +1,11 @@
 -- What the steps of a commit leave of slots and gates, over plain lists of bytes.
-use Rattle.std.proofs.Common.{◌≡◌, ℕ, zero, suc, ◌+◌, ◌*◌, ◌≤◌, ◌⊎◌, ⊎_elim, inl, inr, List, [], ◌∷◌, length}
+use Rattle.std.proofs.Common.{◌≡◌, ℕ, zero, suc, ◌+◌, ◌*◌, ◌≤◌, ◌⊎◌, ⊎_elim, inl, inr, List, [], ◌∷◌}
 use Rattle.std.proofs.Common.{get_or, refl, ap, sym, ◌∙◌, subst, arith}
-use Rattle.std.specs.Prelude.{Option, Some, None, IfSome, Result, Ok, Err, OnOk, unwrap_or}
-use Rattle.fish_disk.specs.Content.{HasWritten, part}
+use Rattle.std.specs.Prelude.{Option, Some, Result, Ok, Err, OnOk, unwrap_or}
+use Rattle.fish_disk.specs.Content.{part}
 use Rattle.fish_disk.specs.Crash.{LeavesOnly, Torn, TornFrom}
 use Rattle.fish_disk.proofs.Moments.{leaves_each}
-use Rattle.fish_disk.proofs.Regions.{put_within, told_at, torn_apart, torn_same}
+use Rattle.fish_disk.proofs.Regions.{torn_apart, torn_same}
 use Rattle.fish_slots.specs.Offsets.{body_at, body_bytes, gate_at, lines_at}
 use Rattle.fish_slots.specs.Slots.{GatesAreSynced, IsOpen, SameSlot, body_of, line_count}
 
@@ -107,12 +107,3 @@ pub other_gate : (t s : ℕ) (images : List ℕ → Type 0) (c : List ℕ) → t
     ((d : List ℕ) → images d → IsOpen t d) → TornFrom images (gate_at s) 1 c → IsOpen t c
 other_gate t s images c other opened from =
     torn_apart (gate_at s) 1 (gate_at t) 1 from.0 c from.2 (gate_apart t s other) ∙ opened from.0 from.1
-
--- a content that is told after a write is as long as it was
-pub still_long : (old new : Option (List ℕ)) (at m n : ℕ) (piece : List ℕ) → at ≤ m → n ≤ m →
-    IfSome old (λ c. m ≤ length c) → HasWritten old new at piece → IfSome new (λ c. n ≤ length c)
-still_long old None at m n piece start short long written = tt
-still_long old (Some c) at m n piece start short long written =
-    let size : m ≤ length written.0 = told_at (λ o. m ≤ length o) old written.0 written.1 long in
-    let torn = put_within at (length piece) piece written.0 c (omega (arith, start, size)) (omega arith) written.2 in
-    omega (arith, short, size, torn.no_shorter)

@@ -1,5 +1,5 @@
 -- What an image of a store file says by its slots, and when its gates can be relied on.
-use Rattle.std.specs.Prelude.{◌≡◌, ℕ, ◌*◌, ◌-◌, ◌≤◌, List, [], ◌∷◌, drop}
+use Rattle.std.specs.Prelude.{◌≡◌, ℕ, ◌*◌, ◌≤◌, List, [], ◌∷◌, drop}
 use Rattle.byteorder.specs.Endian.{little_number}
 use Rattle.fish_disk.specs.Content.{part}
 use Rattle.fish_slots.specs.Offsets.{body_at, body_bytes, gate_at, lines_at}
@@ -7,10 +7,6 @@ use Rattle.fish_slots.specs.Offsets.{body_at, body_bytes, gate_at, lines_at}
 -- the gate of the slot is open: its byte is there, and is 1
 abbrev pub IsOpen : ℕ → List ℕ → Type 0
 IsOpen slot c = part (gate_at slot) 1 c ≡ 1 ∷ []
-
--- the gate of the slot is open, and the other one isn't
-abbrev pub IsAlone : ℕ → List ℕ → Type 0
-IsAlone slot c = IsOpen slot c × (IsOpen (1 - slot) c → ⊥)
 
 -- the bytes of the slot's body
 abbrev pub body_of : ℕ → List ℕ → List ℕ

@@ -9,4 +9,4 @@ mod offsets;
 mod slot;
 
 pub use offsets::{BODIES_AT, SLOT_BYTES};
-pub use slot::{Gates, begin, best, close_old, open_gate, seal, switch};
+pub use slot::{Gates, begin, best, close_old, open_gate, seal};

@@ -1,13 +1,13 @@
-//! The steps of a commit. Each is at most four calls of the disk, and takes no memory.
+//! The steps of a commit. Each is at most three calls of the disk, and takes no memory.
 //!
 //! After a step that failed, the store is opened again before anything else is claimed.
 
-ghost use Rattle.std.specs.Prelude.{◌≡◌, ◌≤◌, ◌+◌, ◌-◌, ◌↔◌, ◌⊎◌, ℕ, List, [], ◌∷◌, Some, length, IfOk, IfSome, IsTrue, OnOk};
+ghost use Rattle.std.specs.Prelude.{◌≡◌, ◌≤◌, ◌+◌, ◌↔◌, ℕ, List, [], ◌∷◌, Some, length, IfOk, IfSome, IsTrue, OnOk};
 ghost use Rattle.fish_outside.specs.Causes.{HasCause};
 ghost use Rattle.fish_disk.specs.Content.{StillReads, WrittenThrough};
 ghost use Rattle.fish_disk.specs.Crash.{LeavesOnly, TornFrom};
 ghost use Rattle.fish_slots.specs.Offsets.{body_at, body_bytes, gate_at};
-ghost use Rattle.fish_slots.specs.Slots.{GatesAreSynced, IsAlone, IsOpen, SameSlot, body_of};
+ghost use Rattle.fish_slots.specs.Slots.{GatesAreSynced, IsOpen, SameSlot, body_of};
 
 use crate::offsets::{body_offset, gate_offset};
 use fish_disk::{Disk, write_synced};
@@ -152,24 +152,4 @@ pub fn close_old<D: Disk>(disk: &mut D, slot: u8) -> Result<(), Failed>
     ensures cause { HasCause (D.faults disk.old) (D.faults disk.new) result }
 {
     write_synced(disk, gate_offset(slot), &[CLOSED])
-}
-
-/// Opens the gate of a slot whose body and lines are synced, and then closes the other one, which is
-/// open. Whenever a crash comes, one of them is. Four calls of the disk.
-pub fn switch<D: Disk>(disk: &mut D, slot: u8) -> Result<(), Failed>
-    requires slot { slot ≤ 1 }
-    requires within { IfSome (D.content disk.old) (λ c. gate_at 1 ≤ length c) }
-    requires gates { GatesAreSynced (D.images disk.old) (D.images disk.old) }
-    requires sealed { (c d : List ℕ) → D.images disk.old c → D.images disk.old d →
-        SameSlot slot c d }
-    requires opened { (c : List ℕ) → D.images disk.old c → IsOpen (1 - slot) c }
-    ensures alone { OnOk result ((c : List ℕ) → D.images disk.new c → IsAlone slot c) }
-    ensures one_open { LeavesOnly D.images D.since D.moment disk.old disk.new
-        (λ c. IsOpen slot c ⊎ IsOpen (1 - slot) c) }
-    ensures four { D.moment disk.new ≤ D.moment disk.old + 4 }
-
-    ensures cause { HasCause (D.faults disk.old) (D.faults disk.new) result }
-{
-    open_gate(disk, slot)?;
-    close_old(disk, 1 - slot)
 }

@@ -15,6 +15,10 @@ HasPut old new at piece =
 abbrev pub IsPut : ℕ → List ℕ → List ℕ → Type 0
 IsPut line lines c = (lines_at + 32 * line ≤ length c) × (part (lines_at + 32 * line) (length lines) c ≡ lines)
 
+-- the gate of the slot is open, and the other one isn't
+abbrev pub IsOnlyOpen : ℕ → List ℕ → Type 0
+IsOnlyOpen slot c = IsOpen slot c × (IsOpen (1 - slot) c → ⊥)
+
 -- the image has the one commit or the other
 abbrev pub EitherCommit : List ℕ → List ℕ → List ℕ → List ℕ → List ℕ → Type 0
 EitherCommit b w d v c = HasCommit b w c ⊎ HasCommit d v c
