@@ -220,7 +220,7 @@ fn has_begun(row: &CatRow, to: u32) -> bool
     }
 }
 
-/// Whether that of each active row with a name has.
+/// Whether the index of each active row with this name has begun at `to` or before it.
 fn may_close(catalog: &Catalog, name: &Text, to: u32) -> bool
     ensures { IsTrue result → MayClose catalog.now name.now to }
 {
