@@ -1,3 +1,5 @@
+pub mod Ahead
+pub mod Crossing
 pub mod Fit
 pub mod Giving
 pub mod Lists

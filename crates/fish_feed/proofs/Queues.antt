@@ -1,6 +1,6 @@
 -- What a lane is still to be given, one step after the other, and at the end.
 use Rattle.std.proofs.Common.{◌≡◌, ℕ, List, [], ◌∷◌, ◌++◌, append-nil, append_assoc, take, refl, sym, ap, ◌∙◌, subst}
-use Rattle.std.proofs.Common.{Option, Some, None, ◌<◌, length, length-append, arith}
+use Rattle.std.proofs.Common.{Bool, true, false, Option, Some, None, ◌+◌, ◌<◌, length, length-append, arith}
 use Rattle.std.proofs.lemmas.List.{length-take, take_all}
 use Rattle.std.proofs.lemmas.Option.{same_Some}
 use Rattle.std.specs.Prelude.{IfSome, IsSome}
@@ -9,6 +9,7 @@ use Rattle.fish_feed.proofs.Parts.{after_push, parts_rest, parts_then}
 use Rattle.fish_feed.proofs.Told.{told_later}
 use Rattle.fish_feed.specs.Parts.{AreParts, longest_read}
 use Rattle.fish_feed.specs.OpenFiles.{IsPartOf, IsRestOf, IsStuck}
+use Rattle.fish_feed.specs.within.OpenFiles.{ReadsOn}
 use Rattle.fish_feed.specs.Queues.{GoesOn, HasQueue, IsDue, IsOpen}
 use Rattle.fish_feed.specs.Works.{AreDone, AreFirstOf, IsDone, IsWorkOf, Pairs}
 use Rattle.fish_feed.specs.declared.part.OpenFile.{OpenFile}
@@ -64,6 +65,10 @@ work_done told (does.Scan name value from to way) w h = (w, refl, h)
 work_done told (does.Explain name value from to way) w h = (w, refl, h)
 work_done told does.Checkpoint w h = (w, refl, h)
 
+-- after these bytes and those that came of it the file has what is left, but for bytes that were lost
+abbrev Knows : {F : Type 0} → OpenFile F → List ℕ → List ℕ → Files → Type 0
+Knows o before l files = (then : List ℕ) × (o.lost ≡ false → then ≡ l) × (files o.name ≡ Some (before ++ (o.rest ++ then)))
+
 module _ {F : Type 0} (left : F → Option (List ℕ)) where
   -- ---- a file
 
@@ -76,8 +81,52 @@ module _ {F : Type 0} (left : F → Option (List ℕ)) where
     parts = h.parts;
     begin_is = h.begin_is;
     room_is = h.room_is;
-    file = told_later old new (λ files. IfSome (left o.feed) (λ l. files o.name ≡ Some (h.before ++ (o.rest ++ l)))) still h.file;
+    file = told_later old new (λ files. IfSome (left o.feed) (λ l. Knows o h.before l files)) still h.file;
   }
+
+  -- more of it came
+  open_on : (told : Option Files) (s : Statement) (given : List Work) (o u : OpenFile F) → IsOpen told left s given o → ReadsOn left o u
+      → IsOpen told left s given u
+  open_on told s given o u h r = record {
+    header = h.header;
+    is = h.is ∙ (λ i. does.Ingest (sym r.form_is i) h.header (sym r.name_is i));
+    before = h.before;
+    parts = subst (λ (z : OpenFile F). AreParts z.form (Start h.header) z.name h.before given [])
+        (λ i. record o { form = sym r.form_is i; name = sym r.name_is i }) h.parts;
+    begin_is = r.begin_is ∙ h.begin_is;
+    room_is = ap (λ (z : ℕ). length h.before + z) r.room_is ∙ h.room_is;
+    file = by told h.file;
+  }
+    where
+      -- before what was lost
+      eq : (then : List ℕ) → o.rest ++ (r.more ++ then) ≡ u.rest ++ then
+      eq then = sym (append_assoc o.rest r.more then) ∙ ap (λ (z : List ℕ). z ++ then) (sym r.rest_is)
+
+      by_lost : (files : Files) (y l : List ℕ) → y ≡ (r.more ++ r.gone) ++ l → (b : Bool) → o.lost ≡ b → Knows o h.before y files
+          → Knows u h.before l files
+      by_lost files y l is true lost k = (
+        k.0,
+        λ whole. absurd (let bad : true ≡ false = sym lost ∙ (r.whole whole).0 in cc),
+        ap files r.name_is ∙ k.2 ∙ ap (λ (z : List ℕ). Some (h.before ++ z))
+            (ap (λ (z : List ℕ). o.rest ++ (z ++ k.0)) (sym (r.none lost)) ∙ eq k.0),
+      )
+      by_lost files y l is false lost k = (
+        r.gone ++ l,
+        λ whole. ap (λ (z : List ℕ). z ++ l) (r.whole whole).1,
+        ap files r.name_is ∙ k.2 ∙ ap (λ (z : List ℕ). Some (h.before ++ z))
+            (ap (λ (z : List ℕ). o.rest ++ z) (k.1 lost ∙ is ∙ append_assoc r.more r.gone l) ∙ eq (r.gone ++ l)),
+      )
+
+      by_left : (files : Files) (y x : Option (List ℕ)) → Took y x (r.more ++ r.gone) → IfSome y (λ l. Knows o h.before l files)
+          → IfSome x (λ l. Knows u h.before l files)
+      by_left files y None took k = tt
+      by_left files None (Some l) took k = absurd (let bad : None ≡ Some ((r.more ++ r.gone) ++ l) = took in cc)
+      by_left files (Some y) (Some l) took k = by_lost files y l (same_Some y ((r.more ++ r.gone) ++ l) took) o.lost refl k
+
+      by : (t : Option Files) → IfSome t (λ files. IfSome (left o.feed) (λ l. Knows o h.before l files))
+          → IfSome t (λ files. IfSome (left u.feed) (λ l. Knows u h.before l files))
+      by None k = tt
+      by (Some files) k = by_left files (left o.feed) (left u.feed) r.took k
 
   -- one more part of it was given
   pub open_part : (told : Option Files) (s : Statement) (given : List Work) (o : OpenFile F) (w : Work) (u : OpenFile F)
@@ -102,15 +151,18 @@ module _ {F : Type 0} (left : F → Option (List ℕ)) where
           ∙ sym (append_assoc h.before p.part (u.rest ++ l))
 
       by_left : (files : Files) (y x : Option (List ℕ)) → Took y x p.more
-          → IfSome y (λ l. files o.name ≡ Some (h.before ++ (o.rest ++ l)))
-          → IfSome x (λ l. files u.name ≡ Some ((h.before ++ p.part) ++ (u.rest ++ l)))
+          → IfSome y (λ l. Knows o h.before l files) → IfSome x (λ l. Knows u (h.before ++ p.part) l files)
       by_left files y None took k = tt
       by_left files None (Some l) took k = absurd (let bad : None ≡ Some (p.more ++ l) = took in cc)
-      by_left files (Some y) (Some l) took k =
-          ap files p.name_is ∙ k ∙ ap (λ (z : List ℕ). Some z) (eq y l (same_Some y (p.more ++ l) took))
+      by_left files (Some y) (Some l) took k = (
+        l,
+        λ _. refl,
+        ap files p.name_is ∙ k.2
+            ∙ ap (λ (z : List ℕ). Some z) (eq k.0 l (k.1 p.whole.0 ∙ same_Some y (p.more ++ l) took)),
+      )
 
-      by : (t : Option Files) → IfSome t (λ files. IfSome (left o.feed) (λ l. files o.name ≡ Some (h.before ++ (o.rest ++ l))))
-          → IfSome t (λ files. IfSome (left u.feed) (λ l. files u.name ≡ Some ((h.before ++ p.part) ++ (u.rest ++ l))))
+      by : (t : Option Files) → IfSome t (λ files. IfSome (left o.feed) (λ l. Knows o h.before l files))
+          → IfSome t (λ files. IfSome (left u.feed) (λ l. Knows u (h.before ++ p.part) l files))
       by None k = tt
       by (Some files) k = by_left files (left o.feed) (left u.feed) p.took k
 
@@ -136,13 +188,11 @@ module _ {F : Type 0} (left : F → Option (List ℕ)) where
         (all.0, subst (λ (z : Statement). IsDone new z (given ++ all.0)) (sym h.is) (h.before ++ rest, all.1, file))
 
     -- what the file has, where it is still told
-    file_has : (files : Files) → new ≡ Some files → (l : List ℕ) → left o.feed ≡ Some l
-        → files o.name ≡ Some (h.before ++ (o.rest ++ l))
+    file_has : (files : Files) → new ≡ Some files → (l : List ℕ) → left o.feed ≡ Some l → Knows o h.before l files
     file_has files new_is l left_is =
         let was : told ≡ Some files = subst (λ (z : Option Files). SameFiles told z) new_is still in
-        let file = subst (λ (z : Option Files). IfSome z (λ f. IfSome (left o.feed) (λ k. f o.name ≡ Some (h.before ++ (o.rest ++ k)))))
-        was h.file in
-        subst (λ (z : Option (List ℕ)). IfSome z (λ k. files o.name ≡ Some (h.before ++ (o.rest ++ k)))) left_is file
+        let file = subst (λ (z : Option Files). IfSome z (λ f. IfSome (left o.feed) (λ k. Knows o h.before k f))) was h.file in
+        subst (λ (z : Option (List ℕ)). IfSome z (λ k. Knows o h.before k files)) left_is file
 
     -- all that was left was given
     pub open_rest : (w : Work) (u : OpenFile F) → IsRestOf left o w u → (IsSome new → IsSome (left u.feed))
@@ -154,7 +204,8 @@ module _ {F : Type 0} (left : F → Option (List ℕ)) where
         known files new_is k = ends_with (o.rest ++ k.0) r.bytes w k.2 r.is
             (λ long. r.stuck (omega (ap length k.2, length-take longest_read (o.rest ++ k.0), long, arith)))
             (subst (λ (z : Option Files). IfSome z (λ f. f o.name ≡ Some (h.before ++ (o.rest ++ k.0)))) (sym new_is)
-            (file_has files new_is k.0 k.1))
+            (let has = file_has files new_is k.0 k.1 in
+            has.2 ∙ ap (λ (z : List ℕ). Some (h.before ++ (o.rest ++ z))) (has.1 r.whole)))
 
         by : (n : Option Files) → new ≡ n → (x : Option (List ℕ)) → left u.feed ≡ x
             → IfSome x (λ _. (l : List ℕ) × (left o.feed ≡ Some l) × (r.bytes ≡ take longest_read (o.rest ++ l)))
@@ -178,9 +229,10 @@ module _ {F : Type 0} (left : F → Option (List ℕ)) where
             let told_now : IsSome (left o.feed) = feed (subst IsSome (sym new_is) refl) in
             let bad : IsSome {T = List ℕ} None = subst IsSome left_is told_now in
             cc)
-        by (Some files) new_is (Some l) left_is = ends_somehow (o.rest ++ l)
-            (subst (λ (z : Option Files). IfSome z (λ f. f o.name ≡ Some (h.before ++ (o.rest ++ l)))) (sym new_is)
-            (file_has files new_is l left_is))
+        by (Some files) new_is (Some l) left_is =
+            let has = file_has files new_is l left_is in
+            ends_somehow (o.rest ++ has.0)
+            (subst (λ (z : Option Files). IfSome z (λ f. f o.name ≡ Some (h.before ++ (o.rest ++ has.0)))) (sym new_is) has.2)
 
   -- ---- statements that are to be given
 
@@ -277,6 +329,24 @@ module _ {F : Type 0} (left : F → Option (List ℕ)) where
           are = h.are;
           goes = (subst (λ (z : List Work). IsOpen told left s z o) (sym goes.0) goes.1.0.0, goes.1.1);
         }
+
+    -- more of it came
+    pub queue_on : (o u : OpenFile F) (todos : List (Todo F)) → HasQueue told left ss given (Some o) todos → ReadsOn left o u
+        → HasQueue told left ss given (Some u) todos
+    queue_on o u todos h r = record {
+      done = h.done;
+      next = h.next;
+      first = h.first;
+      then = h.then;
+      statements = h.statements;
+      works = h.works;
+      are = h.are;
+      goes = by h.next h.goes;
+    }
+      where
+        by : (next : List Statement) → GoesOn told left (Some o) next h.then todos → GoesOn told left (Some u) next h.then todos
+        by [] goes = elim goes [ ]
+        by (s ∷ next) goes = (open_on told s h.then o u goes.0 r, goes.1)
 
     -- a part of it was given
     pub queue_part : (o u : OpenFile F) (w : Work) (todos : List (Todo F)) → HasQueue told left ss given (Some o) todos

@@ -1,13 +1,13 @@
 -- What a step of reading a file leaves.
 use Rattle.std.proofs.Common.{◌≡◌, ◌≤◌, ◌<◌, ◌+◌, ℕ, zero, suc, length-append, List, [], ◌∷◌, ◌++◌, append-nil, append_assoc}
-use Rattle.std.proofs.Common.{length, take, refl}
+use Rattle.std.proofs.Common.{length, take, refl, true, false}
 use Rattle.std.proofs.Common.{sym, ap, ◌∙◌, subst, Option, Some, None, arith}
 use Rattle.std.proofs.lemmas.List.{take_all}
 use Rattle.std.proofs.lemmas.Option.{same_Some}
 use Rattle.std.specs.Prelude.{IfSome}
 use Rattle.fish_feed.specs.Parts.{longest_read}
 use Rattle.fish_feed.specs.OpenFiles.{CanRead, GivesPart, IsPartOf, IsRestOf, IsStuck}
-use Rattle.fish_feed.specs.within.OpenFiles.{HasRead, IsCutOff}
+use Rattle.fish_feed.specs.within.OpenFiles.{HasRead, IsCutOff, ReadsOn}
 use Rattle.fish_feed.specs.declared.part.OpenFile.{OpenFile}
 use Rattle.fish_feed.specs.declared.part.Part.{Part}
 use Rattle.fish_lanes.specs.declared.work.Work.{Work}
@@ -46,7 +46,58 @@ can_none faults o u can none feed failed = record {
   failed = λ is. subst (λ (z : _). Rose 0 (faults z)) (sym feed) (can.failed (sym failed ∙ is));
 }
 
+-- to take nothing is to stay the same, or to fall silent
+pub took_none : (x : Option (List ℕ)) → Took x x []
+took_none None = tt
+took_none (Some l) = refl
+
 module _ {F : Type 0} (left : F → Option (List ℕ)) where
+  -- nothing came of a file that stays as it is
+  pub on_none : (o : OpenFile F) → ReadsOn left o o
+  on_none o = record {
+    more = [];
+    gone = [];
+    took = took_none (left o.feed);
+    rest_is = sym (append-nil o.rest);
+    whole = λ whole. (whole, refl);
+    none = λ _. refl;
+    form_is = refl;
+    begin_is = refl;
+    name_is = refl;
+    room_is = refl;
+  }
+
+  -- what was read was read on, and nothing lost
+  pub on_read : (o u : OpenFile F) → HasRead left o u → ReadsOn left o u
+  on_read o u h = record {
+    more = h.more;
+    gone = [];
+    took = subst (λ (z : List ℕ). Took (left o.feed) (left u.feed) z) (sym (append-nil h.more)) h.took;
+    rest_is = h.rest_is;
+    whole = λ _. (h.whole.0, refl);
+    none = λ lost. absurd (let bad : true ≡ false = sym lost ∙ h.whole.0 in cc);
+    form_is = h.form_is;
+    begin_is = h.begin_is;
+    name_is = h.name_is;
+    room_is = h.room_is;
+  }
+
+  -- what was read on after something was read was so since then
+  pub on_after : (o m u : OpenFile F) → HasRead left o m → ReadsOn left m u → ReadsOn left o u
+  on_after o m u h k = record {
+    more = h.more ++ k.more;
+    gone = k.gone;
+    took = subst (λ (z : List ℕ). Took (left o.feed) (left u.feed) z) (sym (append_assoc h.more k.more k.gone))
+        (Took_trans (left o.feed) (left m.feed) (left u.feed) h.more (k.more ++ k.gone) h.took k.took);
+    rest_is = k.rest_is ∙ ap (λ (z : List ℕ). z ++ k.more) h.rest_is ∙ append_assoc o.rest h.more k.more;
+    whole = λ whole. (h.whole.0, (k.whole whole).1);
+    none = λ lost. absurd (let bad : true ≡ false = sym lost ∙ h.whole.0 in cc);
+    form_is = k.form_is ∙ h.form_is;
+    begin_is = k.begin_is ∙ h.begin_is;
+    name_is = k.name_is ∙ h.name_is;
+    room_is = k.room_is ∙ h.room_is;
+  }
+
   pub read_both : (o m u : OpenFile F) → HasRead left o m → HasRead left m u → HasRead left o u
   read_both o m u h k = record {
     more = h.more ++ k.more;
@@ -56,6 +107,7 @@ module _ {F : Type 0} (left : F → Option (List ℕ)) where
     begin_is = k.begin_is ∙ h.begin_is;
     name_is = k.name_is ∙ h.name_is;
     room_is = k.room_is ∙ h.room_is;
+    whole = (h.whole.0, k.whole.1);
   }
 
   -- lines were cut off once bytes had come
@@ -72,6 +124,7 @@ module _ {F : Type 0} (left : F → Option (List ℕ)) where
     begin_is = c.begin_is;
     name_is = c.name_is ∙ h.name_is;
     room_is = c.room_is ∙ h.room_is;
+    whole = (h.whole.0, c.lost_is ∙ h.whole.1);
   }
 
   -- a part was given once bytes had come
@@ -88,6 +141,7 @@ module _ {F : Type 0} (left : F → Option (List ℕ)) where
     begin_is = p.begin_is;
     name_is = p.name_is ∙ h.name_is;
     room_is = p.room_is ∙ h.room_is;
+    whole = (h.whole.0, p.whole.1);
   }
 
   -- or all that was left
@@ -97,6 +151,7 @@ module _ {F : Type 0} (left : F → Option (List ℕ)) where
     few = r.few;
     is = r.is ∙ (λ i. work.Ingest (h.form_is i) (h.begin_is i) (h.name_is i) r.bytes);
     stuck = λ long. subst (λ (z : Form × ℕ). IsStuck z.0 z.1 r.bytes) (λ i. (h.form_is i, h.room_is i)) (r.stuck long);
+    whole = h.whole.0;
     all = by (left u.feed) (left m.feed) h.took r.all;
   }
     where
@@ -135,6 +190,7 @@ module _ {F : Type 0} (left : F → Option (List ℕ)) where
       few = few;
       is = is_here;
       stuck = λ many. absurd (omega (less, many, arith));
+      whole = h.whole.0;
       all = subst (λ (z : F). All (left z)) (sym feed) (by (left m.feed) h.took end);
     }
       where
@@ -155,6 +211,7 @@ module _ {F : Type 0} (left : F → Option (List ℕ)) where
       few = few;
       is = is_here;
       stuck = λ _. subst (λ (z : Form × ℕ). IsStuck z.0 z.1 m.rest) (λ i. (h.form_is i, h.room_is i)) stuck;
+      whole = h.whole.0;
       all = subst (λ (z : F). All (left z)) (sym feed) (by (left m.feed) h.took);
     }
       where

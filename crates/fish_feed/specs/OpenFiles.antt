@@ -25,6 +25,7 @@ pub record IsUnread {F : Type 0} (form : Form) (begin : Begin) (name : List ℕ)
   pub feed_is : o.feed ≡ feed
   pub rest_is : o.rest ≡ []
   pub room_is : o.room ≡ longest_in_parts
+  pub whole : o.lost ≡ false
 
 -- a part of it was given
 abbrev pub IsBegun : {F : Type 0} → OpenFile F → Type 0
@@ -49,6 +50,7 @@ pub record IsPartOf {F : Type 0} (left : F → Option (List ℕ)) (o : OpenFile 
   pub begin_is : u.begin ≡ After
   pub name_is : u.name ≡ o.name
   pub room_is : length part + u.room ≡ o.room
+  pub whole : (o.lost ≡ false) × (u.lost ≡ false)
 
 -- no whole line of these bytes may be given: they have none, or too many were given before
 abbrev pub IsStuck : Form → ℕ → List ℕ → Type 0
@@ -61,6 +63,7 @@ pub record IsRestOf {F : Type 0} (left : F → Option (List ℕ)) (o : OpenFile 
   pub few : length bytes ≤ longest_read
   pub is : w ≡ work.Ingest o.form o.begin o.name bytes
   pub stuck : longest_file < length bytes → IsStuck o.form o.room bytes
+  pub whole : o.lost ≡ false
   pub all : IfSome (left u.feed) (λ _. (l : List ℕ) × (left o.feed ≡ Some l)
       × (bytes ≡ take longest_read (o.rest ++ l)))
 

@@ -22,7 +22,7 @@ use Rattle.fish_script.specs.declared.script.Statement.TheVariants as does
 
 -- ---- statements that are to be given
 
--- this much was given of the file that a statement names, and the rest is to come
+-- this much was given of the file that a statement names; what came and what is left, but for lost bytes, is to come
 pub record IsOpen {F : Type 0} (told : Option Files) (left : F → Option (List ℕ)) (s : Statement) (given : List Work)
     (o : OpenFile F) : Type 0 where
   pub header : Bool
@@ -31,15 +31,15 @@ pub record IsOpen {F : Type 0} (told : Option Files) (left : F → Option (List 
   pub parts : AreParts o.form (Start header) o.name before given []
   pub begin_is : o.begin ≡ begin_after (Start header) given
   pub room_is : length before + o.room ≡ longest_in_parts
-  pub file : IfSome told (λ files. IfSome (left o.feed) (λ l. files o.name ≡ Some (before ++ (o.rest ++ l))))
+  pub file : IfSome told (λ files. IfSome (left o.feed) (λ l. (then : List ℕ) × (o.lost ≡ false → then ≡ l)
+      × (files o.name ≡ Some (before ++ (o.rest ++ then)))))
 
 -- the statement is to be given
 abbrev pub IsDue : {F : Type 0} → Option Files → (F → Option (List ℕ)) → Statement → Todo F → Type 0
 IsDue told left s (todo.Work w) = IsWorkOf s w
 IsDue told left s (todo.File o) = IsOpen told left s [] o × IfSome told (λ files. IsSome (left o.feed))
 
--- the first of these statements has the file that is being read, if one is, of which so much was given; the others are
--- to be given
+-- the first statement has the file that is being read, if one is, of which so much was given; the others are to come
 abbrev pub GoesOn
     : {F : Type 0} → Option Files → (F → Option (List ℕ)) → Option (OpenFile F) → List Statement → List Work
     → List (Todo F) → Type 0

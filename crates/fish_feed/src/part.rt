@@ -1,10 +1,10 @@
 //! A file that is read in parts: each ends with a line, and the next one is read when it is wanted.
 
-ghost use Rattle.std.specs.Prelude.{◌≡◌, ◌<◌, ◌≤◌, [], None, length, take, true, false};
+ghost use Rattle.std.specs.Prelude.{◌≡◌, ◌<◌, ◌≤◌, ◌+◌, [], None, length, take, true, false};
 ghost use Rattle.std.specs.Prelude.{IfOk, IfSome, IsErrOf, IsSome, OnErr, OnOk};
 ghost use Rattle.fish_feed.specs.Parts.{EndsLine, HasNoEnd, longest_read};
 ghost use Rattle.fish_feed.specs.OpenFiles.{CanRead, GivesPart, IsStuck, IsUnread};
-ghost use Rattle.fish_feed.specs.within.OpenFiles.{HasRead, IsCutOff, IsFull};
+ghost use Rattle.fish_feed.specs.within.OpenFiles.{HasRead, IsCutOff, IsFull, ReadsOn};
 ghost use Rattle.fish_lanes.specs.declared.work.Work.TheVariants as work;
 ghost use Rattle.fish_outside.specs.Causes.{Rose, counted_on};
 ghost use Rattle.fish_outside.specs.Content.{IsAtEnd, SameFiles};
@@ -12,7 +12,7 @@ ghost use Rattle.fish_outside.specs.declared.fault.FeedRefusal.TheVariants as re
 
 use fish_lanes::Work;
 use fish_lines::Begin;
-use fish_outside::{CHUNK, FeedRefusal, Host, Source, read_more, zeros};
+use fish_outside::{CHUNK, FeedRefusal, Host, Source, zeros};
 use fish_value::{Bytes, Form, Text};
 use memchr::memrchr;
 use std::alloc::{AllocError, Global};
@@ -45,6 +45,8 @@ pub struct OpenFile<F: Source> {
     pub room: u64,
     /// Whether a read failed.
     pub failed: bool,
+    /// Whether bytes that came were lost, since memory ran out.
+    pub lost: bool,
 }
 
 /// A part of a file, or the rest of it.
@@ -74,6 +76,7 @@ pub fn open_file<F: Source>(
         rest: Bytes::new(alloc),
         room: LONGEST_IN_PARTS,
         failed: false,
+        lost: false,
     }
 }
 
@@ -109,7 +112,7 @@ fn read_until<F: Source>(
     alloc: Global,
     file: &mut OpenFile<F>,
     wanted: usize,
-) -> Result<Option<Part>, FeedRefusal>
+) -> Result<Option<Part>, AllocError>
     requires can { CanRead F.faults file.old }
     requires wanted { wanted ≤ longest_read }
     ensures some { IfOk result (λ found. IfSome found (λ p. GivesPart F.left file.old p file.new)) }
@@ -118,7 +121,6 @@ fn read_until<F: Source>(
         × IsStuck file.new.form file.new.room file.new.rest) }
     ensures can { OnOk result (CanRead F.faults file.new) }
     ensures content { IsSome (F.left file.new.feed) → IsSome (F.left file.old.feed) }
-    ensures cause { IsErrOf result refusal.Failed → Rose 0 (F.faults file.new.feed) }
 {
     if read_ahead(alloc, file, wanted)? {
         let work = rest_of(alloc, file)?;
@@ -130,41 +132,84 @@ fn read_until<F: Source>(
     }
 }
 
-/// Reads until so many bytes of a file have come, and says whether it has no more. A first read that fails only ends
-/// that.
+/// Reads until so many bytes of a file have come, and says whether it has no more. A read that fails only ends that.
 fn read_ahead<F: Source>(
     alloc: Global,
     file: &mut OpenFile<F>,
     wanted: usize,
-) -> Result<bool, FeedRefusal>
+) -> Result<bool, AllocError>
     requires can { CanRead F.faults file.old }
     requires wanted { wanted ≤ longest_read }
     ensures read { OnOk result (HasRead F.left file.old file.new) }
+    ensures on { ReadsOn F.left file.old file.new }
     ensures end { IfOk result (λ end. end ≡ true → IsAtEnd (F.left file.new.feed)
         × (length file.new.rest < wanted)) }
     ensures full { IfOk result (λ end. end ≡ false → IsFull wanted file.new) }
-    ensures can { OnOk result (CanRead F.faults file.new) }
-    ensures content { IsSome (F.left file.new.feed) → IsSome (F.left file.old.feed) }
-    ensures cause { IsErrOf result refusal.Failed → Rose 0 (F.faults file.new.feed) }
+    ensures can { CanRead F.faults file.new }
 {
+    if file.lost {
+        return Err(AllocError);
+    }
     if file.failed {
-        return Err(FeedRefusal::Failed);
+        return Ok(false);
     }
     let mut buffer = zeros(alloc, CHUNK)?;
     while file.rest.len() < wanted {
         let room = CHUNK.min(wanted - file.rest.len());
         let (part, _) = buffer.split_at_mut(room);
-        match read_more(&mut file.feed, part, &mut file.rest) {
-            Ok(0) => return Ok(true),
-            Ok(_) => {}
-            Err(FeedRefusal::OutOfMemory) => return Err(FeedRefusal::OutOfMemory),
-            Err(FeedRefusal::Failed) => {
-                file.failed = true;
-                return Ok(false);
-            }
+        match read_some(file, part)? {
+            Some(0) => return Ok(true),
+            Some(_) => {}
+            None => return Ok(false),
         }
     }
     Ok(false)
+}
+
+/// Reads into a buffer, and puts what came after the bytes of the file that came before: how many, or nothing where the
+/// read failed.
+fn read_some<F: Source>(
+    file: &mut OpenFile<F>,
+    part: &mut [u8],
+) -> Result<Option<usize>, AllocError>
+    requires whole { file.old.lost ≡ false }
+    ensures read { OnOk result (HasRead F.left file.old file.new) }
+    ensures on { ReadsOn F.left file.old file.new }
+    ensures some { IfOk result (λ found. IfSome found (λ n. (n ≤ length part.old)
+        × (length file.new.rest ≡ length file.old.rest + n) × (file.new.failed ≡ file.old.failed)
+        × (0 < length part.old → n ≡ 0 → IsAtEnd (F.left file.new.feed)))) }
+    ensures none { IfOk result (λ found. found ≡ None → (file.new.rest ≡ file.old.rest) × (file.new.failed ≡ true)
+        × Rose 0 (F.faults file.new.feed)) }
+    ensures err { OnErr result ((file.new.rest ≡ file.old.rest) × (file.new.failed ≡ file.old.failed)) }
+{
+    match file.feed.read(part) {
+        Ok(count) => {
+            let (taken, _) = part.split_at(count);
+            match file.rest.append(taken) {
+                Ok(()) => Ok(Some(count)),
+                Err(want) => {
+                    file.lost = true;
+                    Err(want)
+                }
+            }
+        }
+        Err(_) => {
+            file.failed = true;
+            Ok(None)
+        }
+    }
+}
+
+/// Reads on in a file, until as much of it has come as a lane is given at once. A failure shows once that is given.
+pub(crate) fn read_on<F: Source>(alloc: Global, file: &mut OpenFile<F>)
+    requires can { CanRead F.faults file.old }
+    ensures on { ReadsOn F.left file.old file.new }
+    ensures can { CanRead F.faults file.new }
+{
+    match read_ahead(alloc, file, AT_ONCE) {
+        Ok(_) => {}
+        Err(_) => {}
+    }
 }
 
 /// Cuts off the whole lines of the bytes that came, where the file is in JSON and there are any.

@@ -3,22 +3,24 @@
 ghost use Rattle.std.specs.Prelude.{◌≡◌, ◌+◌, ◌++◌, ◌∷◌, ◌<◌, ◌≤◌, ℕ, List, Option, [], Bool, true, false, None};
 ghost use Rattle.std.specs.Prelude.{IfErr, IfOk, IfSome};
 ghost use Rattle.std.specs.Prelude.{IsSome, OnErr, OnOk, length, option_to_list};
-ghost use Rattle.fish_feed.specs.OpenFiles.{IsBegun};
+ghost use Rattle.fish_feed.specs.OpenFiles.{CanRead, IsBegun};
 ghost use Rattle.fish_feed.specs.Parts.{longest_read};
 ghost use Rattle.fish_feed.specs.Queues.{AreFit, AreIdle, GoesDown, IsFit, IsGiven, IsQueue, LanesMayDo};
 ghost use Rattle.fish_feed.specs.Queues.{MayDo, MayDoAll, MayEnd};
 ghost use Rattle.fish_feed.specs.Queues.{both, left_of, left_of_all, works_of};
+ghost use Rattle.fish_feed.specs.within.Queues.{AreReadOn, IsReadOn};
 ghost use Rattle.fish_outside.specs.Reading.{HasReadCause};
 ghost use Rattle.fish_feed.specs.Works.{AreAnew, AreDone, AreFirstOf, IsAnew, Pairs, StoresNone, Triples, bytes_in};
 ghost use Rattle.fish_lanes.specs.declared.work.Work.{Work as Does};
 ghost use Rattle.fish_outside.specs.Content.{Files, SameFiles};
 ghost use Rattle.fish_script.specs.declared.script.Statement.{Statement};
 
-use crate::part::{AT_ONCE, OpenFile, Part, close_file, read_part};
+use crate::part::{AT_ONCE, OpenFile, Part, close_file, read_on, read_part};
 use fish_lanes::{Lane, Work};
 use fish_outside::{FeedRefusal, Host, Source};
 use std::alloc::Global;
 use std::collections::VecDeque;
+use std::thread::{Threads, for_each_mut};
 
 /// A statement that is to be given.
 #[derive(Drop)]
@@ -38,8 +40,85 @@ pub struct Queue<F: Source> {
     pub todos: VecDeque<Todo<F>>,
 }
 
-/// Gives lanes that have no statement their next ones.
-pub fn give<H: Host>(
+/// Gives lanes that have no statement their next ones. The files that are being read are read at once, each on a thread
+/// of its own.
+pub fn give<R: Threads + Sync, H: Host>(
+    rt: &R,
+    alloc: Global,
+    host: &mut H,
+    queues: &mut [Queue<H::Feed>],
+    lanes: &mut [Lane],
+) -> Result<(), FeedRefusal>
+where
+    H::Feed: Drop,
+    requires many { length lanes.old ≡ length queues.old }
+    requires empty { AreIdle lanes.old }
+    requires fit { (first : Bool) × AreFit H.Feed.faults first queues.old }
+    ensures given { OnOk result ((texts : List (List Statement)) (given : List (List Does))
+        → Triples (IsQueue (H.files host.old) H.Feed.left) texts given queues.old
+        → Triples (IsQueue (H.files host.new) H.Feed.left) texts (both given (works_of lanes.new)) queues.new) }
+    ensures failed { OnErr result ((texts : List (List Statement)) (given : List (List Does))
+        → Triples (IsQueue (H.files host.old) H.Feed.left) texts given queues.old
+        → Triples (MayEnd (H.files host.new) H.Feed.left) texts given queues.new) }
+    ensures lanes { Pairs IsGiven lanes.old lanes.new }
+    ensures fit { (first : Bool) → AreFit H.Feed.faults first queues.old
+        → AreFit H.Feed.faults first queues.new × LanesMayDo first lanes.new }
+    ensures less { OnOk result (GoesDown (left_of_all queues.old) (left_of_all queues.new)) }
+    ensures content { SameFiles (H.files host.old) (H.files host.new) }
+    ensures cause { HasReadCause (H.faults host.old) (H.faults host.new) result }
+{
+    read_all_on(rt, alloc, queues);
+    give_all(alloc, host, queues, lanes)
+}
+
+/// Reads on in the files that are being read, at once where there are several.
+fn read_all_on<R: Threads + Sync, F: Source + Send + Drop>(
+    rt: &R,
+    alloc: Global,
+    queues: &mut [Queue<F>],
+)
+    requires fit { (first : Bool) × AreFit F.faults first queues.old }
+    ensures on { AreReadOn F.left F.faults queues.old queues.new }
+{
+    let threads = queues.len();
+    if threads < 2 || !is_any_open(queues) {
+        return;
+    }
+    for_each_mut(
+        rt,
+        queues,
+        threads,
+        &|_, queue| { read_queue_on(alloc, queue) },
+    );
+}
+
+/// Whether a file is being read.
+fn is_any_open<F: Source>(queues: &[Queue<F>]) -> bool {
+    for queue in queues {
+        if queue.current.is_some() {
+            return true;
+        }
+    }
+    false
+}
+
+/// Reads on in the file that is being read, if one is.
+fn read_queue_on<F: Source + Drop>(alloc: Global, queue: &mut Queue<F>)
+    requires can { IfSome queue.old.current (CanRead F.faults) }
+    ensures on { IsReadOn F.left F.faults queue.old queue.new }
+{
+    match queue.current.take() {
+        Some(open) => {
+            let mut file = open;
+            read_on(alloc, &mut file);
+            queue.current = Some(file);
+        }
+        None => {}
+    }
+}
+
+/// Gives lanes that have no statement their next ones, one lane after the other.
+fn give_all<H: Host>(
     alloc: Global,
     host: &mut H,
     queues: &mut [Queue<H::Feed>],
@@ -70,7 +149,7 @@ where
         unreachable!()
     };
     match give_one(alloc, host, queue, lane) {
-        Ok(()) => give(alloc, host, other_queues, other_lanes),
+        Ok(()) => give_all(alloc, host, other_queues, other_lanes),
         Err(refusal) => Err(refusal),
     }
 }

@@ -180,7 +180,7 @@ where
         bound: None,
     };
     loop {
-        match give(alloc, host, queues, lanes) {
+        match give(rt, alloc, host, queues, lanes) {
             Ok(()) => {}
             Err(refusal) => {
                 return Err(Stopped {

@@ -1,7 +1,7 @@
 -- A file that is being read, and what a step of that leaves. Feeds are of a type F; left says which bytes one still
 -- gives, and faults how often it failed. What private clauses need of it.
 use Rattle.std.specs.Prelude.{Option, length}
-use Rattle.std.specs.Prelude.{ℕ, ◌≡◌, ◌+◌, ◌≤◌, List, ◌++◌, false}
+use Rattle.std.specs.Prelude.{ℕ, ◌≡◌, ◌+◌, ◌≤◌, List, [], ◌++◌, true, false}
 use Rattle.fish_feed.specs.Parts.{EndsLine}
 use Rattle.fish_feed.specs.declared.part.OpenFile.{OpenFile}
 use Rattle.fish_lanes.specs.declared.work.Work.TheVariants as work
@@ -22,6 +22,7 @@ pub record IsCutOff {F : Type 0} (o u : OpenFile F) (w : Work) : Type 0 where
   pub name_is : u.name ≡ o.name
   pub feed_is : u.feed ≡ o.feed
   pub failed_is : u.failed ≡ o.failed
+  pub lost_is : u.lost ≡ o.lost
   pub room_is : length part + u.room ≡ o.room
 
 -- these bytes came, and are kept after the others
@@ -29,6 +30,20 @@ pub record HasRead {F : Type 0} (left : F → Option (List ℕ)) (o u : OpenFile
   pub more : List ℕ
   pub took : Took (left o.feed) (left u.feed) more
   pub rest_is : u.rest ≡ o.rest ++ more
+  pub form_is : u.form ≡ o.form
+  pub begin_is : u.begin ≡ o.begin
+  pub name_is : u.name ≡ o.name
+  pub room_is : u.room ≡ o.room
+  pub whole : (o.lost ≡ false) × (u.lost ≡ false)
+
+-- these bytes came, and are kept after the others, and then some that were lost; none are kept after a loss
+pub record ReadsOn {F : Type 0} (left : F → Option (List ℕ)) (o u : OpenFile F) : Type 0 where
+  pub more : List ℕ
+  pub gone : List ℕ
+  pub took : Took (left o.feed) (left u.feed) (more ++ gone)
+  pub rest_is : u.rest ≡ o.rest ++ more
+  pub whole : u.lost ≡ false → (o.lost ≡ false) × (gone ≡ [])
+  pub none : o.lost ≡ true → more ≡ []
   pub form_is : u.form ≡ o.form
   pub begin_is : u.begin ≡ o.begin
   pub name_is : u.name ≡ o.name

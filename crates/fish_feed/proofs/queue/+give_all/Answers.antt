@@ -6,7 +6,7 @@ use Rattle.fish_feed.specs.Queues.{AreFit, AreIdle, IsFit, IsGiven, IsQueue, bot
 use Rattle.fish_feed.specs.Works.{Pairs, Triples}
 use Rattle.fish_feed.specs.declared.queue.Queue.{Queue}
 use Rattle.fish_lanes.specs.declared.lane.Lane.{Lane}
-use Rattle.fish_feed.proofs.queue.+give.Goals as goal
+use Rattle.fish_feed.proofs.queue.+give_all.Goals as goal
 
 pub returns-in_default-clause-given : goal.returns-in_default-clause-given
 returns-in_default-clause-given g t c = λ texts given h.
@@ -22,30 +22,30 @@ returns-in-Ok-clause-given g t c =
     let left = g.H.Feed.Source.left in
     let old = g.H.Host.files c.args.host.now in
     let mid = g.H.Host.files c.give_one.new.host in
-    let new = g.H.Host.files c.give.new.host in
+    let new = g.H.Host.files c.give_all.new.host in
     let q = c.in-Some.queue.now in
     let qs = c.in-Some.other_queues.now in
     let all : c.args.queues.now ≡ q ∷ qs = search rules in
-    on_ok_weaker c.give.result
-    (λ others texts given h. given_all left old mid new c.give_one.ensures.content c.give.ensures.content q c.give_one.new.queue qs
-    c.give.new.queues c.give_one.new.lane c.give.new.lanes c.in-Ok.ensures.given others texts given
+    on_ok_weaker c.give_all.result
+    (λ others texts given h. given_all left old mid new c.give_one.ensures.content c.give_all.ensures.content q c.give_one.new.queue qs
+    c.give_all.new.queues c.give_one.new.lane c.give_all.new.lanes c.in-Ok.ensures.given others texts given
     (subst (λ (z : List (Queue g.row.H-Feed.Denot)). Triples (IsQueue old left) texts given z) all h))
-    c.give.ensures.given
+    c.give_all.ensures.given
 
 pub returns-in-Ok-clause-failed : goal.returns-in-Ok-clause-failed
 returns-in-Ok-clause-failed g t c =
     let left = g.H.Feed.Source.left in
     let old = g.H.Host.files c.args.host.now in
     let mid = g.H.Host.files c.give_one.new.host in
-    let new = g.H.Host.files c.give.new.host in
+    let new = g.H.Host.files c.give_all.new.host in
     let q = c.in-Some.queue.now in
     let qs = c.in-Some.other_queues.now in
     let all : c.args.queues.now ≡ q ∷ qs = search rules in
-    on_err_weaker c.give.result
-    (λ others texts given h. failed_all left old mid new c.give_one.ensures.content c.give.ensures.content q c.give_one.new.queue qs
-    c.give.new.queues c.give_one.new.lane c.in-Ok.ensures.given others texts given
+    on_err_weaker c.give_all.result
+    (λ others texts given h. failed_all left old mid new c.give_one.ensures.content c.give_all.ensures.content q c.give_one.new.queue qs
+    c.give_all.new.queues c.give_one.new.lane c.in-Ok.ensures.given others texts given
     (subst (λ (z : List (Queue g.row.H-Feed.Denot)). Triples (IsQueue old left) texts given z) all h))
-    c.give.ensures.failed
+    c.give_all.ensures.failed
 
 pub returns-in-Ok-clause-fit : goal.returns-in-Ok-clause-fit
 returns-in-Ok-clause-fit g t c = λ first h.
@@ -56,13 +56,14 @@ returns-in-Ok-clause-fit g t c = λ first h.
     let fit : IsFit faults first q × AreFit faults false qs =
     subst (λ (z : List (Queue g.row.H-Feed.Denot)). AreFit faults first z) all h in
     let one = c.give_one.ensures.fit first fit.0 in
-    let more = c.give.ensures.fit false fit.1 in
+    let more = c.give_all.ensures.fit false fit.1 in
     ((one.0, more.0), (one.1, more.1))
 
 pub returns-in-Ok-clause-cause : goal.returns-in-Ok-clause-cause
 returns-in-Ok-clause-cause g t c =
-    cause_after (g.H.Host.faults c.args.host.now) (g.H.Host.faults c.give_one.new.host) (g.H.Host.faults c.give.new.host) c.give.result
-    c.give_one.ensures.cause.later c.give.ensures.cause
+    cause_after (g.H.Host.faults c.args.host.now) (g.H.Host.faults c.give_one.new.host) (g.H.Host.faults c.give_all.new.host)
+    c.give_all.result
+    c.give_one.ensures.cause.later c.give_all.ensures.cause
 
 pub returns-in-Err-clause-failed : goal.returns-in-Err-clause-failed
 returns-in-Err-clause-failed g t c = λ texts given h.
