@@ -4,7 +4,7 @@ use Rattle.std.proofs.Common.{length, get_or, inl, inr}
 use Rattle.std.proofs.Common.{append-nil, append_assoc, refl, sym, ap, ◌∙◌, subst, arith}
 use Rattle.std.specs.Prelude.{Err, IfSome, IsErrOf, IsSome, Result}
 use Rattle.fish_feed.proofs.Queues.{dones_later, queue_end, queue_later, queue_none}
-use Rattle.fish_feed.specs.Queues.{AreIdle, HasQueue, IsGiven, IsQueue, LanesMayDo, MayDoAll, MayEnd, both}
+use Rattle.fish_feed.specs.Queues.{AreIdle, GoesDown, HasQueue, IsGiven, IsQueue, LanesMayDo, MayDoAll, MayEnd, both}
 use Rattle.fish_feed.specs.Queues.{current_left, left_of, left_of_all, todos_left, works_of}
 use Rattle.fish_outside.specs.Reading.{HasReadCause}
 use Rattle.fish_feed.specs.Parts.{longest_given}
@@ -191,6 +191,17 @@ pub left_none : {F : Type 0} (c : Option (OpenFile F)) (todos : List (Todo F)) �
 left_none None [] none few = refl
 left_none None (t ∷ todos) none few = absurd (omega (few, arith))
 left_none (Some o) todos none few = absurd cc
+
+-- where two go down, so does their sum
+pub both_down : (a c b d : ℕ) → GoesDown a c → GoesDown b d → GoesDown (a + b) (c + d)
+both_down zero c b d h k = record {
+  down = (let one = h.down in let two = k.down in omega (one, two, arith));
+  falls = λ some. (let one = h.down in let two = k.falls (omega (some, arith)) in omega (one, two, arith));
+}
+both_down (suc a) c b d h k = record {
+  down = (let one = h.down in let two = k.down in omega (one, two, arith));
+  falls = λ some. (let one = h.falls (omega arith) in let two = k.down in omega (one, two, arith));
+}
 
 -- ---- lanes
 

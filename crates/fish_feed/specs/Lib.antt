@@ -1,3 +1,4 @@
+pub mod Giving
 pub mod OpenFiles
 pub mod Parts
 pub mod Queues

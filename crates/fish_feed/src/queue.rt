@@ -3,11 +3,11 @@
 ghost use Rattle.std.specs.Prelude.{◌≡◌, ◌+◌, ◌++◌, ◌∷◌, ◌<◌, ◌≤◌, ℕ, List, Option, [], Bool, true, false, None};
 ghost use Rattle.std.specs.Prelude.{IfErr, IfOk, IfSome};
 ghost use Rattle.std.specs.Prelude.{IsSome, OnErr, OnOk, length, option_to_list};
+ghost use Rattle.fish_feed.specs.Giving.{Gives};
 ghost use Rattle.fish_feed.specs.OpenFiles.{CanRead, IsBegun};
 ghost use Rattle.fish_feed.specs.Parts.{longest_read};
-ghost use Rattle.fish_feed.specs.Queues.{AreFit, AreIdle, GoesDown, IsFit, IsGiven, IsQueue, LanesMayDo};
-ghost use Rattle.fish_feed.specs.Queues.{MayDo, MayDoAll, MayEnd};
-ghost use Rattle.fish_feed.specs.Queues.{both, left_of, left_of_all, works_of};
+ghost use Rattle.fish_feed.specs.Queues.{AreFit, AreIdle, GoesDown, IsFit, IsGiven, IsQueue, MayDo, MayDoAll, MayEnd};
+ghost use Rattle.fish_feed.specs.Queues.{left_of, left_of_all};
 ghost use Rattle.fish_feed.specs.within.Queues.{AreReadOn, IsReadOn};
 ghost use Rattle.fish_outside.specs.Reading.{HasReadCause};
 ghost use Rattle.fish_feed.specs.Works.{AreAnew, AreDone, AreFirstOf, IsAnew, Pairs, StoresNone, Triples, bytes_in};
@@ -54,16 +54,8 @@ where
     requires many { length lanes.old ≡ length queues.old }
     requires empty { AreIdle lanes.old }
     requires fit { (first : Bool) × AreFit H.Feed.faults first queues.old }
-    ensures given { OnOk result ((texts : List (List Statement)) (given : List (List Does))
-        → Triples (IsQueue (H.files host.old) H.Feed.left) texts given queues.old
-        → Triples (IsQueue (H.files host.new) H.Feed.left) texts (both given (works_of lanes.new)) queues.new) }
-    ensures failed { OnErr result ((texts : List (List Statement)) (given : List (List Does))
-        → Triples (IsQueue (H.files host.old) H.Feed.left) texts given queues.old
-        → Triples (MayEnd (H.files host.new) H.Feed.left) texts given queues.new) }
-    ensures lanes { Pairs IsGiven lanes.old lanes.new }
-    ensures fit { (first : Bool) → AreFit H.Feed.faults first queues.old
-        → AreFit H.Feed.faults first queues.new × LanesMayDo first lanes.new }
-    ensures less { OnOk result (GoesDown (left_of_all queues.old) (left_of_all queues.new)) }
+    ensures gives { Gives H.Feed.left H.Feed.faults (H.files host.old) (H.files host.new) queues.old queues.new
+        lanes.old lanes.new result }
     ensures content { SameFiles (H.files host.old) (H.files host.new) }
     ensures cause { HasReadCause (H.faults host.old) (H.faults host.new) result }
 {
@@ -129,16 +121,8 @@ where
     requires many { length lanes.old ≡ length queues.old }
     requires empty { AreIdle lanes.old }
     requires fit { (first : Bool) × AreFit H.Feed.faults first queues.old }
-    ensures given { OnOk result ((texts : List (List Statement)) (given : List (List Does))
-        → Triples (IsQueue (H.files host.old) H.Feed.left) texts given queues.old
-        → Triples (IsQueue (H.files host.new) H.Feed.left) texts (both given (works_of lanes.new)) queues.new) }
-    ensures failed { OnErr result ((texts : List (List Statement)) (given : List (List Does))
-        → Triples (IsQueue (H.files host.old) H.Feed.left) texts given queues.old
-        → Triples (MayEnd (H.files host.new) H.Feed.left) texts given queues.new) }
-    ensures lanes { Pairs IsGiven lanes.old lanes.new }
-    ensures fit { (first : Bool) → AreFit H.Feed.faults first queues.old
-        → AreFit H.Feed.faults first queues.new × LanesMayDo first lanes.new }
-    ensures less { OnOk result (GoesDown (left_of_all queues.old) (left_of_all queues.new)) }
+    ensures gives { Gives H.Feed.left H.Feed.faults (H.files host.old) (H.files host.new) queues.old queues.new
+        lanes.old lanes.new result }
     ensures content { SameFiles (H.files host.old) (H.files host.new) }
     ensures cause { HasReadCause (H.faults host.old) (H.faults host.new) result }
 {

@@ -15,24 +15,22 @@ give_all-requires-clause-fit g c κs within = (
       c.read_all_on.ensures.on c.requires.fit.1,
 )
 
-pub returns-clause-given : goal.returns-clause-given
-returns-clause-given g c = on_ok_weaker c.give_all.result
-    (λ all texts given h. all texts given (queues_on g.H.Feed.Source.left g.H.Feed.Source.faults (g.H.Host.files c.args.host.now)
-    c.args.queues.now c.read_all_on.new.queues c.read_all_on.ensures.on texts given h))
-    c.give_all.ensures.given
-
-pub returns-clause-failed : goal.returns-clause-failed
-returns-clause-failed g c = on_err_weaker c.give_all.result
-    (λ all texts given h. all texts given (queues_on g.H.Feed.Source.left g.H.Feed.Source.faults (g.H.Host.files c.args.host.now)
-    c.args.queues.now c.read_all_on.new.queues c.read_all_on.ensures.on texts given h))
-    c.give_all.ensures.failed
-
-pub returns-clause-fit : goal.returns-clause-fit
-returns-clause-fit g c = λ first h. c.give_all.ensures.fit first
-    (fit_on g.H.Feed.Source.left g.H.Feed.Source.faults first c.args.queues.now c.read_all_on.new.queues c.read_all_on.ensures.on h)
-
-pub returns-clause-less : goal.returns-clause-less
-returns-clause-less g c = on_ok_weaker c.give_all.result
-    (λ less. subst (λ (n : _). GoesDown n (left_of_all c.give_all.new.queues))
-    (left_on g.H.Feed.Source.left g.H.Feed.Source.faults c.args.queues.now c.read_all_on.new.queues c.read_all_on.ensures.on) less)
-    c.give_all.ensures.less
+pub returns-clause-gives : goal.returns-clause-gives
+returns-clause-gives g c =
+    let left = g.H.Feed.Source.left in
+    let faults = g.H.Feed.Source.faults in
+    let told = g.H.Host.files c.args.host.now in
+    let old = c.args.queues.now in
+    let on = c.read_all_on.ensures.on in
+    let ahead = c.read_all_on.new.queues in
+    let gives = c.give_all.ensures.gives in
+    record {
+      given = on_ok_weaker c.give_all.result
+          (λ all texts given h. all texts given (queues_on left faults told old ahead on texts given h)) gives.given;
+      failed = on_err_weaker c.give_all.result
+          (λ all texts given h. all texts given (queues_on left faults told old ahead on texts given h)) gives.failed;
+      got = gives.got;
+      fit = λ first h. gives.fit first (fit_on left faults first old ahead on h);
+      less = on_ok_weaker c.give_all.result
+          (λ less. subst (λ (n : _). GoesDown n (left_of_all c.give_all.new.queues)) (left_on left faults old ahead on) less) gives.less;
+    }

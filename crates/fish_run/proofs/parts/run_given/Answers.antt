@@ -50,7 +50,7 @@ returns-in-Err-clause-stopped g c =
       given = inv.given;
       stops = stops_unread disk a.disk.now a.store a.from l.disk l.start l.lanes l.said inv.given
           inv.goes c.from.result (subst IsUndamaged (sym why) (feed_well refusal)) inv.go;
-      may = λ texts h. c.in-Err.ensures.failed texts inv.given (inv.queues texts h);
+      may = λ texts h. c.in-Err.ensures.gives.failed texts inv.given (inv.queues texts h);
     }
 
 pub returns-in-Err-clause-content : goal.returns-in-Err-clause-content
@@ -75,8 +75,8 @@ returns-in-Err-clause-disk g c = λ is. absurd (feed_no_disk c.in-Err.refusal (s
 
 pub run_turns-requires-clause-lanes : goal.run_turns-requires-clause-lanes
 run_turns-requires-clause-lanes g c κs within =
-    lanes_given c.loop-refusal.lanes c.give.new.lanes c.loop-refusal.invariant.lanes c.in-Ok.ensures.lanes
-    (c.in-Ok.ensures.fit true c.loop-refusal.invariant.fit).1
+    lanes_given c.loop-refusal.lanes c.give.new.lanes c.loop-refusal.invariant.lanes c.in-Ok.ensures.gives.got
+    (c.in-Ok.ensures.gives.fit true c.loop-refusal.invariant.fit).1
 
 pub returns-in_err-turned-clause-stopped : goal.returns-in_err-turned-clause-stopped
 returns-in_err-turned-clause-stopped g c =
@@ -90,14 +90,14 @@ returns-in_err-turned-clause-stopped g c =
     let given = both inv.given (works_of lanes) in
     let why : Stopped = c.in_err-turned.field-0.0 in
     let ready = ready_given disk a.disk.now a.store a.from l.disk l.start l.lanes l.said
-    inv.given inv.goes lanes c.in-Ok.ensures.lanes in
+    inv.given inv.goes lanes c.in-Ok.ensures.gives.got in
     err_known c.from_residual.result
     (StopsParts disk a.disk.now a.store a.from left (g.H.Host.files a.host.now) a.queues.now
     c.run_turns.new.disk told c.give.new.queues) why c.from_residual.ensures.1
     (record {
       given = given;
       stops = c.in_err-turned.ensures.stopped a.disk.now a.store a.from (works_of lanes) given ready;
-      may = λ texts h. may_all left told texts given c.give.new.queues (c.in-Ok.ensures.given texts inv.given (inv.queues texts h));
+      may = λ texts h. may_all left told texts given c.give.new.queues (c.in-Ok.ensures.gives.given texts inv.given (inv.queues texts h));
     })
 
 pub returns-in_err-turned-clause-content : goal.returns-in_err-turned-clause-content
@@ -117,12 +117,12 @@ returns-then-not-has_more-clause-ended g c =
     let lanes : List Lane = c.give.new.lanes in
     let given = both inv.given (works_of lanes) in
     let ready = ready_given disk a.disk.now a.store a.from l.disk l.start l.lanes l.said
-    inv.given inv.goes lanes c.in-Ok.ensures.lanes in
+    inv.given inv.goes lanes c.in-Ok.ensures.gives.got in
     record {
       given = given;
       rounds = c.in_ok-turned.ensures.on.ends a.disk.now a.store a.from (works_of lanes) given ready;
-      done = λ texts h.
-          c.has_more.ensures.none c.if-not-has_more.true texts given told (c.in-Ok.ensures.given texts inv.given (inv.queues texts h));
+      done = λ texts h. c.has_more.ensures.none c.if-not-has_more.true texts given told
+          (c.in-Ok.ensures.gives.given texts inv.given (inv.queues texts h));
     }
 
 pub returns-then-not-has_more-clause-content : goal.returns-then-not-has_more-clause-content
@@ -142,7 +142,7 @@ loop-refusal-preserved g c =
     let lanes : List Lane = c.give.new.lanes in
     let given : List (List Work) = both inv.given (works_of lanes) in
     let ready = ready_given disk a.disk.now a.store a.from l.disk l.start l.lanes l.said
-    inv.given inv.goes lanes c.in-Ok.ensures.lanes in
+    inv.given inv.goes lanes c.in-Ok.ensures.gives.got in
     record {
       go = on.go;
       lanes = on.lanes_are;
@@ -150,10 +150,10 @@ loop-refusal-preserved g c =
       many = (let ran = on.same in let got = c.give.auto.lanes in let rest = c.give.auto.queues in let was = inv.many in
           omega (ran, got, rest, was, arith));
       said = on.many;
-      fit = (c.in-Ok.ensures.fit true inv.fit).0;
+      fit = (c.in-Ok.ensures.gives.fit true inv.fit).0;
       given = given;
       goes = on.goes a.disk.now a.store a.from (works_of lanes) given ready;
-      queues = λ texts h. c.in-Ok.ensures.given texts inv.given (inv.queues texts h);
+      queues = λ texts h. c.in-Ok.ensures.gives.given texts inv.given (inv.queues texts h);
       told = still_both (g.H.Host.files a.host.now) (g.H.Host.files l.host) (g.H.Host.files c.give.new.host) inv.told
           c.in-Ok.ensures.content;
       later = (let was = inv.later in let now = c.in-Ok.ensures.cause.later in omega (was, now, arith));
