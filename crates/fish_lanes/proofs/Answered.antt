@@ -43,7 +43,7 @@ use Rattle.fish_scan.specs.Laws.{IsSpelled}
 use Rattle.fish_scan.specs.Matching.{Finds}
 use Rattle.fish_scan.specs.Older.{selectable}
 use Rattle.fish_scan.specs.Reach.{IsRange, Rise, end_of}
-use Rattle.fish_scan.specs.Scans.{IsCovered, IsNamed, IsPlan, IsUncovered, first_asked}
+use Rattle.fish_scan.specs.Scans.{IsCovered, IsEmptyAsk, IsNamed, IsPlan, IsUncovered, first_asked}
 use Rattle.fish_scan.specs.declared.ask.Ask.{Ask}
 use Rattle.fish_scan.specs.declared.ask.How.{How}
 use Rattle.fish_scan.specs.declared.ask.How.TheVariants as how
@@ -96,9 +96,10 @@ before_end : (to : Option ℕ) (count n : ℕ) → n < count → ((end : ℕ) �
 before_end None count n less asked = omega arith
 before_end (Some to) count n less asked = (let below = asked to refl in omega arith)
 
-pub asked_range : (v u : View) (k : Span) (ask : Ask) (from to : ℕ) (opens : List ℕ) → IsWithinSpan v u k
+pub asked_range : (v u : View) (k : Span) (ask : Ask) (from to : ℕ) (opens : List ℕ) → IsWithinSpan v u k → ¬ IsEmptyAsk ask
     → IsRange v u (first_asked ask) ask.to from to opens → IsAskedRange k ask from to
-asked_range v u k ask from to opens inside range = record {
+asked_range v u k ask from to opens inside some range = record {
+  some = some;
   begins = range.first_is;
   ends = λ end e. asked_end ask.to range.count to end e range.within;
   near = (let a = range.within in let b = range.claimed in let few = inside.near in omega arith);
@@ -328,7 +329,7 @@ module _ (v u : View) (ask : Ask) (on : Learns v u) (seen : ℕ → Type 0)
       let opened : (n : ℕ) → Among n opens → v.about.number ≤ n =
       λ n o. subst (λ (z : Key). z.number ≤ n) on.about (s.opened n o) in
       record {
-        range = asked_range v u k ask from to opens inside e.range;
+        range = asked_range v u k ask from to opens inside e.asked.some e.range;
         def = a.def;
         means = record {
           rows = rows_of s.known;
@@ -348,7 +349,7 @@ module _ (v u : View) (ask : Ask) (on : Learns v u) (seen : ℕ → Type 0)
   plan_told from to plan version s w m =
       let e = s.explained.planned in
       record {
-        range = asked_range v u k ask from to s.opens inside e.range;
+        range = asked_range v u k ask from to s.opens inside e.asked.some e.range;
         rows = rows_of s.known;
         has = has_rows past v u s.known ask e.position version k inside s.version_is e.asked.named w m;
         position = e.position;
@@ -393,7 +394,15 @@ module _ (v u : View) (ask : Ask) (on : Learns v u) (seen : ℕ → Type 0)
         },
         r.3,
       )
-  refused_told version (cause.EmptyRange from to) s w m = s.refused.0
+  refused_told version (cause.EmptyRange from to) s w m =
+      let named = s.refused.1 in (
+        s.refused.0,
+        (
+          rows_of s.known,
+          has_rows past v u s.known ask named.0 version k inside s.version_is named.1 w m,
+          (named.0, named.1.newest),
+        ),
+      )
   refused_told version (cause.NotCovered from to) s w m =
       let g = gap_told from to s.known s.refused.1 w m in
       (s.refused.0, g.0, g.1, g.2, g.3)

@@ -19,7 +19,7 @@ use Rattle.fish_rule.specs.Views.{Among}
 use Rattle.fish_scan.specs.Naming.{HasNone, IsNewest}
 use Rattle.fish_scan.specs.Older.{selectable}
 use Rattle.fish_scan.specs.Reach.{Rise}
-use Rattle.fish_scan.specs.Scans.{AreEmptyEnds, first_asked}
+use Rattle.fish_scan.specs.Scans.{AreEmptyEnds, IsEmptyAsk, first_asked}
 use Rattle.fish_scan.specs.declared.ask.Ask.{Ask}
 use Rattle.fish_scan.specs.declared.ask.How.TheVariants as how
 use Rattle.fish_value.specs.declared.field.Form.{Form}
@@ -45,9 +45,10 @@ pub record IsAskedFor (ask : Ask) (n : ℕ) : Type 0 where
   pub above : first_asked ask ≤ n
   pub below : (to : ℕ) → ask.to ≡ Some to → n < to
 
--- the range begins where it was asked to, or where it ends; it ends where it was asked to, or before, and at most 16
--- numbers after the block
+-- numbers were asked for; the range begins where it was asked to, or where it ends; it ends where it was asked to, or
+-- before, and at most 16 numbers after the block
 pub record IsAskedRange (s : Span) (ask : Ask) (from to : ℕ) : Type 0 where
+  pub some : ¬ IsEmptyAsk ask
   pub begins : from ≡ min (first_asked ask) to
   pub ends : (end : ℕ) → ask.to ≡ Some end → to ≤ end
   pub near : to ≤ s.to + 16
@@ -96,6 +97,7 @@ abbrev pub IsRefusedFor : Whole → Span → Ask → ℕ → ScanCause → Type 
 IsRefusedFor w s ask version cause.UnknownName =
     (rows : List Listed) × HasRows w s version rows × HasNone rows ask.name
 IsRefusedFor w s ask version (cause.EmptyRange from to) = AreEmptyEnds ask from to
+    × ((rows : List Listed) × HasRows w s version rows × ((position : ℕ) × IsNewest rows ask.name position))
 IsRefusedFor w s ask version (cause.NotCovered from to) = (ask.how ≡ how.Index) × (from < to) × (to ≤ length w.log)
     × (first_asked ask ≤ from) × ((end : ℕ) → ask.to ≡ Some end → to ≤ end)
 
