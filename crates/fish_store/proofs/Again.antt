@@ -1,14 +1,16 @@
 -- A checkpoint may follow a checkpoint.
-use Rattle.std.proofs.Common.{◌≡◌, ℕ, ◌≤◌, List, ◌++◌, sym, subst}
+use Rattle.std.proofs.Common.{◌≡◌, ℕ, ◌≤◌, List, ◌++◌, refl, sym, subst}
 use Rattle.std.specs.Prelude.{IfOk, Result, Ok, Err}
 use Rattle.fish_catalog.specs.declared.commit.Commit.{Commit}
 use Rattle.fish_catalog.specs.declared.entry.Entry.{Entry}
 use Rattle.fish_catalog.specs.declared.row.CatRow.{CatRow}
+use Rattle.fish_flush.proofs.Resting.{rest_stands}
 use Rattle.fish_flush.specs.Carrying.{Carries, HasCommitted}
 use Rattle.fish_flush.specs.Kept.{commit_of}
 use Rattle.fish_flush.specs.declared.flusher.Flusher.{Flusher}
 use Rattle.fish_rule.specs.declared.table.Shape.{Shape}
 use Rattle.fish_rule.specs.declared.view.View.{View}
+use Rattle.fish_store.specs.Ending.{KeepsCatalog, IsCommitOf}
 use Rattle.fish_store.specs.Sound.{MayCommit, Point}
 
 -- where one is done, another may follow
@@ -25,9 +27,21 @@ may_again images p q n shape rows may done =
           (subst (λ (z : Shape). Carries (images q.disk) q.flusher q.view z p.rows next log) (sym shape) d.2),
     )
 
--- the flusher then counts what was answered, which the pass has counted
-pub count_ok : {E : Type 0} (images : List ℕ → Type 0) (images' : List ℕ → Type 0) (p q : Flusher) (v u : View) (s : Shape)
-    (rows : List CatRow) (r : Result ℕ E) → IfOk r (HasCommitted images images' p q v u s rows)
-    → IfOk r (λ n. (q.count ≡ n) × (n ≤ u.learned.count))
-count_ok images images' p q v u s rows (Ok n) done = (done.count, done.counted)
-count_ok images images' p q v u s rows (Err e) done = tt
+-- the flusher then counts what was answered, which the pass has counted, and every image has these rows and this shape
+pub commit_ok : {E : Type 0} (images : List ℕ → Type 0) (images' : List ℕ → Type 0) (f g : Flusher) (v u : View) (s : Shape)
+    (rows : List CatRow) (c : Commit) (log : List Entry) → Carries images f v s rows c log
+    → (r : Result ℕ E) → IfOk r (HasCommitted images images' f g v u s rows) → IfOk r (IsCommitOf images' s rows g u)
+commit_ok images images' f g v u s rows c log may (Ok n) done =
+    let d = done.carries c log may in record {
+      count = done.count;
+      counted = done.counted;
+      definitions = λ i there. record {
+        commit = commit_of g s rows;
+        log = log ++ d.0;
+        stands = rest_stands images' g (commit_of g s rows) (log ++ d.0) d.2.rest i there;
+        rows_are = refl;
+        pages = refl;
+        bits = refl;
+      };
+    }
+commit_ok images images' f g v u s rows c log may (Err e) done = tt

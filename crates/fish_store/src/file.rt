@@ -11,6 +11,7 @@ ghost use Rattle.fish_rule.specs.Views.{Among};
 ghost use Rattle.fish_scan.specs.Across.{IsAnswerWith, IsRefusedWith, IsUndamagedScan};
 ghost use Rattle.fish_scan.specs.Colder.{IsBelow, IsScanFault};
 ghost use Rattle.fish_scan.specs.Scans.{IsExplained, OnlyScans};
+ghost use Rattle.fish_store.specs.Ending.{IsCommitOf};
 ghost use Rattle.fish_store.specs.Points.{point_of};
 ghost use Rattle.fish_store.specs.Sound.{GoesOnHere, MayGoOn, ReadsPages};
 
@@ -52,7 +53,8 @@ impl StoreFile {
         ensures reads { Reads (view pass.old) (view pass.new) }
         ensures settled { IfOk result (HasSettled (view pass.old) (view pass.new)) }
         ensures cold { self.new.cold ≡ self.old.cold }
-        ensures count { IfOk result (λ n. (self.new.flusher.count ≡ n) × (n ≤ (view pass.new).learned.count)) }
+        ensures commit { IfOk result (IsCommitOf (D.images disk.new) log.now.shape registrar.now.catalog
+            self.new.flusher (view pass.new)) }
         ensures again { (IsErrOf result FlushRefusal.DiskFault → ⊥)
             → MayGoOn D.images (point_of disk.new self.new log.now pass.new registrar.now) }
         ensures goes { GoesOnHere D.Disk (point_of disk.old self.old log.now pass.old registrar.now)

@@ -13,7 +13,7 @@ returns-in-Ok-clause-can g c = reads_control _ _ _ _ c.requires.can c.checkpoint
 
 pub returns-in-Ok-clause-fits : goal.returns-in-Ok-clause-fits
 returns-in-Ok-clause-fits g c = commit_fits (view c.args.pass.now) (view c.checkpoint.new.pass) c.in-Ok.count _ refl c.in-Ok.ensures.settled
-    c.in-Ok.ensures.count.1
+    c.in-Ok.ensures.commit.counted
 
 pub returns-in-Err-DiskFault-clause-can : goal.returns-in-Err-DiskFault-clause-can
 returns-in-Err-DiskFault-clause-can g c = reads_control _ _ _ _ c.requires.can c.checkpoint.ensures.pass c.checkpoint.ensures.reads

@@ -6,7 +6,7 @@ use Rattle.fish_catalog.specs.declared.entry.Entry.{Entry}
 use Rattle.fish_catalog.specs.declared.row.CatRow.{CatRow}
 use Rattle.fish_flush.specs.Carrying.{Carries, HasCommitted, LeavesEither}
 use Rattle.fish_rule.specs.Passes.{view}
-use Rattle.fish_store.proofs.Again.{count_ok}
+use Rattle.fish_store.proofs.Again.{commit_ok}
 use Rattle.fish_store.proofs.Committing.{again_checkpoint, here_checkpoint}
 use Rattle.fish_store.specs.Points.{point_of}
 use Rattle.fish_store.proofs.file.StoreFile.checkpoint.Goals as goal
@@ -20,12 +20,16 @@ checkpoint-requires-clause-carries g c =
           c.args.log.now.shape z h.0 h.1) (sym c.catalog.ensures) h.2,
     )
 
-pub returns-clause-count : goal.returns-clause-count
-returns-clause-count g c =
+pub returns-clause-commit : goal.returns-clause-commit
+returns-clause-commit g c =
     let disk = g.D.Disk in
-    count_ok (disk.images c.args.disk.now) (disk.images c.checkpoint.new.disk) c.args.self.now.flusher c.checkpoint.new.flusher
-    (view c.args.pass.now) (view c.checkpoint.new.pass) c.args.log.now.shape c.catalog.result.now c.checkpoint.result
-    c.checkpoint.ensures.committed
+    let may = c.requires.may.may in
+    commit_ok (disk.images c.args.disk.now) (disk.images c.checkpoint.new.disk) c.args.self.now.flusher c.checkpoint.new.flusher
+    (view c.args.pass.now) (view c.checkpoint.new.pass) c.args.log.now.shape c.args.registrar.now.catalog may.0 may.1 may.2
+    c.checkpoint.result
+    (subst (λ (z : List CatRow). IfOk c.checkpoint.result (HasCommitted (disk.images c.args.disk.now)
+    (disk.images c.checkpoint.new.disk) c.args.self.now.flusher c.checkpoint.new.flusher (view c.args.pass.now)
+    (view c.checkpoint.new.pass) c.args.log.now.shape z)) c.catalog.ensures c.checkpoint.ensures.committed)
 
 pub returns-clause-again : goal.returns-clause-again
 returns-clause-again g c unbroken =
