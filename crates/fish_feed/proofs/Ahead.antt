@@ -1,5 +1,5 @@
 -- Queues whose files were read on are to give what they were to give before.
-use Rattle.std.proofs.Common.{◌≡◌, ◌<◌, ◌+◌, ℕ, zero, suc, List, [], ◌∷◌, Bool, Option, None, Some, length, slice_index_or, arith}
+use Rattle.std.proofs.Common.{◌≡◌, ◌<◌, ℕ, zero, suc, List, [], ◌∷◌, Bool, Option, None, Some, length, slice_index_or, arith}
 use Rattle.std.proofs.Common.{ap, refl, sym, subst}
 use Rattle.std.specs.Prelude.{IfSome}
 use Rattle.fish_feed.proofs.Queues.{queue_on}

@@ -3,7 +3,7 @@ use Rattle.std.proofs.Common.{◌≡◌, ◌⊎◌, ℕ, List, [], ◌∷◌, �
 use Rattle.std.proofs.Common.{Bool, false, Option, None, Some, ◌+◌, ◌<◌, arith}
 use Rattle.std.specs.Prelude.{Err, IfErr, IfOk, IsErr, Ok, Result, option_to_list}
 use Rattle.fish_feed.specs.Queues.{AreFit, AreFitTodos, IsFit, IsFitTodo, IsQueue, MayDo, MayDoAll, MayEnd}
-use Rattle.fish_feed.specs.Works.{AreAnew, AreAnewAfterFirst, AreDone, IsAnew, StoresNone, bytes_in, bytes_of}
+use Rattle.fish_feed.specs.Works.{AreAnew, AreAnewAfterFirst, IsAnew, StoresNone, bytes_in, bytes_of}
 use Rattle.fish_feed.specs.declared.queue.Queue.{Queue}
 use Rattle.fish_feed.specs.declared.queue.Todo.{Todo}
 use Rattle.fish_lanes.specs.declared.work.Work.{Work}
@@ -83,13 +83,7 @@ module _ {F : Type 0} (faults : F → ℕ) where
   fit_push first (x ∷ qs) q h one = (h.0, fit_push false qs q h.1 (subst (λ (b : Bool). IsFit faults b q) (sym (never_first qs)) one))
 
 module _ {F : Type 0} (told : Option Files) (left : F → Option (List ℕ)) (ss : List Statement) (given : List Work) (q : Queue F) where
-  -- what may end after more works may end after fewer
-  pub may_front : (ws : List Work) → MayEnd told left ss (given ++ ws) q → MayEnd told left ss given q
-  may_front ws h = (
-    ws ++ h.0,
-    subst (λ (z : List Work). IsQueue told left ss z q ⊎ AreDone told ss z) (append_assoc given ws h.0) h.1,
-  )
-
+  -- these works may be lost
   pub may_queue : (ws : List Work) → IsQueue told left ss (given ++ ws) q → MayEnd told left ss given q
   may_queue ws h = (ws, inl h)
 

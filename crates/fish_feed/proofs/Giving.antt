@@ -5,7 +5,7 @@ use Rattle.std.proofs.Common.{append-nil, append_assoc, refl, sym, ap, ◌∙◌
 use Rattle.std.specs.Prelude.{Err, IfSome, IsErrOf, IsSome, Result}
 use Rattle.fish_feed.proofs.Queues.{dones_later, queue_end, queue_later, queue_none}
 use Rattle.fish_feed.specs.Queues.{AreIdle, GoesDown, HasQueue, IsGiven, IsQueue, LanesMayDo, MayDoAll, MayEnd, both}
-use Rattle.fish_feed.specs.Queues.{current_left, left_of, left_of_all, todos_left, works_of}
+use Rattle.fish_feed.specs.Queues.{current_left, left_of, left_of_all, todos_left}
 use Rattle.fish_outside.specs.Reading.{HasReadCause}
 use Rattle.fish_feed.specs.Parts.{longest_given}
 use Rattle.fish_feed.specs.Works.{AreAnewAfterFirst, AreDone, AreFirstOf, Pairs, Triples, bytes_of}
@@ -48,11 +48,11 @@ pairs_none R S (x ∷ xs) [] h = elim h [ ]
 pairs_none R S (x ∷ xs) (y ∷ ys) h = elim h [ ]
 
 module _ {F : Type 0} (left : F → Option (List ℕ)) where
-  queue_since : (old new : Option Files) → SameFiles old new → (ss : List Statement) (given : List Work) (q : Queue F)
+  pub queue_since : (old new : Option Files) → SameFiles old new → (ss : List Statement) (given : List Work) (q : Queue F)
       → IsQueue old left ss given q → IsQueue new left ss given q
   queue_since old new still ss given q h = queue_later left old new still ss given q.current q.todos.items h
 
-  end_since : (old new : Option Files) → SameFiles old new → (ss : List Statement) (given : List Work) (q : Queue F)
+  pub end_since : (old new : Option Files) → SameFiles old new → (ss : List Statement) (given : List Work) (q : Queue F)
       → MayEnd old left ss given q → MayEnd new left ss given q
   end_since old new still ss given q h = (h.0, by h.1)
     where
@@ -62,57 +62,9 @@ module _ {F : Type 0} (left : F → Option (List ℕ)) where
       by (inr k) = inr (dones_later old new still ss (given ++ h.0) k)
 
   -- what is to be given may end
-  queue_may : (told : Option Files) (ss : List Statement) (given : List Work) (q : Queue F) → IsQueue told left ss given q
+  pub queue_may : (told : Option Files) (ss : List Statement) (given : List Work) (q : Queue F) → IsQueue told left ss given q
       → MayEnd told left ss given q
   queue_may told ss given q h = ([], inl (subst (λ (z : List Work). IsQueue told left ss z q) (sym (append-nil given)) h))
-
-  module _ (old mid new : Option Files) (first : SameFiles old mid) (then : SameFiles mid new) (q q' : Queue F) (qs qs' : List (Queue F))
-    where
-      -- the first lane was given works, and the others were
-      pub given_all : (y : Lane) (ys : List Lane)
-          → ((ss : List Statement) (given : List Work) → IsQueue old left ss given q → IsQueue mid left ss (given ++ y.works) q')
-          → ((texts : List (List Statement)) (given : List (List Work)) → Triples (IsQueue mid left) texts given qs
-          → Triples (IsQueue new left) texts (both given (works_of ys)) qs')
-          → (texts : List (List Statement)) (given : List (List Work)) → Triples (IsQueue old left) texts given (q ∷ qs)
-          → Triples (IsQueue new left) texts (both given (works_of (y ∷ ys))) (q' ∷ qs')
-      given_all y ys one others [] [] h = elim h [ ]
-      given_all y ys one others [] (g ∷ given) h = elim h [ ]
-      given_all y ys one others (ss ∷ texts) [] h = elim h [ ]
-      given_all y ys one others (ss ∷ texts) (g ∷ given) h = (
-        queue_since mid new then ss (g ++ y.works) q' (one ss g h.0),
-        others texts given
-            (triples_map (IsQueue old left) (IsQueue mid left) (λ s z x. queue_since old mid first s z x) texts given qs h.1),
-      )
-
-      -- the first was, and of the others a read failed
-      pub failed_all : (y : Lane)
-          → ((ss : List Statement) (given : List Work) → IsQueue old left ss given q → IsQueue mid left ss (given ++ y.works) q')
-          → ((texts : List (List Statement)) (given : List (List Work)) → Triples (IsQueue mid left) texts given qs
-          → Triples (MayEnd new left) texts given qs')
-          → (texts : List (List Statement)) (given : List (List Work)) → Triples (IsQueue old left) texts given (q ∷ qs)
-          → Triples (MayEnd new left) texts given (q' ∷ qs')
-      failed_all y one others [] [] h = elim h [ ]
-      failed_all y one others [] (g ∷ given) h = elim h [ ]
-      failed_all y one others (ss ∷ texts) [] h = elim h [ ]
-      failed_all y one others (ss ∷ texts) (g ∷ given) h = (
-        (y.works, inl (queue_since mid new then ss (g ++ y.works) q' (one ss g h.0))),
-        others texts given
-            (triples_map (IsQueue old left) (IsQueue mid left) (λ s z x. queue_since old mid first s z x) texts given qs h.1),
-      )
-
-  -- the first failed
-  pub failed_first : (old new : Option Files) → SameFiles old new → (q q' : Queue F) (qs : List (Queue F))
-      → ((ss : List Statement) (given : List Work) → IsQueue old left ss given q → MayEnd new left ss given q')
-      → (texts : List (List Statement)) (given : List (List Work)) → Triples (IsQueue old left) texts given (q ∷ qs)
-      → Triples (MayEnd new left) texts given (q' ∷ qs)
-  failed_first old new still q q' qs one [] [] h = elim h [ ]
-  failed_first old new still q q' qs one [] (g ∷ given) h = elim h [ ]
-  failed_first old new still q q' qs one (ss ∷ texts) [] h = elim h [ ]
-  failed_first old new still q q' qs one (ss ∷ texts) (g ∷ given) h = (
-    one ss g h.0,
-    triples_map (IsQueue old left) (MayEnd new left) (λ s z x k. queue_may new s z x (queue_since old new still s z x k)) texts given
-        qs h.1,
-  )
 
   -- the first was closed, and the others were
   pub closed_all : (old mid new : Option Files) → SameFiles old mid → SameFiles mid new → (q : Queue F) (qs : List (Queue F))

@@ -2,6 +2,7 @@ pub mod Ahead
 pub mod Crossing
 pub mod Fit
 pub mod Giving
+pub mod GivingAll
 pub mod Lists
 pub mod Long
 pub mod Opening

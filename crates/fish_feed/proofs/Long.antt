@@ -6,7 +6,8 @@ use Rattle.std.proofs.lemmas.List.{get_or-take, length-take, take-append-drop}
 use Rattle.std.specs.Prelude.{nat_eq}
 use Rattle.fish_feed.proofs.Parts.{after_push, parts_rest, parts_then}
 use Rattle.fish_feed.specs.OpenFiles.{IsStuck}
-use Rattle.fish_feed.specs.Parts.{AreParts, EndsLine, HasNoEnd, IsRead, IsTooLong, begin_after, longest_in_parts, longest_read}
+use Rattle.fish_feed.specs.Parts.{AreParts, EndsLine, HasNoMoreParts, HasNoEnd, IsRead, IsTooLong, begin_after, longest_in_parts}
+use Rattle.fish_feed.specs.Parts.{longest_read}
 use Rattle.fish_lanes.specs.declared.work.Work.{Work}
 use Rattle.fish_lanes.specs.declared.work.Work.TheVariants as work
 use Rattle.fish_lines.specs.declared.resuming.Begin.{Begin}
@@ -15,21 +16,28 @@ use Rattle.fish_value.specs.Limits.{longest_file}
 use Rattle.fish_value.specs.declared.field.Form.{Form}
 use Rattle.fish_value.specs.declared.field.Form.TheVariants.{Csv, Json}
 
--- where no whole line may be given, and more is left than may be stored at once, the file is too long
+-- where no whole line may be given, and more is left than may be stored at once, the file is too long, and has no more
+-- parts
 pub too_long : (form : Form) (before rest : List ℕ) (room : ℕ) → length before + room ≡ longest_in_parts
-    → IsStuck form room (take longest_read rest) → longest_file < length rest → IsTooLong form (before ++ rest)
-too_long Csv before rest room is stuck long = omega (length-append before rest, long, arith)
+    → IsStuck form room (take longest_read rest) → longest_file < length rest
+    → IsTooLong form (before ++ rest) × HasNoMoreParts form (before ++ rest) rest
+too_long Csv before rest room is stuck long = (omega (length-append before rest, long, arith), tt)
 too_long Json before rest room is (inl other) long = absurd (other refl)
-too_long Json before rest room is (inr (inl none)) long = inr (record {
-  front = before;
-  line = take longest_read rest;
-  after = drop longest_read rest;
-  is = ap (λ (z : List ℕ). before ++ z) (sym (take-append-drop longest_read rest));
-  long = omega (length-take longest_read rest, long, arith);
-  none = none;
-})
-too_long Json before rest room is (inr (inr over)) long =
-    inl (omega (length-append before rest, length-take longest_read rest, is, over, arith))
+too_long Json before rest room is (inr (inl none)) long = (
+  inr (record {
+    front = before;
+    line = take longest_read rest;
+    after = drop longest_read rest;
+    is = ap (λ (z : List ℕ). before ++ z) (sym (take-append-drop longest_read rest));
+    long = omega (length-take longest_read rest, long, arith);
+    none = none;
+  }),
+  inl none,
+)
+too_long Json before rest room is (inr (inr over)) long = (
+  inl (omega (length-append before rest, length-take longest_read rest, is, over, arith)),
+  inr (omega (length-append before rest, length-take longest_read rest, is, over, arith)),
+)
 
 -- the first of bytes without an LF have none
 none_front : (n : ℕ) (b : List ℕ) → HasNoEnd b → HasNoEnd (take n b)
@@ -99,12 +107,15 @@ read_all Json begin name before given room are room_is rest = by rest (cut rest)
               (parts_rest Json begin name (before ++ part) (given ++ one ∷ []) then (take longest_read then) two
               (parts_then Json begin name before given part one are refl line refl) refl
               (ap (λ (z : Begin). work.Ingest Json z name (take longest_read then)) (sym (after_push begin given one)))
-              (λ long. inr (record {
-                front = before ++ part;
-                line = then;
-                after = [];
-                is = ap (λ (z : List ℕ). (before ++ part) ++ z) (sym (append-nil then));
-                long = long;
-                none = none;
-              }))),
+              (λ long. (
+                inr (record {
+                  front = before ++ part;
+                  line = then;
+                  after = [];
+                  is = ap (λ (z : List ℕ). (before ++ part) ++ z) (sym (append-nil then));
+                  long = long;
+                  none = none;
+                }),
+                inl (none_front longest_read then none),
+              ))),
         )

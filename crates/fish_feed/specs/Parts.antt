@@ -1,5 +1,5 @@
 -- A file that is given in parts.
-use Rattle.std.specs.Prelude.{ℕ, ◌≡◌, ◌≢◌, ◌<◌, ◌⊎◌, List, [], ◌∷◌, ◌++◌, length, slice_index, take}
+use Rattle.std.specs.Prelude.{ℕ, ◌≡◌, ◌≢◌, ◌+◌, ◌-◌, ◌<◌, ◌⊎◌, List, [], ◌∷◌, ◌++◌, ⊤, length, slice_index, take}
 use Rattle.fish_lanes.specs.declared.work.Work.{Work}
 use Rattle.fish_lanes.specs.declared.work.Work.TheVariants as work
 use Rattle.fish_lines.specs.declared.resuming.Begin.{Begin}
@@ -55,11 +55,18 @@ AreParts form begin name b (w ∷ ws) rest =
     (part then : List ℕ) × (b ≡ part ++ then) × (form ≡ Json) × EndsLine part
     × (w ≡ work.Ingest form begin name part) × AreParts form After name then ws rest
 
+-- where this is left of a file, no further part is given: it is in CSV; or no line ends in as many bytes as are read at
+-- once; or with as many, parts would have more than parts may have
+abbrev pub HasNoMoreParts : Form → List ℕ → List ℕ → Type 0
+HasNoMoreParts Csv b rest = ⊤
+HasNoMoreParts Json b rest = HasNoEnd (take longest_read rest)
+    ⊎ (longest_in_parts < (length b - length rest) + longest_read)
+
 -- these works are all of it: parts, and then what is left, up to so many bytes; more than may be stored at once only
--- of a file that is too long
+-- of a file that is too long, once no further part is given
 pub record IsRead (form : Form) (begin : Begin) (name b : List ℕ) (ws : List Work) : Type 0 where
   pub parts : List Work
   pub rest : List ℕ
   pub are : AreParts form begin name b parts rest
   pub is : ws ≡ parts ++ work.Ingest form (begin_after begin parts) name (take longest_read rest) ∷ []
-  pub long : longest_file < length rest → IsTooLong form b
+  pub long : longest_file < length rest → IsTooLong form b × HasNoMoreParts form b rest

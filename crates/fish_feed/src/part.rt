@@ -21,8 +21,8 @@ use std::mem::replace;
 /// How many bytes of a file are given at once at most: one more than are stored at once.
 const LONGEST_READ: usize = 67_108_865;
 
-/// How many bytes of files a lane is given at once, or a line more: what memory a long file takes, and how often lanes
-/// wait for each other.
+/// How many bytes of files a lane is given at once, or a part of a file more: what memory a long file takes, and how
+/// often lanes wait for each other. A part is longer only where none of its first bytes, so many, ends a line.
 pub const AT_ONCE: usize = 1_048_576;
 
 /// How many bytes of a file in JSON are given in parts at most.
@@ -52,6 +52,7 @@ pub struct OpenFile<F: Source> {
 /// A part of a file, or the rest of it.
 #[derive(Drop)]
 pub struct Part {
+    /// The ingest of its bytes.
     pub work: Work,
     /// Whether it is the rest.
     pub last: bool,

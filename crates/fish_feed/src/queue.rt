@@ -40,8 +40,11 @@ pub struct Queue<F: Source> {
     pub todos: VecDeque<Todo<F>>,
 }
 
-/// Gives lanes that have no statement their next ones. The files that are being read are read at once, each on a thread
-/// of its own.
+/// Gives lanes that have no statement their next ones. Where files of several lanes are being read, they are read at
+/// once, each on a thread of its own; the first part of each, and what is left of one in CSV, by the calling thread.
+///
+/// Where one lane is refused, the others are given theirs, and the first refusal is answered. What the lanes have then,
+/// the one that was refused too, comes before what was refused: it is to be done first.
 pub fn give<R: Threads + Sync, H: Host>(
     rt: &R,
     alloc: Global,
@@ -73,7 +76,7 @@ fn read_all_on<R: Threads + Sync, F: Source + Send + Drop>(
     ensures on { AreReadOn F.left F.faults queues.old queues.new }
 {
     let threads = queues.len();
-    if threads < 2 || !is_any_open(queues) {
+    if threads < 2 || !are_several_open(queues) {
         return;
     }
     for_each_mut(
@@ -84,11 +87,15 @@ fn read_all_on<R: Threads + Sync, F: Source + Send + Drop>(
     );
 }
 
-/// Whether a file is being read.
-fn is_any_open<F: Source>(queues: &[Queue<F>]) -> bool {
+/// Whether files of two lanes or more are being read.
+fn are_several_open<F: Source>(queues: &[Queue<F>]) -> bool {
+    let mut found = false;
     for queue in queues {
         if queue.current.is_some() {
-            return true;
+            if found {
+                return true;
+            }
+            found = true;
         }
     }
     false
@@ -109,7 +116,7 @@ fn read_queue_on<F: Source + Drop>(alloc: Global, queue: &mut Queue<F>)
     }
 }
 
-/// Gives lanes that have no statement their next ones, one lane after the other.
+/// Gives lanes that have no statement their next ones, one lane after the other, after a refusal too.
 fn give_all<H: Host>(
     alloc: Global,
     host: &mut H,
@@ -132,13 +139,12 @@ where
     let Some((lane, other_lanes)) = lanes.split_first_mut() else {
         unreachable!()
     };
-    match give_one(alloc, host, queue, lane) {
-        Ok(()) => give_all(alloc, host, other_queues, other_lanes),
-        Err(refusal) => Err(refusal),
-    }
+    let first = give_one(alloc, host, queue, lane);
+    let others = give_all(alloc, host, other_queues, other_lanes);
+    first.and(others)
 }
 
-/// Gives a lane that has no statement its next ones.
+/// Gives a lane that has no statement its next ones. At a refusal it keeps those that it was given before.
 fn give_one<H: Host>(
     alloc: Global,
     host: &mut H,
@@ -154,7 +160,7 @@ where
         → IsQueue (H.files host.new) H.Feed.left ss (given ++ lane.new.works) queue.new) }
     ensures failed { OnErr result ((ss : List Statement) (given : List Does)
         → IsQueue (H.files host.old) H.Feed.left ss given queue.old
-        → MayEnd (H.files host.new) H.Feed.left ss given queue.new) }
+        → MayEnd (H.files host.new) H.Feed.left ss (given ++ lane.new.works) queue.new) }
     ensures lane { IsGiven lane.old lane.new }
     ensures fit { (first : Bool) → IsFit H.Feed.faults first queue.old
         → IsFit H.Feed.faults first queue.new × MayDoAll first lane.new.works }
@@ -164,7 +170,7 @@ where
 {
     let mut most = AT_ONCE;
     while most > 0 {
-        match next(alloc, host, queue, most) {
+        match next(alloc, host, queue) {
             Ok(Some(work)) => {
                 most = room_after(most, &work, queue.current.is_some());
                 match lane.works.push(work) {
@@ -199,11 +205,9 @@ fn next<H: Host>(
     alloc: Global,
     host: &mut H,
     queue: &mut Queue<H::Feed>,
-    most: usize,
 ) -> Result<Option<Work>, FeedRefusal>
 where
     H::Feed: Drop,
-    requires most { most ≤ longest_read }
     requires fit { (first : Bool) × IsFit H.Feed.faults first queue.old }
     ensures given { IfOk result (λ w. (ss : List Statement) (given : List Does)
         → IsQueue (H.files host.old) H.Feed.left ss given queue.old
@@ -226,7 +230,7 @@ where
     if queue.current.is_none() {
         return Ok(None);
     }
-    Ok(Some(read_open(alloc, host, queue, most)?))
+    Ok(Some(read_open(alloc, host, queue)?))
 }
 
 /// Takes the next statement, where no file is being read; of a file the reading begins.
@@ -259,12 +263,10 @@ fn read_open<H: Host>(
     alloc: Global,
     host: &mut H,
     queue: &mut Queue<H::Feed>,
-    most: usize,
 ) -> Result<Work, FeedRefusal>
 where
     H::Feed: Drop,
     requires current { IsSome queue.old.current }
-    requires most { most ≤ longest_read }
     requires fit { (first : Bool) × IsFit H.Feed.faults first queue.old }
     ensures given { IfOk result (λ w. (ss : List Statement) (given : List Does)
         → IsQueue (H.files host.old) H.Feed.left ss given queue.old
@@ -282,7 +284,7 @@ where
     let Some(mut file) = queue.current.take() else {
         unreachable!()
     };
-    match read_part(alloc, &mut file, most) {
+    match read_part(alloc, &mut file, AT_ONCE) {
         Ok(Part { work, last: false }) => {
             queue.current = Some(file);
             Ok(work)

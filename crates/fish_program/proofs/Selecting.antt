@@ -171,7 +171,7 @@ module _ {F : Type 0} (left : F → Option (List ℕ)) (s : Select) where
       passed_long long = rest_of (PassesLimits s.form s.header)
           (λ l is. inl (too_long s.form h.before (o.rest ++ l) o.room h.room_is
           (subst (λ (z : Form × List ℕ). IsStuck z.0 o.room z.1) (λ i. (h.form_is i, is i)) (r.stuck long))
-          (omega (ap length is, length-take longest_read (o.rest ++ l), long, arith))))
+          (omega (ap length is, length-take longest_read (o.rest ++ l), long, arith))).0)
 
 -- ---- what was read and added
 

@@ -1,12 +1,13 @@
 -- The first lane, and the others.
-use Rattle.std.proofs.Common.{rules, ◌≡◌, ◌+◌, ◌∷◌, [], List, ap, arith, false, length, subst, sym}
-use Rattle.std.proofs.lemmas.Result.{on_err_weaker, on_ok_weaker}
-use Rattle.fish_feed.proofs.Giving.{both_down, both_none, cause_after, failed_all, failed_first, given_all, idle_given, idle_may}
-use Rattle.fish_feed.proofs.Giving.{no_elements}
-use Rattle.fish_feed.specs.Queues.{AreFit, AreIdle, GoesDown, IsFit, IsGiven, IsQueue, both, left_of, left_of_all, works_of}
-use Rattle.fish_feed.specs.Works.{Pairs, Triples}
+use Rattle.std.proofs.Common.{rules, ◌≡◌, ◌∷◌, List, ap, arith, length, subst, sym}
+use Rattle.fish_feed.proofs.Giving.{both_none, idle_given, idle_may, no_elements}
+use Rattle.fish_feed.proofs.GivingAll.{causes_all, gives_all}
+use Rattle.fish_feed.specs.Giving.{Gives}
+use Rattle.fish_feed.specs.Queues.{IsQueue, both, left_of_all, works_of}
+use Rattle.fish_feed.specs.Works.{Triples}
 use Rattle.fish_feed.specs.declared.queue.Queue.{Queue}
 use Rattle.fish_lanes.specs.declared.lane.Lane.{Lane}
+use Rattle.fish_outside.specs.Reading.{HasReadCause}
 use Rattle.fish_feed.proofs.queue.+give_all.Goals as goal
 
 pub returns-in_default-clause-gives : goal.returns-in_default-clause-gives
@@ -25,74 +26,38 @@ returns-in_default-clause-gives g t c =
       less = record { down = omega arith; falls = λ some. absurd (omega (some, nothing, arith)) };
     }
 
-pub returns-in-Ok-clause-gives : goal.returns-in-Ok-clause-gives
-returns-in-Ok-clause-gives g t c =
+-- what the two calls leave is what this one does, and the answer is that of the first refusal
+pub returns-clause-gives : goal.returns-clause-gives
+returns-clause-gives g t c =
     let left = g.H.Feed.Source.left in
     let faults = g.H.Feed.Source.faults in
     let old = g.H.Host.files c.args.host.now in
-    let mid = g.H.Host.files c.give_one.new.host in
-    let new = g.H.Host.files c.give_all.new.host in
+    let mid = g.H.Host.files c.give_one-first.new.host in
+    let new = g.H.Host.files c.give_all-others.new.host in
     let q = c.in-Some.queue.now in
     let qs = c.in-Some.other_queues.now in
-    let r = c.give_one.new.queue in
-    let rs = c.give_all.new.queues in
+    let r = c.give_one-first.new.queue in
+    let rs = c.give_all-others.new.queues in
     let x = c.in-Some-split_first_mut.lane.now in
     let xs = c.in-Some-split_first_mut.other_lanes.now in
+    let y = c.give_one-first.new.lane in
+    let ys = c.give_all-others.new.lanes in
     let all : c.args.queues.now ≡ q ∷ qs = search rules in
     let all_lanes : c.args.lanes.now ≡ x ∷ xs = search rules in
-    let one = c.in-Ok.ensures in
-    let others = c.give_all.ensures.gives in
-    record {
-      given = on_ok_weaker c.give_all.result
-          (λ more texts given h. given_all left old mid new c.give_one.ensures.content c.give_all.ensures.content q r qs rs
-          c.give_one.new.lane c.give_all.new.lanes one.given more texts given
-          (subst (λ (z : List (Queue g.row.H-Feed.Denot)). Triples (IsQueue old left) texts given z) all h)) others.given;
-      failed = on_err_weaker c.give_all.result
-          (λ more texts given h. failed_all left old mid new c.give_one.ensures.content c.give_all.ensures.content q r qs rs
-          c.give_one.new.lane one.given more texts given
-          (subst (λ (z : List (Queue g.row.H-Feed.Denot)). Triples (IsQueue old left) texts given z) all h)) others.failed;
-      got = subst (λ (z : List Lane). Pairs IsGiven z (c.give_one.new.lane ∷ c.give_all.new.lanes)) (sym all_lanes)
-          (c.give_one.ensures.lane, others.got);
-      fit = λ first h.
-          let fit : IsFit faults first q × AreFit faults false qs =
-          subst (λ (z : List (Queue g.row.H-Feed.Denot)). AreFit faults first z) all h in
-          let here = c.give_one.ensures.fit first fit.0 in
-          let there = others.fit false fit.1 in
-          ((here.0, there.0), (here.1, there.1));
-      less = on_ok_weaker c.give_all.result
-          (λ more. subst (λ (z : List (Queue g.row.H-Feed.Denot)). GoesDown (left_of_all z) (left_of r + left_of_all rs)) (sym all)
-          (both_down (left_of q) (left_of r) (left_of_all qs) (left_of_all rs) one.less more)) others.less;
-    }
+    let one = c.give_one-first.ensures in
+    let others = c.give_all-others.ensures in
+    subst (λ (z : List (Queue g.row.H-Feed.Denot)). Gives left faults old new z (r ∷ rs) c.args.lanes.now (y ∷ ys) c.and.result)
+    (sym all)
+    (subst (λ (z : List Lane). Gives left faults old new (q ∷ qs) (r ∷ rs) z (y ∷ ys) c.and.result) (sym all_lanes)
+    (subst (Gives left faults old new (q ∷ qs) (r ∷ rs) (x ∷ xs) (y ∷ ys)) (sym c.and.ensures)
+    (gives_all left faults old mid new one.content others.content q r qs rs x y xs ys c.give_one-first.result
+    c.give_all-others.result one.given one.failed one.lane one.fit one.less others.gives)))
 
-pub returns-in-Ok-clause-cause : goal.returns-in-Ok-clause-cause
-returns-in-Ok-clause-cause g t c =
-    cause_after (g.H.Host.faults c.args.host.now) (g.H.Host.faults c.give_one.new.host) (g.H.Host.faults c.give_all.new.host)
-    c.give_all.result
-    c.give_one.ensures.cause.later c.give_all.ensures.cause
-
-pub returns-in-Err-clause-gives : goal.returns-in-Err-clause-gives
-returns-in-Err-clause-gives g t c =
-    let left = g.H.Feed.Source.left in
-    let faults = g.H.Feed.Source.faults in
-    let old = g.H.Host.files c.args.host.now in
-    let new = g.H.Host.files c.give_one.new.host in
-    let q = c.in-Some.queue.now in
-    let qs = c.in-Some.other_queues.now in
-    let x = c.in-Some-split_first_mut.lane.now in
-    let xs = c.in-Some-split_first_mut.other_lanes.now in
-    let all : c.args.queues.now ≡ q ∷ qs = search rules in
-    let all_lanes : c.args.lanes.now ≡ x ∷ xs = search rules in
-    let idle : (x.works ≡ []) × AreIdle xs = subst AreIdle all_lanes c.requires.empty in
-    record {
-      given = tt;
-      failed = λ texts given h. failed_first left old new c.give_one.ensures.content q c.give_one.new.queue qs c.in-Err.ensures.failed
-          texts given (subst (λ (z : List (Queue g.row.H-Feed.Denot)). Triples (IsQueue old left) texts given z) all h);
-      got = subst (λ (z : List Lane). Pairs IsGiven z (c.give_one.new.lane ∷ xs)) (sym all_lanes)
-          (c.give_one.ensures.lane, idle_given xs idle.1);
-      fit = λ first h.
-          let fit : IsFit faults first q × AreFit faults false qs =
-          subst (λ (z : List (Queue g.row.H-Feed.Denot)). AreFit faults first z) all h in
-          let one = c.give_one.ensures.fit first fit.0 in
-          ((one.0, fit.1), (one.1, idle_may false xs idle.1));
-      less = tt;
-    }
+-- and of the count of faults
+pub returns-clause-cause : goal.returns-clause-cause
+returns-clause-cause g t c =
+    let before = g.H.Host.faults c.args.host.now in
+    let now = g.H.Host.faults c.give_all-others.new.host in
+    subst (HasReadCause before now) (sym c.and.ensures)
+    (causes_all before (g.H.Host.faults c.give_one-first.new.host) now c.give_one-first.result c.give_all-others.result
+    c.give_one-first.ensures.cause c.give_all-others.ensures.cause)

@@ -2,10 +2,10 @@
 use Rattle.std.proofs.Common.{◌≡◌, ◌<◌, ◌≤◌, ◌++◌, ◌∷◌, ◌∙◌, [], List, None, Option}
 use Rattle.std.proofs.Common.{Some, append-nil, ap, arith, inl, inr, refl, subst, sym, ⊎_elim}
 use Rattle.std.specs.Prelude.{IfSome, is_some, option_to_list}
-use Rattle.fish_feed.proofs.Fit.{anew_more, bytes_push, first_or_anew, given_more, may_front, may_push, may_queue, none_or_full}
+use Rattle.fish_feed.proofs.Fit.{anew_more, bytes_push, first_or_anew, given_more, may_push, may_queue, none_or_full}
 use Rattle.fish_feed.proofs.Giving.{lane_with}
 use Rattle.fish_feed.proofs.Told.{still_self}
-use Rattle.fish_feed.specs.Queues.{IsQueue, MayDo, MayDoAll, left_of}
+use Rattle.fish_feed.specs.Queues.{IsQueue, MayDo, MayDoAll, MayEnd, left_of}
 use Rattle.fish_feed.specs.Parts.{longest_read}
 use Rattle.fish_feed.specs.Works.{AreAnew, AreAnewAfterFirst, IsAnew, bytes_in, bytes_of}
 use Rattle.fish_lanes.specs.declared.work.Work.{Work}
@@ -35,8 +35,7 @@ next-requires-clause-fit g c κs within =
 
 pub returns-in-Err-clause-failed : goal.returns-in-Err-clause-failed
 returns-in-Err-clause-failed g c = λ ss given h.
-    may_front (g.H.Host.files c.next.new.host) g.H.Feed.Source.left ss given c.next.new.queue c.loop-most.lane.works
-    (c.in-Err.ensures.failed ss (given ++ c.loop-most.lane.works) (c.loop-most.invariant.given ss given h))
+    c.in-Err.ensures.failed ss (given ++ c.loop-most.lane.works) (c.loop-most.invariant.given ss given h)
 
 pub returns-in-Err-clause-fit : goal.returns-in-Err-clause-fit
 returns-in-Err-clause-fit g c = λ first h.
@@ -101,12 +100,9 @@ returns-in-Err-push-clause-failed g c = λ ss given h.
     let new = g.H.Host.files c.next.new.host in
     let left = g.H.Feed.Source.left in
     let works = c.loop-most.lane.works in
-    let w = c.in-Ok-Some.work in
     let q = c.next.new.queue in
-    let is : c.in-Ok-Some.field-0 ≡ Some w = c.in-Ok-Some.field-0-is in
-    may_queue new left ss given q (works ++ w ∷ [])
-    (subst (λ (z : List Work). IsQueue new left ss z q)
-    (given_more given works (works ++ w ∷ []) c.in-Ok-Some.field-0 w is refl)
+    subst (λ (z : List Work). MayEnd new left ss (given ++ z) q) (sym c.in-Err-push.ensures.err)
+    (may_queue new left ss (given ++ works) q (option_to_list c.in-Ok-Some.field-0)
     (c.in-Ok-Some.ensures.given ss (given ++ works) (c.loop-most.invariant.given ss given h)))
 
 pub returns-in-Err-push-clause-fit : goal.returns-in-Err-push-clause-fit
