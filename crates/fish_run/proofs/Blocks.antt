@@ -10,11 +10,12 @@ use Rattle.fish_lanes.proofs.Single.{singles_whole}
 use Rattle.fish_lanes.specs.Blocks.{AreEnded, AreLanes, HasRegistered, IsBlockSpan, IsMarkItem, NameMarks, control_items}
 use Rattle.fish_lanes.specs.Blocks.{SaysBlock}
 use Rattle.fish_lanes.specs.Controlling.{IsCommitted}
-use Rattle.fish_lanes.specs.Outcome.{LanesSayPlans, SaysAlone, SaysShutBy}
+use Rattle.fish_lanes.specs.Outcome.{LanesSayPlans, SayFullLast, SaysAlone, SaysShutBy}
 use Rattle.fish_lanes.specs.Ending.{HasEnd}
 use Rattle.fish_lanes.specs.Gains.{IsMarkAt}
 use Rattle.fish_lanes.specs.Plans.{KnowsRows, RowsAre}
 use Rattle.fish_lanes.specs.Registering.{ItemsFit, HasEach, HasRegistry, KnowsEach, KnowsRegistry, Registry, after_all, registry_of}
+use Rattle.fish_lanes.specs.Registering.{waiting_id}
 use Rattle.fish_lanes.specs.Spans.{Span, answers}
 use Rattle.fish_lanes.specs.declared.block.BlockEnd.{BlockEnd}
 use Rattle.fish_lanes.specs.declared.lane.Lane.{Lane}
@@ -114,6 +115,12 @@ first_known : (v u : View) (r s : Registrar) (lanes : List Lane) (end : BlockEnd
 first_known v u r s [] end some has = absurd (omega arith)
 first_known v u r s (x ∷ lanes) end some has = (has x refl).known
 
+-- and none waits after them
+first_settled : (v u : View) (r s : Registrar) (lanes : List Lane) (end : BlockEnd) → 0 < length lanes
+    → ((x : Lane) → slice_get lanes 0 ≡ Some x → HasRegistered v u r s x end) → s.waiting ≡ None
+first_settled v u r s [] end some has = absurd (omega arith)
+first_settled v u r s (x ∷ lanes) end some has = (has x refl).settled
+
 -- what tells of the definitions is of the first lane
 controls_first : (lanes : List Lane) (end : BlockEnd) (x : Lane) → slice_get lanes 0 ≡ Some x
     → lanes_controls lanes end ≡ control_items x end
@@ -159,10 +166,10 @@ pub leaves_of : (Past : Whole → Type 0) (count : ℕ) (v u : View) (r s : Regi
     → ((past : Whole) → Past past → (k : Span) → IsBlockSpan v u end.to k → k.lanes ≡ length lanes
     → (k.from ≤ k.to) × WillHold past u (λ w. SaysBlock w k lanes))
     → ((x : Lane) → slice_get lanes 0 ≡ Some x → HasRegistered v u r s x end) → AreEnded lanes → NameMarks u lanes
-    → SaysShutBy v u lanes → LanesSayPlans (KnowsRows u) (registry_of v r) s.catalog from lanes → r.waiting ≡ None
-    → SaysAlone Past v u r lanes → ((x : Lane) → slice_get lanes 0 ≡ Some x → AllOf (IsCommitted count) x.items)
+    → SaysShutBy v u lanes → SayFullLast v lanes → LanesSayPlans (KnowsRows u) (registry_of v r) s.catalog from lanes
+    → r.waiting ≡ None → SaysAlone Past v u r lanes → ((x : Lane) → slice_get lanes 0 ≡ Some x → AllOf (IsCommitted count) x.items)
     → Leaves Past count v u r s from lanes end
-leaves_of Past count v u r s from items lanes end are many begins tells has ended marks shuts plans settled alone committed = record {
+leaves_of Past count v u r s from items lanes end are many begins tells has ended marks shuts last plans settled alone committed = record {
   some = (let some_ = are.some in omega arith);
   begins = begins;
   tells = tells;
@@ -176,6 +183,7 @@ leaves_of Past count v u r s from items lanes end are many begins tells has ende
         whole = λ w only. singles_whole Past v u r.catalog from w (answers x.items) (a.only from begins settled w only);
       };
   shuts = shuts;
+  last = last;
   plans = plans;
   committed = first_committed count lanes committed;
 }
@@ -203,6 +211,7 @@ module _ (Past : Whole → Type 0) (count : ℕ) (v u : View) (r s : Registrar) 
         definitions = each_whole past u w m (registry_of v r) (first_items lanes) (first_known v u r s lanes end h.some h.has);
         ended = h.ended;
         fulls = h.shuts.one;
+        last_full = h.last;
         alone = h.alone;
       }
 
@@ -249,6 +258,7 @@ module _ (Past : Whole → Type 0) (count : ℕ) (v u : View) (r s : Registrar) 
           definitions = each_whole past u w m (registry_of v r) (lanes_controls lanes end)
               (controls_known v u r s lanes end h.some whole h.has);
           last = ap (λ (z : Registry). z.version) after;
+          settled = sym (ap (λ (z : Registry). z.waiting) after) ∙ ap waiting_id (first_settled v u r s lanes end h.some h.has);
           plans = subst (λ (z : Registry). LanesSayPlans (RowsAre w) (registry_of v r) z.rows from lanes) after (plans_by past w m);
         };
         marks = h.marks;

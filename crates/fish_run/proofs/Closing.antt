@@ -1,5 +1,5 @@
 -- A run that came to its end, one that was stopped, and one whose log couldn't be shown.
-use Rattle.std.proofs.Common.{◌≡◌, ◌≢◌, ℕ, ◌+◌, ◌^◌, List, [], ◌∷◌, ◌++◌, refl, sym, ap, ◌∙◌, subst, true, false}
+use Rattle.std.proofs.Common.{◌≡◌, ℕ, ◌+◌, ◌^◌, List, [], ◌∷◌, ◌++◌, refl, sym, ap, ◌∙◌, subst, true, false}
 use Rattle.std.proofs.Common.{Bool, Option, Some, None, Ok, Err, append-nil}
 use Rattle.std.specs.Prelude.{IsSome}
 use Rattle.fish_catalog.specs.declared.commit.Commit.{Commit}
@@ -20,22 +20,25 @@ use Rattle.fish_rule.specs.declared.table.Shape.{Shape}
 use Rattle.fish_rule.specs.declared.view.Key.{Key}
 use Rattle.fish_run.proofs.Blocks.{fulls_agree}
 use Rattle.fish_run.proofs.Ends.{all_first}
+use Rattle.fish_run.proofs.Faults.{write_loud}
 use Rattle.fish_run.proofs.Keeping.{entries_end, keeps_of, sound_first, still_keeps}
 use Rattle.fish_run.proofs.Shown.{store_is}
 use Rattle.fish_run.proofs.Written.{gained_none, part_still, part_then, part_whole, written_both}
 use Rattle.fish_run.proofs.Tables.{renewed_any}
-use Rattle.fish_run.specs.Blocks.{Round, first_registry, left_table, rounds_of}
+use Rattle.fish_run.specs.within.Running.{Finishes}
+use Rattle.fish_run.specs.Blocks.{Round, after_rounds, first_registry, left_table, rounds_of}
 use Rattle.fish_run.specs.Faults.{IsUndamaged}
 use Rattle.fish_run.specs.Ran.{IsLost, IsStopped, IsWhole, StillKeeps, StoodFor, opened_item}
 use Rattle.fish_run.specs.Tables.{LastTable}
 use Rattle.fish_run.specs.Reports.{report_of, whole_report}
+use Rattle.fish_run.specs.within.Faults.{IsWriteFault}
 use Rattle.fish_run.specs.within.Runs.{CanClose}
-use Rattle.fish_run.specs.within.Steps.{Finishes, HasRunFirst, RunsAll, RunsSome}
+use Rattle.fish_run.specs.within.Steps.{HasRunFirst, RunsAll, RunsSome}
 use Rattle.fish_run.specs.Tables.{AreRenewed}
 use Rattle.fish_run.specs.declared.fault.RunFault.{RunFault}
-use Rattle.fish_run.specs.declared.fault.RunFault.TheVariants as fault
 use Rattle.fish_run.specs.declared.lasting.Stopped.{Stopped}
 use Rattle.fish_script.specs.declared.script.Block as script
+use Rattle.fish_store.specs.Ending.{KeepsCatalog}
 use Rattle.fish_store.specs.Opened.{first_past, opened_point}
 use Rattle.fish_store.specs.Points.{point_at}
 use Rattle.fish_store.specs.Sound.{Point}
@@ -55,6 +58,10 @@ module _
   abbrev pub Stops : Bool → Stopped → Type 0
   Stops refused e = RunsSome disks p disk' o.count (first_registry rows) (opened_item o) told text old mid
       refused e
+
+  -- every image has the definitions of a store's rows
+  abbrev pub Kept : Store → Type 0
+  Kept x = (i : List ℕ) → disks.images disk' i → KeepsCatalog x.log.shape x.registrar.catalog i
 
   -- after all blocks no new one has to be begun
   renewed_all : (rounds : List Round) → AreRenewed rounds false → AreRenewed (rounds ++ []) true
@@ -87,10 +94,10 @@ module _
         }
 
     -- all blocks ran, the log was committed, and its end was written
-    whole_of : (refused : Bool) (end : ℕ) → All x refused end → HasEnd (view x.pass) x.file.flusher.count
+    whole_of : (refused : Bool) (end : ℕ) → All x refused end → HasEnd (view x.pass) x.file.flusher.count → Kept x
         → Gained mid new (report_text (item.Closed end ∷ []))
         → IsWhole disks disk disk' o told text remains old new refused
-    whole_of refused end h ends last = record {
+    whole_of refused end h ends kept last = record {
       blocks = h.blocks;
       are = h.all;
       renewed = h.renewed;
@@ -100,14 +107,14 @@ module _
           (written_both old mid new (report_of (opened_item o) h.blocks) (item.Closed end ∷ []) h.written last);
       refused_is = h.refused_is;
       keeps = keeps_of disks read disk o p (point_at disk' x) from rows same (rounds_of h.blocks) false None end h.ran
-          unshut remains true closed (λ e. ends);
+          unshut remains true closed (λ e. ends) (λ e. h.rows_are) (λ e. kept);
     }
 
     -- of its end a part was written at most
-    late_of : (refused : Bool) (end : ℕ) (why : RunFault) → why ≢ fault.Input → All x refused end
-        → HasEnd (view x.pass) x.file.flusher.count → GainedPart mid new (report_text (item.Closed end ∷ []))
+    late_of : (refused : Bool) (end : ℕ) (why : RunFault) → IsWriteFault why → All x refused end
+        → HasEnd (view x.pass) x.file.flusher.count → Kept x → GainedPart mid new (report_text (item.Closed end ∷ []))
         → IsStopped disks disk disk' o told text remains old new refused why
-    late_of refused end why other h ends last = record {
+    late_of refused end why loud h ends kept last = record {
       blocks = h.blocks;
       part = [];
       cut = None;
@@ -125,9 +132,12 @@ module _
             (part_then old mid new (report_of (opened_item o) h.blocks) (item.Closed end ∷ []) h.written last),
       );
       refused_is = h.refused_is;
-      input = λ e. absurd (other e);
+      exact = λ output memory. absurd (write_loud why loud output memory);
+      input = λ e. refl;
       keeps = keeps_of disks read disk o p (point_at disk' x) from rows same (rounds_of h.blocks ++ []) false None
-          end ran unshut remains true closed (λ e. ends);
+          end ran unshut remains true closed (λ e. ends)
+          (λ e. h.rows_are ∙ ap (λ (z : List Round). (after_rounds (first_registry rows) z).rows) (sym (append-nil (rounds_of h.blocks))))
+          (λ e. kept);
     }
       where
         ran : HasRunFirst disks p (point_at disk' x) o.count (first_registry rows) (rounds_of h.blocks ++ []) false
@@ -137,17 +147,17 @@ module _
 
     -- the run came to its end
     pub ends_whole : (refused : Bool) (end : ℕ) (why : Option RunFault) → why ≡ None → All x refused end
-        → HasEnd (view x.pass) x.file.flusher.count → Finishes (Ok end) why mid new
+        → HasEnd (view x.pass) x.file.flusher.count → Kept x → Finishes (Ok end) why mid new
         → IsWhole disks disk disk' o told text remains old new refused
-    ends_whole refused end None is all ends f = whole_of refused end all ends f
-    ends_whole refused end (Some why) is all ends f = absurd cc
+    ends_whole refused end None is all ends kept f = whole_of refused end all ends kept f
+    ends_whole refused end (Some why) is all ends kept f = absurd cc
 
     -- or a fault came at its end
     pub ends_late : (refused : Bool) (end : ℕ) (why : RunFault) (fault : Option RunFault) → fault ≡ Some why → All x refused end
-        → HasEnd (view x.pass) x.file.flusher.count → Finishes (Ok end) fault mid new
+        → HasEnd (view x.pass) x.file.flusher.count → Kept x → Finishes (Ok end) fault mid new
         → IsStopped disks disk disk' o told text remains old new refused why
-    ends_late refused end why fault is all ends f =
-        let last = subst (λ (z : Option RunFault). Finishes (Ok end) z mid new) is f in late_of refused end why last.0 all ends last.1
+    ends_late refused end why fault is all ends kept f =
+        let last = subst (λ (z : Option RunFault). Finishes (Ok end) z mid new) is f in late_of refused end why last.0 all ends kept last.1
 
   -- where a fault stopped the blocks, a store that is there may be closed
   close_is : {refused : Bool} (e : Stopped) (x : Store) → e.store ≡ Some x → (h : Stops refused e)
@@ -171,9 +181,10 @@ module _
     ended = false;
     written = part_still old mid new (report_text (report_of (opened_item o) h.blocks)) h.written none;
     refused_is = h.refused_is;
-    input = λ i. ((h.input i).0, gained_none old mid new (report_text (report_of (opened_item o) h.blocks)) (h.input i).1 none);
+    exact = λ output memory. gained_none old mid new (report_text (report_of (opened_item o) h.blocks)) (h.exact output memory) none;
+    input = h.input;
     keeps = keeps_of disks read disk o p (point_at disk' x) from rows same (rounds_of h.blocks ++ h.part)
-        h.stops.fresh h.cut h.stops.end ran unshut remains false closed (λ i. absurd cc);
+        h.stops.fresh h.cut h.stops.end ran unshut remains false closed (λ i. absurd cc) (λ i. absurd cc) (λ i. absurd cc);
   }
     where
       at : h.stops.at ≡ point_at disk' x

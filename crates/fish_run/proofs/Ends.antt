@@ -1,5 +1,5 @@
 -- Where a run ends: what was written of the blocks that ran, and of the log's end.
-use Rattle.std.proofs.Common.{◌≡◌, ◌≢◌, ℕ, ◌+◌, ◌<◌, ◌≤◌, List, [], ◌∷◌, ◌++◌, length, take, get_or, append-nil, append_assoc}
+use Rattle.std.proofs.Common.{◌≡◌, ℕ, ◌+◌, ◌<◌, ◌≤◌, List, [], ◌∷◌, ◌++◌, length, take, get_or, append-nil, append_assoc}
 use Rattle.std.proofs.Common.{refl, sym, ap, ◌∙◌, subst, ⊎_elim, arith, Bool, true, false}
 use Rattle.std.proofs.Common.{Option, Some, None, slice_get}
 use Rattle.std.specs.List.{flat_map}
@@ -16,6 +16,7 @@ use Rattle.fish_report.specs.ReportText.{report_text}
 use Rattle.fish_report.specs.declared.item.Item.{Item}
 use Rattle.fish_rule.specs.Logs.{Learns}
 use Rattle.fish_feed.proofs.Lists.{get_at, pairs_length, pairs_map, pairs_push, take_length}
+use Rattle.fish_run.proofs.Faults.{write_loud}
 use Rattle.fish_run.proofs.Tables.{renewed_any, renewed_join}
 use Rattle.fish_run.proofs.Turns.{behind_next, cut_join, first_on, rounds_both, rounds_first}
 use Rattle.fish_run.proofs.Works.{done_later}
@@ -25,6 +26,7 @@ use Rattle.fish_run.specs.Ran.{AreFirst, AreNextOf, IsBlockOf}
 use Rattle.fish_run.specs.Reports.{are_refused, block_items, report_of, said_refused}
 use Rattle.fish_run.specs.Joins.{block_said}
 use Rattle.fish_run.specs.Rounds.{AreRounds, given_in}
+use Rattle.fish_run.specs.within.Faults.{IsWriteFault}
 use Rattle.fish_run.specs.within.Running.{HowStopped}
 use Rattle.fish_run.specs.within.Steps.{HasRounds, HasRunFirst, RunsAll, RunsSome, StopsRounds, WritesBlocks}
 use Rattle.fish_run.specs.Tables.{AreRenewed}
@@ -174,7 +176,7 @@ module _
 
         Done : Type 0
         Done = (y : Block) × IsBlockOf new x y × (y.rounds ≡ rounds) × (cut ≡ None) × GainedPart b c (report_text (block_items y))
-            × (e.why ≢ fault.Input) × (now ≡ refused || said_refused (block_said y.rounds))
+            × IsWriteFault e.why × (now ≡ refused || said_refused (block_said y.rounds))
 
         not_done : Begun → Goal
         not_done m = record {
@@ -188,7 +190,8 @@ module _
           written = part_whole a c (report_text (report_of begin blocks))
               (gained_none a b c (report_text (report_of begin blocks)) h.written m.1);
           refused_is = m.3 ∙ h.refused_is;
-          input = λ k. (m.2 k, gained_none a b c (report_text (report_of begin blocks)) h.written m.1);
+          exact = λ output memory. gained_none a b c (report_text (report_of begin blocks)) h.written m.1;
+          input = m.2;
         }
 
         was_done : Done → Goal
@@ -216,22 +219,24 @@ module _
               written = subst (λ (z : List Item). GainedPart a c (report_text z)) (sym (report_more begin blocks m.0))
                   (part_then a b c (report_of begin blocks) (block_items m.0) h.written m.4);
               refused_is = m.6 ∙ ap (λ z. z || said_refused (block_said m.0.rounds)) h.refused_is ∙ sym (refused_more blocks m.0);
-              input = λ k. absurd (m.5 k);
+              exact = λ output memory. absurd (write_loud e.why m.5 output memory);
+              input = λ k. refl;
             }
 
   -- ---- all blocks
 
   -- they were written
   pub runs_all : (p q : Point D) (told : Option Files) (text : List script.Block) (i to : ℕ) (t : Registry) (a b : Option (List ℕ))
-      (refused : Bool) → length text ≡ i → HasEnd q.view to
+      (refused : Bool) → length text ≡ i → HasEnd q.view to → q.rows ≡ t.rows
       → WritesBlocks disks p q from r begin told (take i text) to t a b refused
       → ((rounds : List Round) → HasRounds disks p q from r rounds false to t
       → HasRunFirst disks p q from r rounds false None to)
       → RunsAll disks p q from r begin told text a b refused to
-  runs_all p q told text i to t a b refused many ends h end = record {
+  runs_all p q told text i to t a b refused many ends rows h end = record {
     blocks = h.blocks;
     all = subst (λ (z : List script.Block). Pairs (IsBlockOf told) z h.blocks) (take_all i text (omega (many, arith))) h.are;
     ran = end (rounds_of h.blocks) h.ran;
+    rows_are = rows ∙ ap (λ (z : Registry). z.rows) h.ran.after;
     renewed = h.renewed;
     written = h.written;
     refused_is = h.refused_is;
@@ -240,12 +245,13 @@ module _
   -- and the store went on in its table
   pub all_later : (p m q : Point D) (told : Option Files) (text : List script.Block) (a b : Option (List ℕ)) (refused : Bool) (to : ℕ)
       → RunsAll disks p m from r begin told text a b refused to
-      → Runs disks m q (λ w. Unit {0}) → Learns m.view q.view → HasEnd q.view to → q.shape ≡ m.shape
+      → Runs disks m q (λ w. Unit {0}) → Learns m.view q.view → HasEnd q.view to → q.shape ≡ m.shape → q.rows ≡ m.rows
       → RunsAll disks p q from r begin told text a b refused to
-  all_later p m q told text a b refused to h runs learns ends shape = record {
+  all_later p m q told text a b refused to h runs learns ends shape rows = record {
     blocks = h.blocks;
     all = h.all;
     ran = first_on disks p m q from to r (rounds_of h.blocks) false None h.ran runs learns ends shape;
+    rows_are = rows ∙ h.rows_are;
     renewed = h.renewed;
     written = h.written;
     refused_is = h.refused_is;
@@ -254,9 +260,9 @@ module _
   -- a fault came after all of them
   pub all_stopped : (p q : Point D) (disk : D) (told : Option Files) (text : List script.Block) (a b : Option (List ℕ))
       (refused : Bool) (to : ℕ) (e : Stopped) (h : RunsAll disks p q from r begin told text a b refused to)
-      → StopsRounds disks p disk from r (rounds_of h.blocks) None e → e.why ≢ fault.Input
+      → StopsRounds disks p disk from r (rounds_of h.blocks) None e
       → RunsSome disks p disk from r begin told text a b refused e
-  all_stopped p q disk told text a b refused to e h stop other = record {
+  all_stopped p q disk told text a b refused to e h stop = record {
     blocks = h.blocks;
     part = [];
     cut = None;
@@ -268,12 +274,13 @@ module _
         (renewed_any (rounds_of h.blocks) true h.renewed);
     written = part_whole a b (report_text (report_of begin h.blocks)) h.written;
     refused_is = h.refused_is;
-    input = λ k. absurd (other k);
+    exact = λ output memory. h.written;
+    input = λ k. refl;
   }
 
   -- nothing ran, since the first item couldn't be written
   pub stops_first : (p : Point D) (disk : D) (told : Option Files) (text : List script.Block) (a b : Option (List ℕ)) (refused : Bool)
-      (e : Stopped) → StopsRounds disks p disk from r [] None e → e.why ≢ fault.Input
+      (e : Stopped) → StopsRounds disks p disk from r [] None e → IsWriteFault e.why
       → GainedPart a b (report_text (begin ∷ [])) → refused ≡ false
       → RunsSome disks p disk from r begin told text a b refused e
   stops_first p disk told text a b refused e stop other part accepted = record {
@@ -286,5 +293,6 @@ module _
     renewed = tt;
     written = part;
     refused_is = accepted;
-    input = λ k. absurd (other k);
+    exact = λ output memory. absurd (write_loud e.why other output memory);
+    input = λ k. refl;
   }

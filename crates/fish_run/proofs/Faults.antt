@@ -13,19 +13,19 @@ use Rattle.fish_outside.specs.declared.fault.FeedRefusal.{FeedRefusal}
 use Rattle.fish_outside.specs.declared.fault.FeedRefusal.TheVariants as feed
 use Rattle.fish_report.specs.declared.writing.WriteRefusal.{WriteRefusal}
 use Rattle.fish_report.specs.declared.writing.WriteRefusal.TheVariants as write
-use Rattle.fish_run.specs.Blocks.{IsFirstFault}
-use Rattle.fish_run.specs.Faults.{IsUndamaged, feed_fault, flush_fault}
-use Rattle.fish_run.specs.within.Faults.{IsCommitFault}
+use Rattle.fish_run.specs.Faults.{IsFirstFault, IsUndamaged, feed_fault, flush_fault}
+use Rattle.fish_run.specs.within.Faults.{IsCommitFault, IsWriteFault}
 use Rattle.fish_run.specs.Faults.{lane_fault, write_fault}
 use Rattle.fish_run.specs.declared.fault.RunFault.{RunFault}
 use Rattle.fish_run.specs.declared.fault.RunFault.TheVariants as fault
 use Rattle.fish_whole.specs.Whole.{Whole}
 
--- that of the output, of a lane or of a checkpoint is none of the input
-pub write_other : (r : WriteRefusal) → write_fault r ≢ fault.Input
-write_other write.Failed is = absurd cc
-write_other write.OutOfMemory is = absurd cc
+-- one of items is of the output or of memory
+pub write_loud : (why : RunFault) → IsWriteFault why → why ≢ fault.Output → why ≢ fault.Memory → ⊥
+write_loud why (write.Failed, is) output memory = output is
+write_loud why (write.OutOfMemory, is) output memory = memory is
 
+-- that of a lane or of a checkpoint is none of the input
 pub flush_other : (r : FlushRefusal) → flush_fault r ≢ fault.Input
 flush_other flush.DiskFault is = absurd cc
 flush_other flush.OutOfMemory is = absurd cc

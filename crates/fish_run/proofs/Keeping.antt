@@ -14,14 +14,15 @@ use Rattle.fish_recover.specs.Stores.{IsOpened}
 use Rattle.fish_recover.specs.declared.opened.Opened.{Opened}
 use Rattle.fish_rule.specs.ClosedLog.{IsClosed}
 use Rattle.fish_rule.specs.declared.close.Remains.{Remains}
+use Rattle.fish_rule.specs.declared.table.Shape.{Shape}
 use Rattle.fish_rule.specs.declared.view.View.{View}
 use Rattle.fish_run.proofs.Turns.{none_full}
-use Rattle.fish_run.specs.Blocks.{Round, SaysFirst, SaysRun, first_registry}
+use Rattle.fish_run.specs.Blocks.{Round, SaysFirst, SaysRun, after_rounds, first_registry}
 use Rattle.fish_run.specs.Ran.{Keeps, StillKeeps, StoodFor, entries_of}
 use Rattle.fish_run.specs.within.Steps.{HasRunFirst}
 use Rattle.fish_store.proofs.Ending.{run_lost, run_shown}
 use Rattle.fish_store.proofs.Opening.{opened_sound, stands_part}
-use Rattle.fish_store.specs.Ending.{IsLost as LosesLog, IsShown}
+use Rattle.fish_store.specs.Ending.{IsLost as LosesLog, IsShown, KeepsCatalog}
 use Rattle.fish_store.specs.Opened.{first_past, opened_point}
 use Rattle.fish_store.specs.Sound.{IsImageOf, Point, Reaches, Runs, Sound}
 use Rattle.fish_whole.specs.Whole.{Whole}
@@ -110,14 +111,27 @@ module _
       (unshut : p.view.shut ≡ None) where
     -- all that was told is so of the whole that is shown
     pub keeps_of : (remains : Remains) (ended : Bool) → IsClosed q.view remains → (ended ≡ true → HasEnd q.view q.flusher.count)
+        → (ended ≡ true → q.rows ≡ (after_rounds (first_registry rows) rounds).rows)
+        → (ended ≡ true → (i : List ℕ) → disks.images q.disk i → KeepsCatalog q.shape q.rows i)
         → (c : Commit) (log : List Entry) (t : ℕ) → StoodFor disks disk q.disk o c log t
         → Keeps (disks.images q.disk) (disks.since q.disk t) c log ended rounds cut remains
-    keeps_of remains ended closed all c log t s = record {
+    keeps_of remains ended closed all rows_are kept c log t s = record {
       count = q.flusher.count;
       acknowledged = h.committed;
       shown = shown;
       all = λ is. sym (entries_end q.view q.flusher.count remains (all is) closed)
           ∙ sym (shown_length (disks.images q.disk) (disks.since q.disk t) log q.flusher.count Here remains shown);
+      catalog = λ is i here.
+          let k = kept is i here in
+          record {
+            commit = k.commit;
+            log = k.log;
+            stands = k.stands;
+            rows_are = k.rows_are ∙ rows_are is
+                ∙ ap (λ (z : List CatRow). (after_rounds (first_registry z) rounds).rows) (same ∙ s.is.catalog);
+            pages = k.pages ∙ ap (λ (z : Shape). z.pages) shape ∙ sym s.is.carries.pages;
+            bits = k.bits ∙ ap (λ (z : Shape). z.bucket_bits) shape ∙ sym s.is.carries.bits;
+          };
     }
       where
         Told : Whole → Type 0
@@ -125,6 +139,9 @@ module _
 
         Here : Whole → Type 0
         Here w = SaysRun w (length log) (map (clamped c.count) c.rows) rounds cut (length w.log)
+
+        shape : q.shape ≡ o.log.shape
+        shape = h.shape ∙ ap (λ (z : Point D). z.shape) from
 
         first : o.count ≡ length log
         first = s.is.count ∙ sym (size Told h.runs c log t s)

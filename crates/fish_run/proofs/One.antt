@@ -1,5 +1,5 @@
 -- One block: what its rounds did, and where a fault stops the run.
-use Rattle.std.proofs.Common.{◌≡◌, ◌≢◌, ℕ, List, [], ◌∷◌, refl, sym, ap, ◌∙◌, subst, inl, inr, false, true}
+use Rattle.std.proofs.Common.{◌≡◌, ℕ, List, [], ◌∷◌, refl, sym, ap, ◌∙◌, subst, inl, inr, false, true}
 use Rattle.std.proofs.Common.{Bool, Option, Some, None}
 use Rattle.std.specs.Prelude.{IfSome, ◌||◌}
 use Rattle.fish_disk.specs.declared.disk.Disk.{Ghosts as Disks}
@@ -18,6 +18,7 @@ use Rattle.fish_run.proofs.Tables.{renewed_any}
 use Rattle.fish_run.proofs.Turns.{rounds_end, rounds_none, runs_step}
 use Rattle.fish_run.specs.Blocks.{Block, Round, with_cut}
 use Rattle.fish_run.specs.Faults.{IsUndamaged}
+use Rattle.fish_run.specs.within.Faults.{IsWriteFault}
 use Rattle.fish_run.specs.within.Going.{EndsRounds, StopsBlock, WereGiven}
 use Rattle.fish_run.specs.Ran.{IsBlockOf}
 use Rattle.fish_run.specs.Reports.{block_items, said_items, said_refused}
@@ -25,7 +26,6 @@ use Rattle.fish_run.specs.Rounds.{AreAll, AreRounds, FollowOn, given_in}
 use Rattle.fish_run.specs.within.Running.{EndsOne, StopsOne}
 use Rattle.fish_run.specs.within.Runs.{CanClose, CanGoOn}
 use Rattle.fish_run.specs.within.Steps.{HasRounds, HasRunFirst, StopsRounds}
-use Rattle.fish_run.specs.declared.fault.RunFault.TheVariants as fault
 use Rattle.fish_run.specs.declared.lasting.Stopped.{Stopped}
 use Rattle.fish_run.specs.declared.parts.Ended.{Ended}
 use Rattle.fish_run.specs.declared.running.Lasts.{Lasts}
@@ -143,7 +143,7 @@ module _
           })
 
       -- it couldn't be written
-      pub one_unwritten : (before now : Bool) (e : Stopped) → e.store ≡ Some d.store → IsUndamaged e.why → e.why ≢ fault.Input
+      pub one_unwritten : (before now : Bool) (e : Stopped) → e.store ≡ Some d.store → IsUndamaged e.why → IsWriteFault e.why
           → GainedPart old new (report_text (said_items text.several a.count d.end d.said.items))
           → now ≡ before || said_refused d.said.items
           → StopsOne disks disk disk' a told text old new before now e

@@ -29,8 +29,8 @@ use Rattle.fish_feed.proofs.Lists.{pairs_length, pairs_map}
 use Rattle.fish_run.proofs.Stepping.{goes_next, kept_pairs, ran_numbered}
 use Rattle.fish_run.proofs.Tables.{renewed_push, renewed_true}
 use Rattle.fish_run.proofs.Turns.{behind_next, rounds_cut, rounds_end, rounds_more, rounds_none, rounds_rolled, runs_step}
-use Rattle.fish_run.specs.Blocks.{IsFirstFault, Round}
-use Rattle.fish_run.specs.Faults.{IsUndamaged}
+use Rattle.fish_run.specs.Blocks.{Round}
+use Rattle.fish_run.specs.Faults.{IsFirstFault, IsUndamaged}
 use Rattle.fish_run.specs.within.Going.{EndsRounds, GoesIn, HasNext, HasStepped, IsReady, StopsBlock, WereGiven}
 use Rattle.fish_run.specs.within.Turning.{IsRenewed}
 use Rattle.fish_run.specs.within.Parts.{StopsLanes}

@@ -1,6 +1,7 @@
 -- Lanes and what they are given, over files that are still told.
 use Rattle.std.proofs.Common.{◌≡◌, ℕ, zero, suc, ◌+◌, ◌<◌, ◌≤◌, List, [], ◌∷◌, length, refl, sym, ◌∙◌, subst, arith}
 use Rattle.std.proofs.Common.{All, None, Option, Some, append-nil, false, inl, slice_get, true}
+use Rattle.std.specs.Prelude.{Err, Ok, OnErr, OnOk, Result}
 use Rattle.fish_feed.proofs.Queues.{dones_later}
 use Rattle.fish_feed.specs.Queues.{AreIdle, IsGiven, IsQueue, LanesMayDo, MayDoAll, MayEnd}
 use Rattle.fish_feed.specs.Works.{AreDone, Pairs, Triples}
@@ -47,6 +48,13 @@ module _ {F : Type 0} (left : F → Option (List ℕ)) where
     ([], inl (subst (λ (z : List Work). IsQueue told left ss z q) (sym (append-nil ws)) h.0)),
     may_all told texts given queues h.1,
   )
+
+  -- the same once more was given, also where a file couldn't be read
+  pub may_given : {E : Type 0} (told : Option Files) (texts : List (List Statement)) (given : List (List Work)) (queues : List (Queue F))
+      (r : Result (Unit {0}) E) → OnOk r (Triples (IsQueue told left) texts given queues)
+      → OnErr r (Triples (MayEnd told left) texts given queues) → Triples (MayEnd told left) texts given queues
+  may_given told texts given queues (Ok x) ok failed = may_all told texts given queues ok
+  may_given told texts given queues (Err e) ok failed = failed
 
   -- before anything was given
   pub ungiven : (told : Option Files) (texts : List (List Statement)) (given : List (List Work)) (queues : List (Queue F))

@@ -5,6 +5,7 @@ use Rattle.fish_catalog.specs.Clamps.{clamped}
 use Rattle.fish_catalog.specs.declared.row.CatRow.{CatRow}
 use Rattle.fish_lanes.specs.Blocks.{AreEnded, EachLane, SaysBlock, control_items}
 use Rattle.fish_lanes.specs.Controlling.{IsCommitted}
+use Rattle.fish_lanes.specs.Full.{AreFullLast}
 use Rattle.fish_lanes.specs.Outcome.{IsFullIn, LanesSayPlans}
 use Rattle.fish_lanes.specs.Plans.{RowsAre}
 use Rattle.fish_lanes.specs.Registering.{ItemsFit, HasEach, Registry, after_all}
@@ -18,8 +19,6 @@ use Rattle.fish_lanes.specs.declared.work.Work.{Work}
 use Rattle.fish_report.specs.declared.item.Item.{Item}
 use Rattle.fish_rule.specs.Views.{AllOf, Among}
 use Rattle.fish_rule.specs.declared.view.Shut.{Shut}
-use Rattle.fish_run.specs.Faults.{lane_fault}
-use Rattle.fish_run.specs.declared.fault.RunFault.{RunFault}
 use Rattle.fish_whole.specs.Whole.{Whole}
 
 -- what ran at once in one table: whether it was begun for it; what each lane was given; where it lies, its lanes with
@@ -119,8 +118,8 @@ pub record SaysOneLane (rows : List CatRow) (full : Option Shut) (from : ℕ) (x
 
 -- what a round tells that begins where the log has so many numbers and the registry is this, even one in which a lane
 -- stopped at a fault: its lanes' items are so of the log, and those of its first lane of the definitions; where a
--- statement has no item, neither have those after it; and of the items of a lane that a full log refused all name one
--- claim, that of before the round if there was one
+-- statement has no item, neither have those after it; of the items of a lane that a full log refused all name one
+-- claim, that of before the round if there was one; and where there was none, that is its last item
 pub record SaysPart (w : Whole) (from : ℕ) (r : Registry) (b : Round) : Type 0 where
   pub begins : b.span.from ≡ from
   pub ends : b.end.to ≡ b.span.to
@@ -132,6 +131,7 @@ pub record SaysPart (w : Whole) (from : ℕ) (r : Registry) (b : Round) : Type 0
   pub definitions : HasEach w r (first_items b.lanes)
   pub ended : AreEnded b.lanes
   pub fulls : EachLane (λ i x. NamesOneClaim b.span.full x.items) b.lanes
+  pub last_full : b.span.full ≡ None → EachLane (λ i x. AreFullLast x.items) b.lanes
   pub alone : (x : Lane) → b.lanes ≡ x ∷ [] → SaysOneLane r.rows b.span.full from x
 
 -- what one tells in which a lane did: by the definitions after it, which are those that its first lane's items tell
@@ -145,13 +145,15 @@ pub record SaysCut (w : Whole) (from : ℕ) (r : Registry) (b : Round) : Type 0 
   pub behind_is : (x : Lane) → slice_get b.lanes 0 ≡ Some x → x.fault ≡ cause.None → behind ≡ after_round r b
 
 -- what one tells in which none did: every statement has its item; the definitions at each version are those that its
--- first lane's items tell, with the boundary that was found after them; and the same of plans, by these definitions
+-- first lane's items tell, with the boundary that was found after them, and none waits for its boundary any more; and
+-- the same of plans, by these definitions
 pub record SaysOne (w : Whole) (from : ℕ) (r : Registry) (b : Round) : Type 0 where
   pub part : SaysPart w from r b
   pub whole : EachLane (λ i x. x.fault ≡ cause.None) b.lanes
   pub registers : ItemsFit b.span.from (b.span.to + 16) r (round_controls b)
   pub definitions : HasEach w r (round_controls b)
   pub last : b.span.last ≡ (after_round r b).version
+  pub settled : (after_round r b).waiting ≡ None
   pub plans : LanesSayPlans (RowsAre w) r (after_round r b).rows from b.lanes
 
 -- what rounds tell: each begins where the one before it ended, with the definitions that it left; the last one ends
@@ -202,13 +204,3 @@ pub record FullsAgree (rounds : List Round) (end : ℕ) : Type 0 where
 -- no checkpoint that an item of these rounds tells has more entries than so many
 abbrev pub AreAcknowledged : ℕ → List Round → Type 0
 AreAcknowledged count rounds = (b : Round) → Among b rounds → AllOf (IsCommitted count) (first_items b.lanes)
-
--- ---- faults
-
--- why the first of these lanes stopped that stopped at a fault
-pub record IsFirstFault (lanes : List Lane) (why : RunFault) : Type 0 where
-  pub at : ℕ
-  pub lane : Lane
-  pub lane_is : slice_get lanes at ≡ Some lane
-  pub is : lane_fault lane.fault ≡ Some why
-  pub before : (i : ℕ) (x : Lane) → i < at → slice_get lanes i ≡ Some x → x.fault ≡ cause.None

@@ -1,7 +1,8 @@
 -- Why a run stops.
-use Rattle.std.specs.Prelude.{⊤, Option, None, Some}
+use Rattle.std.specs.Prelude.{ℕ, ◌≡◌, ◌<◌, List, ⊤, Option, None, Some, slice_get}
 use Rattle.fish_flush.specs.declared.refusal.FlushRefusal.{FlushRefusal}
 use Rattle.fish_flush.specs.declared.refusal.FlushRefusal.TheVariants as flush
+use Rattle.fish_lanes.specs.declared.lane.Lane.{Lane}
 use Rattle.fish_lanes.specs.declared.work.LaneFault.{LaneFault}
 use Rattle.fish_lanes.specs.declared.work.LaneFault.TheVariants as cause
 use Rattle.fish_outside.specs.declared.fault.FeedRefusal.{FeedRefusal}
@@ -40,3 +41,13 @@ IsUndamaged fault.Input = ⊤
 IsUndamaged fault.Output = ⊤
 IsUndamaged fault.Memory = ⊤
 IsUndamaged fault.Disk = ⊤
+
+-- ---- lanes
+
+-- why the first of these lanes stopped that stopped at a fault
+pub record IsFirstFault (lanes : List Lane) (why : RunFault) : Type 0 where
+  pub at : ℕ
+  pub lane : Lane
+  pub lane_is : slice_get lanes at ≡ Some lane
+  pub is : lane_fault lane.fault ≡ Some why
+  pub before : (i : ℕ) (x : Lane) → i < at → slice_get lanes i ≡ Some x → x.fault ≡ cause.None

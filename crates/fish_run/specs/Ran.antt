@@ -1,7 +1,7 @@
 -- What a run of a script did, what it wrote of it, and what it left of the store. `disks` is what the contract of a
 -- disk's type tells: what reads give, what a crash may leave now and since a moment, and how many calls there were.
-use Rattle.std.specs.Prelude.{ℕ, ◌≡◌, ◌+◌, ◌≤◌, List, [], ◌∷◌, ◌++◌, ⊤, Bool, true, false, Option, Some, None, IfSome}
-use Rattle.std.specs.Prelude.{IsSome, length, map, slice_get, take}
+use Rattle.std.specs.Prelude.{ℕ, ◌≡◌, ◌≢◌, ◌+◌, ◌≤◌, List, [], ◌∷◌, ◌++◌, ⊤, Bool, true, false, Option, Some, None}
+use Rattle.std.specs.Prelude.{IfSome, IsSome, length, map, slice_get, take}
 use Rattle.fish_catalog.specs.Clamps.{clamped}
 use Rattle.fish_catalog.specs.declared.commit.Commit.{Commit}
 use Rattle.fish_catalog.specs.declared.entry.Entry.{Entry}
@@ -14,15 +14,16 @@ use Rattle.fish_recover.specs.declared.opened.Opened.{Opened}
 use Rattle.fish_report.specs.ReportText.{report_text}
 use Rattle.fish_report.specs.declared.item.Item.{Item}
 use Rattle.fish_rule.specs.declared.close.Remains.{Remains}
-use Rattle.fish_run.specs.Blocks.{AreAcknowledged, Block, IsFirstFault, Round, SaysRun}
+use Rattle.fish_run.specs.Faults.{IsFirstFault}
+use Rattle.fish_run.specs.Blocks.{AreAcknowledged, Block, Round, SaysRun}
 use Rattle.fish_run.specs.Blocks.{rounds_of, with_cut}
 use Rattle.fish_run.specs.Rounds.{AreAll, AreRounds, FollowOn, given_in}
 use Rattle.fish_run.specs.Reports.{are_refused, first_item, report_of, whole_report}
-use Rattle.fish_run.specs.Tables.{AreRenewed, LastTable}
+use Rattle.fish_run.specs.Tables.{AreRenewed, LastTable, rows_over, shape_of}
 use Rattle.fish_run.specs.declared.fault.RunFault.{RunFault}
 use Rattle.fish_run.specs.declared.fault.RunFault.TheVariants as fault
 use Rattle.fish_script.specs.declared.script.Block as script
-use Rattle.fish_store.specs.Ending.{IsLost as LosesLog, IsShown}
+use Rattle.fish_store.specs.Ending.{IsLost as LosesLog, IsShown, KeepsCatalog}
 
 -- a block that ran is one of the script: what its lanes were given over its rounds does their statements, with the
 -- files that they name, each round does what the one before it left to do and what was given for it, and the last one
@@ -56,8 +57,8 @@ pub record StoodFor {D : Type 0} (disks : Disks D) (disk disk' : D) (o : Opened)
 
 -- all that is told is so of a whole log that begins with the one for which the disk stood, and ends with what is left;
 -- what a crash leaves now is a part of it that has the last commit's entries, and no checkpoint that was told has more,
--- and all of it where the run had come to its end; what one may have left since the store was opened is a part of it
--- that has the old log
+-- and all of it where the run had come to its end, with the definitions that its report tells, in a store of the same
+-- shape; what one may have left since the store was opened is a part of it that has the old log
 pub record Keeps (now since : List ℕ → Type 0) (c : Commit) (log : List Entry) (ended : Bool) (rounds : List Round)
     (cut : Option Round)
     (remains : Remains) : Type 0 where
@@ -66,6 +67,7 @@ pub record Keeps (now since : List ℕ → Type 0) (c : Commit) (log : List Entr
   pub shown : IsShown now since log count
       (λ w. SaysRun w (length log) (map (clamped c.count) c.rows) rounds cut (length w.log)) remains
   pub all : ended ≡ true → count ≡ length shown.whole.log
+  pub catalog : ended ≡ true → (i : List ℕ) → now i → KeepsCatalog (shape_of c) (rows_over c rounds) i
 
 -- the same of crashes where the log couldn't be shown
 pub record StillKeeps (now since : List ℕ → Type 0) (log : List Entry) (rounds : List Round) (cut : Option Round)
@@ -108,8 +110,8 @@ WritesPart true first told text count old new blocks =
 
 -- a run that a fault stopped: the first blocks ran, and perhaps the first rounds of one more, in the last of which a
 -- lane stopped at the fault, but for one of a file that couldn't be read; what is left is that of a closed log; a first
--- part of the report was written, without the cut block, and all of it where it was a file; refusals are those of the
--- blocks; and the disk keeps what was committed
+-- part of the report was written, without the cut block, and all of it unless it couldn't be written or memory ran out;
+-- refusals are those of the blocks; and the disk keeps what was committed
 pub record IsStopped {D : Type 0} (disks : Disks D) (disk disk' : D) (o : Opened) (told : Option Files)
     (text : List script.Block) (remains : Remains) (old new : Option (List ℕ)) (refused : Bool) (why : RunFault)
     : Type 0 where
@@ -125,7 +127,8 @@ pub record IsStopped {D : Type 0} (disks : Disks D) (disk disk' : D) (o : Opened
   pub ended : Bool
   pub written : WritesPart ended (opened_item o) told text (entries_of remains) old new blocks
   pub refused_is : refused ≡ are_refused blocks
-  pub input : why ≡ fault.Input → (cut ≡ None) × Gained old new (report_text (report_of (opened_item o) blocks))
+  pub exact : why ≢ fault.Output → why ≢ fault.Memory → Gained old new (report_text (report_of (opened_item o) blocks))
+  pub input : why ≡ fault.Input → cut ≡ None
   pub keeps : (c : Commit) (log : List Entry) (t : ℕ) → StoodFor disks disk disk' o c log t
       → Keeps (disks.images disk') (disks.since disk' t) c log ended (rounds_of blocks ++ part) cut remains
 

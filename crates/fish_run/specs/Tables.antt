@@ -1,13 +1,17 @@
--- The tables of a run: when a new one is begun, and the one that is left.
+-- The tables of a run: when a new one is begun, the one that is left, and the shape and the definitions of the store.
 use Rattle.std.specs.Prelude.{ℕ, ◌≡◌, ◌+◌, ◌<◌, ◌≤◌, ◌⊎◌, List, [], ◌∷◌, Bool, false, true}
-use Rattle.std.specs.Prelude.{Option, length, ⊤}
+use Rattle.std.specs.Prelude.{Option, length, map, ⊤}
+use Rattle.fish_catalog.specs.Clamps.{clamped}
+use Rattle.fish_catalog.specs.declared.commit.Commit.{Commit}
+use Rattle.fish_catalog.specs.declared.row.CatRow.{CatRow}
 use Rattle.fish_lanes.specs.Outcome.{IsFullIn}
 use Rattle.fish_recover.specs.declared.opened.Opened.{Opened}
 use Rattle.fish_rule.specs.ClosedLog.{IsClosed}
 use Rattle.fish_rule.specs.Start.{table_lines}
 use Rattle.fish_rule.specs.declared.close.Remains.{Remains}
+use Rattle.fish_rule.specs.declared.table.Shape.{Shape}
 use Rattle.fish_rule.specs.declared.view.View.{View}
-use Rattle.fish_run.specs.Blocks.{AreInOne, FullsAgree, Round, left_table, with_cut}
+use Rattle.fish_run.specs.Blocks.{AreInOne, FullsAgree, Round, after_rounds, first_registry, left_table, with_cut}
 
 -- the log has over 268,416,000 entries, or its table ends at the last line that a log may have
 abbrev pub IsNearLimits : ℕ → ℕ → Type 0
@@ -39,3 +43,10 @@ pub record LastTable (o : Opened) (remains : Remains) (fresh : Bool) (rounds : L
   pub end : view.about.end ≡ view.about.line + table_lines o.log.shape.pages view.about.number view.about.line
   pub same : remains.base ≡ o.log.key.number → (view.about ≡ o.log.key) × AreInOne (with_cut rounds cut)
       × (fresh ≡ false)
+
+-- the shape of a store with this commit, and the rows of its definitions after these rounds
+abbrev pub shape_of : Commit → Shape
+shape_of c = record { pages = c.pages; bucket_bits = c.bucket_bits }
+
+abbrev pub rows_over : Commit → List Round → List CatRow
+rows_over c rounds = (after_rounds (first_registry (map (clamped c.count) c.rows)) rounds).rows

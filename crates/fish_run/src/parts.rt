@@ -180,16 +180,18 @@ where
         bound: None,
     };
     loop {
-        match give(rt, alloc, host, queues, lanes) {
+        // What lanes were given is done also where a file of one couldn't be read.
+        let given = give(rt, alloc, host, queues, lanes);
+        let turned = run_turns(rt, alloc, start, lanes, said, disk, gate)?;
+        match given {
             Ok(()) => {}
             Err(refusal) => {
                 return Err(Stopped {
-                    store: Some(start.store),
+                    store: Some(turned.next.store),
                     why: RunFault::from(refusal),
                 });
             }
         }
-        let turned = run_turns(rt, alloc, start, lanes, said, disk, gate)?;
         if !has_more(queues) {
             return Ok(turned);
         }

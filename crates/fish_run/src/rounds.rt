@@ -11,7 +11,7 @@ ghost use Rattle.fish_lanes.specs.Registering.{registry_of};
 ghost use Rattle.fish_outside.specs.Causes.{Rose};
 ghost use Rattle.fish_rule.specs.Passes.{view};
 ghost use Rattle.fish_lanes.specs.Controlling.{bound_items};
-ghost use Rattle.fish_run.specs.Blocks.{IsFirstFault};
+ghost use Rattle.fish_run.specs.Faults.{IsFirstFault};
 ghost use Rattle.fish_run.specs.within.Going.{HasStepped, RestOf, StepsLane};
 ghost use Rattle.fish_run.specs.within.Turning.{FindNoneFull, IsRenewed, StopsTurn, TurnsAll, TurnsOn, says_full};
 ghost use Rattle.fish_run.specs.Joins.{goes_on};
@@ -227,7 +227,7 @@ fn is_full(lane: &Lane) -> bool
     lane.items.as_slice().iter().any(|item| says_full(item))
 }
 
-/// Whether this one does.
+/// Whether an item tells that the table is full.
 fn says_full(item: &Item) -> bool
     ensures { result ≡ says_full item.now }
 {
@@ -255,7 +255,7 @@ fn step_all(
     step_all(alloc, full, fresh, None, other_said, others)
 }
 
-/// The same of one lane.
+/// Keeps what a lane said in a round, and gives it what it goes on with.
 fn step(
     alloc: Global,
     full: bool,

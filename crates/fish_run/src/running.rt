@@ -15,9 +15,8 @@ ghost use Rattle.fish_rule.specs.declared.close.Remains.{Remains};
 ghost use Rattle.fish_run.specs.Faults.{IsUndamaged};
 ghost use Rattle.fish_run.specs.Ran.{IsLost, IsStopped, IsWhole};
 ghost use Rattle.fish_run.specs.Reports.{first_item, said_items, said_refused};
-ghost use Rattle.fish_run.specs.within.Running.{EndsOne, EndsRun, StopsOne, StopsRun, counts_of};
+ghost use Rattle.fish_run.specs.within.Running.{EndsOne, EndsRun, Finishes, StopsOne, StopsRun, counts_of};
 ghost use Rattle.fish_run.specs.within.Runs.{CanClose, CanGoOn, IsNewStore};
-ghost use Rattle.fish_run.specs.within.Steps.{Finishes};
 ghost use Rattle.fish_run.specs.declared.fault.RunFault.{RunFault as Why};
 ghost use Rattle.fish_run.specs.within.Counting.{AreLater, IsCausedBy};
 ghost use Rattle.fish_script.specs.Runnable.{CanRun, IsRunnableBlock};
@@ -45,7 +44,7 @@ pub struct Ran {
     pub fault: Option<RunFault>,
     /// Whether a statement of the blocks that ran was refused.
     pub refused: bool,
-    /// The log, where there was memory to show it.
+    /// What the last table had of the log, as it was closed; none where memory ran out for that or for a new table.
     pub remains: Option<Remains>,
 }
 

@@ -125,7 +125,7 @@ fn counts_of(fresh: bool, part: &Item) -> Option<Counted>
     }
 }
 
-/// Those of one that found the table full: none where no new one was begun.
+/// The counts of a part that found the table full: none where no new one was begun.
 fn counts_of_full(fresh: bool, stored: u32, refused: u32) -> Option<Counted>
     ensures none { result ≡ None → fresh ≡ false }
     ensures some { IfSome result (λ c. (fresh ≡ true) × (c ≡ record { stored = stored; refused = refused })) }

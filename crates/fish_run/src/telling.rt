@@ -5,10 +5,10 @@ ghost use Rattle.std.specs.List.{flat_map, list_any};
 ghost use Rattle.fish_outside.specs.Content.{Gained, GainedPart};
 ghost use Rattle.fish_report.specs.ReportText.{is_refusal, report_text};
 ghost use Rattle.fish_report.specs.Writing.{HasWriteCause};
-ghost use Rattle.fish_run.specs.Blocks.{IsFirstFault};
 ghost use Rattle.fish_run.specs.Reports.{block_foot, block_head, first_item, lane_foot, lane_head, lane_items};
 ghost use Rattle.fish_run.specs.Reports.{said_items};
 ghost use Rattle.fish_run.specs.Reports.{said_refused};
+ghost use Rattle.fish_run.specs.Faults.{IsFirstFault};
 ghost use Rattle.fish_run.specs.within.Steps.{AreWhole};
 
 use crate::fault::{RunFault, lane_fault};
@@ -39,7 +39,7 @@ pub(crate) fn has_refusal(said: &[Said]) -> bool
     said.iter().any(|lane| is_refused(lane))
 }
 
-/// Whether one of this lane was.
+/// Whether a statement of one lane was refused.
 fn is_refused(said: &Said) -> bool
     ensures { result ≡ list_any is_refusal said.now.items }
 {

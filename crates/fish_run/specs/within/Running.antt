@@ -1,11 +1,12 @@
 -- What the blocks of a run leave, from its first moment on. Private clauses speak of it.
-use Rattle.std.specs.Prelude.{ℕ, ◌≡◌, ◌≢◌, ◌||◌, List, [], ◌⊎◌, Bool, false, true, Option, None}
+use Rattle.std.specs.Prelude.{ℕ, ◌≡◌, ◌||◌, List, [], ◌∷◌, ◌⊎◌, Bool, false, true, Option, None, Some, Result, Ok, Err}
 use Rattle.fish_disk.specs.declared.disk.Disk.{Ghosts as Disks}
 use Rattle.fish_lanes.specs.Ending.{HasEnd}
 use Rattle.fish_lanes.specs.Registering.{registry_of}
 use Rattle.fish_outside.specs.Content.{Files, Gained, GainedPart}
 use Rattle.fish_report.specs.ReportText.{report_text}
 use Rattle.fish_report.specs.declared.item.Item.{Item}
+use Rattle.fish_report.specs.declared.item.Item.TheVariants as item
 use Rattle.fish_rule.specs.Passes.{view}
 use Rattle.fish_run.specs.Blocks.{Block, Round, first_registry, with_cut}
 use Rattle.fish_run.specs.Ran.{IsBlockOf}
@@ -15,11 +16,14 @@ use Rattle.fish_run.specs.Rounds.{AreRounds}
 use Rattle.fish_run.specs.within.Runs.{CanClose, CanGoOn}
 use Rattle.fish_run.specs.within.Steps.{HasRounds, RunsAll, RunsSome, StopsRounds}
 use Rattle.fish_run.specs.within.Counting.{Counts}
+use Rattle.fish_run.specs.within.Faults.{IsWriteFault}
 use Rattle.fish_run.specs.Tables.{AreRenewed}
+use Rattle.fish_run.specs.declared.fault.RunFault.{RunFault}
 use Rattle.fish_run.specs.declared.fault.RunFault.TheVariants as fault
 use Rattle.fish_run.specs.declared.lasting.Stopped.{Stopped}
 use Rattle.fish_run.specs.declared.running.Lasts.{Lasts}
 use Rattle.fish_script.specs.declared.script.Block as script
+use Rattle.fish_store.specs.Ending.{KeepsCatalog}
 use Rattle.fish_store.specs.Points.{point_at}
 use Rattle.fish_store.specs.declared.store.Store.{Store}
 
@@ -51,7 +55,7 @@ HowStopped told text old new before now rounds cut s =
     × (now ≡ before))
     ⊎ ((b : Block) × IsBlockOf told text b × (b.rounds ≡ rounds) × (cut ≡ None) × GainedPart old new
     (report_text (block_items b))
-    × (s.why ≢ fault.Input) × (now ≡ before || said_refused (block_said b.rounds)))
+    × IsWriteFault s.why × (now ≡ before || said_refused (block_said b.rounds)))
 
 -- a fault came before it ran, in it, or as it was written
 pub record StopsOne {D : Type 0} (disks : Disks D) (disk disk' : D) (a : Lasts) (told : Option Files)
@@ -65,7 +69,7 @@ pub record StopsOne {D : Type 0} (disks : Disks D) (disk disk' : D) (a : Lasts) 
 
 -- ---- a run
 
--- all blocks ran and were written; and where it is so, all of the log is committed
+-- all blocks ran and were written; and where it is so, all of the log is committed, with its definitions
 pub record EndsRun {D : Type 0} (disks : Disks D) (disk disk' : D) (s : Store) (first : ℕ) (begin : Item)
     (told : Option Files) (text : List script.Block) (old new : Option (List ℕ)) (refused lasts : Bool) (b : Lasts)
     : Type 0 where
@@ -74,6 +78,8 @@ pub record EndsRun {D : Type 0} (disks : Disks D) (disk disk' : D) (s : Store) (
   pub runs : RunsAll disks (point_at disk s) (point_at disk' b.store) first (first_registry s.registrar.catalog)
       begin told text old new refused b.count
   pub committed : lasts ≡ true → HasEnd (view b.store.pass) b.store.file.flusher.count
+  pub catalog : lasts ≡ true → (i : List ℕ) → disks.images disk' i
+      → KeepsCatalog b.store.log.shape b.store.registrar.catalog i
 
 -- a fault stopped it
 abbrev pub StopsRun : {D : Type 0} → Disks D → D → D → Store → ℕ → Item → Option Files → List script.Block
@@ -81,3 +87,11 @@ abbrev pub StopsRun : {D : Type 0} → Disks D → D → D → Store → ℕ →
 StopsRun disks disk disk' s first begin told text old new refused e =
     RunsSome disks (point_at disk s) disk' first (first_registry s.registrar.catalog) begin told text old new
     refused e
+
+-- ---- the end
+
+-- the last item was written where all blocks had run
+abbrev pub Finishes : Result ℕ RunFault → Option RunFault → Option (List ℕ) → Option (List ℕ) → Type 0
+Finishes (Ok count) None old new = Gained old new (report_text (item.Closed count ∷ []))
+Finishes (Ok count) (Some why) old new = IsWriteFault why × GainedPart old new (report_text (item.Closed count ∷ []))
+Finishes (Err before) why old new = (why ≡ Some before) × Gained old new []

@@ -1,11 +1,11 @@
 -- What the steps of a run leave. Private clauses speak of it.
 use Rattle.std.specs.Prelude.{ℕ, ◌≡◌, ◌≢◌, ◌⊎◌, ◌<◌, ◌≤◌, List, [], ◌∷◌, ◌++◌, Bool, false, true, Option, Some, None}
-use Rattle.std.specs.Prelude.{Result, Ok, Err, IfSome, length, slice_get}
+use Rattle.std.specs.Prelude.{IfSome, length, slice_get}
 use Rattle.fish_disk.specs.declared.disk.Disk.{Ghosts as Disks}
 use Rattle.fish_feed.specs.Works.{Pairs}
 use Rattle.fish_lanes.specs.Blocks.{AreEnded, HasRegistered, IsBlockSpan, NameMarks, SaysBlock}
 use Rattle.fish_lanes.specs.Controlling.{IsCommitted}
-use Rattle.fish_lanes.specs.Outcome.{IsFullIn, LanesSayPlans, SaysShutBy}
+use Rattle.fish_lanes.specs.Outcome.{IsFullIn, LanesSayPlans, SayFullLast, SaysShutBy}
 use Rattle.fish_lanes.specs.Ending.{HasEnd}
 use Rattle.fish_lanes.specs.Gains.{WasShut}
 use Rattle.fish_lanes.specs.Plans.{KnowsRows}
@@ -18,21 +18,19 @@ use Rattle.fish_outside.specs.Content.{Files, Gained, GainedPart}
 use Rattle.fish_registry.specs.declared.registrar.Registrar.{Registrar}
 use Rattle.fish_report.specs.ReportText.{report_text}
 use Rattle.fish_report.specs.declared.item.Item.{Item}
-use Rattle.fish_report.specs.declared.item.Item.TheVariants as item
 use Rattle.fish_rule.specs.Views.{AllOf}
 use Rattle.fish_rule.specs.declared.view.Shut.{Shut}
 use Rattle.fish_rule.specs.declared.view.View.{View}
-use Rattle.fish_run.specs.Blocks.{AreAcknowledged, AreFullSince, AreInOne, Block, HasFoundFull, IsFirstFault, Round}
+use Rattle.fish_run.specs.Blocks.{AreAcknowledged, AreFullSince, AreInOne, Block, HasFoundFull, Round}
 use Rattle.fish_run.specs.Blocks.{SaysCut, SaysFirst}
 use Rattle.fish_run.specs.within.Blocks.{AreMarked}
 use Rattle.fish_run.specs.Blocks.{SaysOne, SaysOneLane, SaysRounds, after_round, after_rounds, begun, first_items}
 use Rattle.fish_run.specs.Blocks.{in_table, last_table, left_table, rounds_of, with_cut}
-use Rattle.fish_run.specs.Faults.{IsUndamaged}
+use Rattle.fish_run.specs.Faults.{IsFirstFault, IsUndamaged}
 use Rattle.fish_run.specs.Ran.{AreFirst, AreNextOf, IsBlockOf}
 use Rattle.fish_run.specs.Reports.{are_refused, report_of}
 use Rattle.fish_run.specs.within.Runs.{CanClose}
 use Rattle.fish_run.specs.Tables.{AreRenewed}
-use Rattle.fish_run.specs.declared.fault.RunFault.{RunFault}
 use Rattle.fish_run.specs.declared.fault.RunFault.TheVariants as fault
 use Rattle.fish_run.specs.declared.lasting.Stopped.{Stopped}
 use Rattle.fish_script.specs.declared.script.Block as script
@@ -86,6 +84,7 @@ pub record Leaves (Past : Whole → Type 0) (count : ℕ) (v u : View) (r s : Re
   pub marks : NameMarks u lanes
   pub alone : (x : Lane) → lanes ≡ x ∷ [] → SaysOneLane r.catalog v.shut from x
   pub shuts : SaysShutBy v u lanes
+  pub last : SayFullLast v lanes
   pub plans : LanesSayPlans (KnowsRows u) (registry_of v r) s.catalog from lanes
   pub committed : AllOf (IsCommitted count) (first_items lanes)
 
@@ -156,13 +155,14 @@ pub record WritesBlocks {D : Type 0} (disks : Disks D) (p q : Point D) (from : �
   pub written : Gained old new (report_text (report_of begin blocks))
   pub refused_is : refused ≡ are_refused blocks
 
--- all blocks ran, and their items were written
+-- all blocks ran, and their items were written; the rows of the definitions are those that they tell
 pub record RunsAll {D : Type 0} (disks : Disks D) (p q : Point D) (from : ℕ) (r : Registry) (begin : Item)
     (told : Option Files) (text : List script.Block) (old new : Option (List ℕ)) (refused : Bool) (end : ℕ)
     : Type 0 where
   pub blocks : List Block
   pub all : Pairs (IsBlockOf told) text blocks
   pub ran : HasRunFirst disks p q from r (rounds_of blocks) false None end
+  pub rows_are : q.rows ≡ (after_rounds r (rounds_of blocks)).rows
   pub renewed : AreRenewed (rounds_of blocks) false
   pub written : Gained old new (report_text (report_of begin blocks))
   pub refused_is : refused ≡ are_refused blocks
@@ -180,12 +180,5 @@ pub record RunsSome {D : Type 0} (disks : Disks D) (p : Point D) (disk : D) (fro
   pub renewed : AreRenewed (with_cut (rounds_of blocks ++ part) cut) true
   pub written : GainedPart old new (report_text (report_of begin blocks))
   pub refused_is : refused ≡ are_refused blocks
-  pub input : s.why ≡ fault.Input → (cut ≡ None) × Gained old new (report_text (report_of begin blocks))
-
--- ---- the end
-
--- the last item was written where all blocks had run
-abbrev pub Finishes : Result ℕ RunFault → Option RunFault → Option (List ℕ) → Option (List ℕ) → Type 0
-Finishes (Ok count) None old new = Gained old new (report_text (item.Closed count ∷ []))
-Finishes (Ok count) (Some why) old new = (why ≢ fault.Input) × GainedPart old new (report_text (item.Closed count ∷ []))
-Finishes (Err before) why old new = (why ≡ Some before) × Gained old new []
+  pub exact : s.why ≢ fault.Output → s.why ≢ fault.Memory → Gained old new (report_text (report_of begin blocks))
+  pub input : s.why ≡ fault.Input → cut ≡ None

@@ -20,10 +20,12 @@ returns-clause-end g c = λ to e.
 
 pub returns-clause-all : goal.returns-clause-all
 returns-clause-all g c =
-    let u = view c.checkpoint.new.pass in
-    subst (HasEnd u) (sym c.in_ok-checkpoint.ensures.count.0)
-    (end_settled (view c.args.store.now.pass) u c.in_ok-checkpoint.field-0 c.requires.go.0 c.checkpoint.ensures.reads
-    c.checkpoint.ensures.pass.stands c.requires.go.1.end c.in_ok-checkpoint.ensures.settled)
+    let u = view c.checkpoint.new.pass in (
+      subst (HasEnd u) (sym c.in_ok-checkpoint.ensures.commit.count)
+          (end_settled (view c.args.store.now.pass) u c.in_ok-checkpoint.field-0 c.requires.go.0 c.checkpoint.ensures.reads
+          c.checkpoint.ensures.pass.stands c.requires.go.1.end c.in_ok-checkpoint.ensures.settled),
+      c.in_ok-checkpoint.ensures.commit.definitions,
+    )
 
 pub returns-clause-again : goal.returns-clause-again
 returns-clause-again g c = c.checkpoint.ensures.again

@@ -17,7 +17,7 @@ roll-requires g c =
     let e = c.in-Ok.ensures in
     record {
       may = may_roll g.D.Disk.images c.commit.new.disk c.args.store c.commit.new.store c.args.from c.requires.go.can e.log e.registrar
-          e.close e.reads e.again e.all;
+          e.close e.reads e.again e.all.0;
     }
 
 pub returns-in-Ok-roll-clause-rolled : goal.returns-in-Ok-roll-clause-rolled
@@ -31,7 +31,7 @@ returns-in-Ok-roll-clause-rolled g c =
     let p = point_at c.args.disk.now s in
     let at = point_at c.commit.new.disk m in
     let q = point_at c.commit.new.disk t in
-    let same = one_end (view m.pass) m.file.flusher.count c.args.from e.close.of.stands e.all (e.end c.args.from c.requires.go.end) in
+    let same = one_end (view m.pass) m.file.flusher.count c.args.from e.close.of.stands e.all.0 (e.end c.args.from c.requires.go.end) in
     record {
       runs = runs_both disk p at q (λ w. Unit {0}) (λ w. Unit {0}) (λ w. Unit {0})
           (λ w a b. tt)

@@ -12,8 +12,8 @@ use Rattle.fish_script.specs.declared.script.Statement.{Statement}
 use Rattle.fish_feed.specs.Queues.{left_of_all}
 use Rattle.fish_run.proofs.parts.run_given.Given as goal
 
-abbrev pub invariant-loop-refusal : goal.invariant-loop-refusal
-invariant-loop-refusal g l = record {
+abbrev pub invariant-loop-turned : goal.invariant-loop-turned
+invariant-loop-turned g l = record {
   go : CanGoOn g.D.Disk.images l.disk l.start.store l.start.from;
   lanes : AreLanes l.lanes;
   idle : AreIdle l.lanes;
@@ -30,5 +30,5 @@ invariant-loop-refusal g l = record {
   disk : g.D.Disk.faults l.fn.disk ≤ g.D.Disk.faults l.disk;
 }
 
-abbrev pub decreases-loop-refusal : goal.decreases-loop-refusal
-decreases-loop-refusal g l = left_of_all l.queues
+abbrev pub decreases-loop-turned : goal.decreases-loop-turned
+decreases-loop-turned g l = left_of_all l.queues

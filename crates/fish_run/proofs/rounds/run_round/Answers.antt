@@ -16,7 +16,7 @@ returns-clause-leaves g c =
     leaves_of Past b.new.store.file.flusher.count (view c.args.store.now.pass) (view b.new.store.pass) c.args.store.now.registrar
     b.new.store.registrar c.args.from c.args.lanes.now b.new.lanes b.result c.requires.lanes b.auto.lanes c.requires.go.end
     (λ past p k span many. b.ensures.items.sound past p k span (omega (many, b.auto.lanes, arith)))
-    b.ensures.items.registered b.ensures.lanes.ended b.ensures.lanes.marks b.ensures.lanes.shuts
+    b.ensures.items.registered b.ensures.lanes.ended b.ensures.lanes.marks b.ensures.lanes.shuts b.ensures.lanes.last
     (b.ensures.items.plans c.args.from c.requires.go.end)
     c.requires.go.settled b.ensures.items.alone b.ensures.store.committed
 

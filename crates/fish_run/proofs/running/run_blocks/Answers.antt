@@ -1,12 +1,12 @@
 -- The first block and the next ones.
-use Rattle.std.proofs.Common.{◌∙◌, ◌+◌, arith, sym, take, ap, subst, ◌≡◌, List, ◌∷◌, ◌++◌, [], Err}
+use Rattle.std.proofs.Common.{◌∙◌, ◌+◌, arith, refl, sym, take, ap, subst, ◌≡◌, List, ◌∷◌, ◌++◌, [], Err}
 use Rattle.std.proofs.lemmas.List.{take_more}
 use Rattle.fish_lanes.specs.Ending.{HasEnd}
 use Rattle.fish_lanes.specs.Registering.{Registry, registry_of}
 use Rattle.fish_rule.specs.Passes.{view}
 use Rattle.fish_run.proofs.Caused.{caused_since, caused_write}
 use Rattle.fish_run.proofs.Ends.{runs_all, stops_first, stops_more, writes_first, writes_more}
-use Rattle.fish_run.proofs.Faults.{write_other, write_well}
+use Rattle.fish_run.proofs.Faults.{write_well}
 use Rattle.fish_run.proofs.Going.{close_of, err_known, new_registry}
 use Rattle.fish_feed.proofs.Lists.{get_at}
 use Rattle.fish_run.proofs.One.{first_of, rounds_self, stops_with}
@@ -114,7 +114,7 @@ returns-in-Err-clause-some g c =
     (subst IsUndamaged (sym why) (write_well refusal))
     (first_of disk p p from from first first []
     (rounds_self disk p from first)
-    (subst (HasEnd (view s.pass)) (sym c.requires.count) new.go.end))) (λ input. write_other refusal (sym why ∙ input))
+    (subst (HasEnd (view s.pass)) (sym c.requires.count) new.go.end))) (refusal, why)
     c.in-Err.ensures.part c.requires.accepted
 
 pub returns-in-Err-clause-cause : goal.returns-in-Err-clause-cause
@@ -185,8 +185,9 @@ returns-clause-all g c =
       go = λ is. inv.go;
       runs = runs_all disk c.args.count first (first_item c.args.made c.args.count) p q
           (g.H.Host.files c.loop-block.host) c.args.script.now c.loop-block.block-index b.count t (g.W.Sink.written c.args.out.now)
-          (g.W.Sink.written c.loop-block.out) c.loop-block.refused (omega arith) inv.go.end inv.writes
+          (g.W.Sink.written c.loop-block.out) c.loop-block.refused (omega arith) inv.go.end refl inv.writes
           (λ (rounds : List Round) h. first_of disk p q c.args.count b.count first t rounds h
           inv.go.end);
       committed = λ is. absurd cc;
+      catalog = λ is. absurd cc;
     }

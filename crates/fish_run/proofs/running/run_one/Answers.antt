@@ -6,7 +6,7 @@ use Rattle.fish_feed.specs.Works.{AreDone, Pairs}
 use Rattle.fish_outside.specs.Content.{Gained, GainedPart}
 use Rattle.fish_report.specs.ReportText.{report_text}
 use Rattle.fish_run.proofs.Caused.{caused_given, caused_write}
-use Rattle.fish_run.proofs.Faults.{write_other, write_well}
+use Rattle.fish_run.proofs.Faults.{write_well}
 use Rattle.fish_run.proofs.Going.{err_known}
 use Rattle.fish_run.proofs.One.{one_cut, one_ended, one_unwritten}
 use Rattle.fish_run.specs.Blocks.{with_cut}
@@ -82,7 +82,7 @@ returns-in-Err-clause-stopped g c =
     let why : e.why ≡ write_fault refusal = c.stopped.ensures.why ∙ c.from.ensures in
     one_unwritten disk c.args.disk.now c.args.lasts told c.args.block.now c.requires.go
     c.run_lanes.new.disk d end.given done end.rounds old new c.args.refused.now c.tell-told.new.refused e c.stopped.ensures.store
-    (subst IsUndamaged (sym why) (write_well refusal)) (λ input. write_other refusal (sym why ∙ input))
+    (subst IsUndamaged (sym why) (write_well refusal)) (refusal, why)
     (subst (λ (z : List Said). GainedPart old new (report_text (said_items c.args.block.now.several c.args.lasts.count d.end z))) items
     c.in-Err.ensures.part)
     (subst (λ (z : List Said). c.tell-told.new.refused ≡ c.args.refused.now || said_refused z) items c.tell-told.ensures.refused)

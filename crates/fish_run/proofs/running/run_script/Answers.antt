@@ -7,9 +7,9 @@ use Rattle.fish_rule.specs.declared.table.Log.{Log}
 use Rattle.fish_run.proofs.Closing.{ends_late, ends_stopped, ends_whole, lost_all, lost_some, well_some}
 use Rattle.fish_run.proofs.Going.{new_store, point_opened}
 use Rattle.fish_run.proofs.Shown.{shown_is, shown_some, well_closed, well_ended}
+use Rattle.fish_run.specs.within.Running.{Finishes}
 use Rattle.fish_run.specs.Ran.{IsLost, IsStopped, IsWhole}
 use Rattle.fish_run.specs.within.Runs.{IsNewStore}
-use Rattle.fish_run.specs.within.Steps.{Finishes}
 use Rattle.fish_run.specs.declared.fault.RunFault.TheVariants as fault
 use Rattle.fish_store.specs.Points.{point_at}
 use Rattle.fish_run.proofs.running.run_script.Goals as goal
@@ -53,7 +53,7 @@ returns-in-Ok-clause-whole g c none =
     (point_opened first s o e.log e.pass e.rows e.flusher e.cold) s.registrar.catalog e.rows new.unshut
     (subst (λ (z : Log). z.key.buckets ≡ 2 ^ z.shape.bucket_bits) e.log new.go.table.buckets)
     (new.go.can.of.about ∙ ap (λ (z : Log). z.key) e.log) b.new.disk told text old mid
-    now l.store h.close r f.0 b.new.refused l.count k.result.fault none h.runs (h.committed refl) f.1))
+    now l.store h.close r f.0 b.new.refused l.count k.result.fault none h.runs (h.committed refl) (h.catalog refl) f.1))
 
 pub returns-in-Ok-clause-stopped : goal.returns-in-Ok-clause-stopped
 returns-in-Ok-clause-stopped g c why fault_is r is =
@@ -84,7 +84,7 @@ returns-in-Ok-clause-stopped g c why fault_is r is =
     (point_opened first s o e.log e.pass e.rows e.flusher e.cold) s.registrar.catalog e.rows new.unshut
     (subst (λ (z : Log). z.key.buckets ≡ 2 ^ z.shape.bucket_bits) e.log new.go.table.buckets)
     (new.go.can.of.about ∙ ap (λ (z : Log). z.key) e.log) b.new.disk told text old mid
-    now l.store h.close r f.0 b.new.refused l.count why k.result.fault fault_is h.runs (h.committed refl) f.1))
+    now l.store h.close r f.0 b.new.refused l.count why k.result.fault fault_is h.runs (h.committed refl) (h.catalog refl) f.1))
 
 pub returns-in-Ok-clause-lost : goal.returns-in-Ok-clause-lost
 returns-in-Ok-clause-lost g c none =

@@ -1,5 +1,6 @@
 -- The blocks, and after them the last checkpoint.
 use Rattle.std.proofs.Common.{ap, refl, Err, Some}
+use Rattle.fish_registry.specs.declared.registrar.Registrar.{Registrar}
 use Rattle.fish_rule.specs.declared.table.Log.{Log}
 use Rattle.fish_run.proofs.Caused.{caused_inner, caused_since}
 use Rattle.fish_run.proofs.Ends.{all_later, all_stopped}
@@ -39,12 +40,11 @@ returns-in-Err-clause-some g c =
     c.run_blocks.new.refused l.count h.runs
     (runs_on disk m q c.commit.ensures.goes c.commit.ensures.later)
     c.commit.ensures.goes.learns (c.commit.ensures.end l.count (h.go (λ is. absurd cc)).end)
-    (ap (λ (z : Log). z.shape) c.commit.ensures.log) in
+    (ap (λ (z : Log). z.shape) c.commit.ensures.log) (ap (λ (z : Registrar). z.catalog) c.commit.ensures.registrar) in
     all_stopped disk c.args.count first begin p q c.commit.new.disk told c.args.script.now old
     new c.run_blocks.new.refused l.count e all
     (stops_with disk p c.commit.new.disk last c.args.count l.count first
     (rounds_of all.blocks) e refl c.commit.ensures.close (commit_well why named) all.ran)
-    (commit_other why named)
 
 pub returns-in-Err-clause-cause : goal.returns-in-Err-clause-cause
 returns-in-Err-clause-cause g c =
@@ -77,6 +77,7 @@ returns-in-Ok-clause-all g c =
           (g.W.Sink.written c.args.out.now) (g.W.Sink.written c.run_blocks.new.out) c.run_blocks.new.refused l.count h.runs
           (runs_on disk m q c.commit.ensures.goes c.commit.ensures.later)
           c.commit.ensures.goes.learns (c.commit.ensures.end l.count (h.go (λ is. absurd cc)).end)
-          (ap (λ (z : Log). z.shape) c.commit.ensures.log);
-      committed = λ is. c.in-Ok.ensures.all;
+          (ap (λ (z : Log). z.shape) c.commit.ensures.log) (ap (λ (z : Registrar). z.catalog) c.commit.ensures.registrar);
+      committed = λ is. c.in-Ok.ensures.all.0;
+      catalog = λ is. c.in-Ok.ensures.all.1;
     }
