@@ -11,7 +11,7 @@ SOURCES := crates.txt $(call FILES,crates/fish*)
 
 .PHONY: demo build test try quick hostile faults rolls soak edits gate install bench bench_run bench_log bench_ingest bench_registrations bench_scans bench_peers bench_checkpoints bench_older clean
 
-# Runs both commands of the program on the examples, built with no proof. With FILE, DEF and VALUE it is a `select` on a file of one's
+# Runs `select` and `run` on the examples, built with no proof. With FILE, DEF and VALUE it is a `select` on a file of one's
 # own (and FORM=csv), with SCRIPT a `run` of a script of one's own.
 demo:
 ifdef SCRIPT

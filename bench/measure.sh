@@ -1,6 +1,6 @@
 # What the benchmarks of whole programs share; the scripts of this folder read it in.
 
-# one run's seconds of processor time, and its peak in KiB, put behind a file
+# one run's seconds of processor time, and its peak in KiB, added to a file
 measure() {
   local name=$1
   shift
@@ -13,7 +13,7 @@ best() {
   sort -n "data/$1.runs" | awk 'NR == 1 { least = $1 } $2 > most { most = $2 } END { print least, most }'
 }
 
-# a program that writes a line on standard error for each work with so many lanes, put behind a file: what it does with
+# a program that writes a line on standard error for each work with so many lanes, added to a file: what it does with
 # one lane counts where it runs on the last core, the rest where it runs on all. It has real-time priority where that is
 # allowed, so that other work on the machine waits.
 lanes() {

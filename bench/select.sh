@@ -4,12 +4,11 @@
 #
 # usage: bench/select.sh [BYTES]        (67108864 bytes where none are given)
 #
-# It needs Debian's packages jq, python3 and time; and librust-serde-json-dev with cargo for the Rust
+# It needs Debian's packages jq, python3, time and util-linux; and librust-serde-json-dev with cargo for the Rust
 # program, which is left out where they are missing. `make build` makes the program first.
 set -euo pipefail
 cd "$(dirname "$0")"
 . ./measure.sh
-size=${1:-67108864}
 program=../crates/fishstore/out/fishstore
 runs=5
 
@@ -18,14 +17,10 @@ for tool in jq python3 /usr/bin/time taskset; do
 done
 [ -x "$program" ] || { echo "bench: $program is missing: run 'make build' first" >&2; exit 1; }
 
-mkdir -p data
-file=data/events-$size.jsonl
-[ -f "$file" ] || python3 events.py "$size" > "$file"
-
+file=$(events "${1:-67108864}")
 baseline=$(rust_program select)
 
-model=$(awk -F: '/model name/ { print $2; exit }' /proc/cpuinfo | sed 's/^ *//')
-echo "$(nproc) cores, $model, $(stat -c %s "$file") bytes, best of $runs runs on one core"
+echo "$(machine), $(stat -c %s "$file") bytes, best of $runs runs on one core"
 for filter in 'type ReleaseEvent few' 'type PushEvent half'; do
   read -r name value share <<< "$filter"
   rm -f data/ours.runs data/jq.runs data/rust.runs

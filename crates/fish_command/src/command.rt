@@ -14,7 +14,7 @@ pub struct Select {
     pub value: Value,
     /// The form of the file's records.
     pub form: Form,
-    /// Whether the first record of the file names the fields of the others.
+    /// Whether the first row of a file in CSV is dropped. Never so in JSON.
     pub header: bool,
     /// The name of the file.
     pub file: Text,
@@ -27,7 +27,7 @@ pub struct Run {
     pub store: Text,
     /// The name of the script.
     pub script: Text,
-    /// How many pages the log may have, where it is said: 1 to 512.
+    /// How many pages of 1 MiB a table in memory has, where it is said: 1 to 512.
     pub pages: Option<u16>,
     /// How many bits choose a bucket, where it is said: 4 to 16.
     pub bits: Option<u8>,

@@ -28,7 +28,7 @@ pub(crate) const MAX_RECORDS: u16 = 60_000;
 pub(crate) struct Layout {
     /// Their form.
     pub form: Form,
-    /// Whether the first names the fields of the others.
+    /// Whether the first row is dropped.
     pub header: bool,
 }
 

@@ -16,12 +16,13 @@ use std::process::ExitCode;
 pub struct Outcome {
     /// The exit status.
     pub status: u8,
+    /// What stopped it.
     pub fault: Fault,
     /// Whether something was refused.
     pub refused: bool,
     /// What `select` tells. What `run` tells is written block by block, and isn't kept.
     pub report: Report,
-    /// The part of a `run`'s log that its last table had, where it was closed.
+    /// What the last table had of the log of a run or a sample, where it was closed.
     pub remains: Option<Remains>,
 }
 

@@ -79,7 +79,7 @@ fn push_scans(alloc: Global, works: &mut Works) -> Result<(), AllocError>
     push_bands(alloc, works)
 }
 
-/// Those of the kinds.
+/// Puts the scans of all kinds after the others.
 fn push_kinds(alloc: Global, works: &mut Works) -> Result<(), AllocError>
     ensures { OnOk result (works.new ≡ works.old ++ kind_scans 7) }
 {
@@ -89,7 +89,7 @@ fn push_kinds(alloc: Global, works: &mut Works) -> Result<(), AllocError>
     Ok(())
 }
 
-/// That of a kind.
+/// Puts the scan of a kind after the others.
 fn push_kind(alloc: Global, works: &mut Works, kind: u32) -> Result<(), AllocError>
     ensures { OnOk result (works.new ≡ works.old ++ scan_kind kind ∷ []) }
 {
@@ -98,7 +98,7 @@ fn push_kind(alloc: Global, works: &mut Works, kind: u32) -> Result<(), AllocErr
     push_scan(alloc, works, "kind", Value::Text(Text::from_string(text)))
 }
 
-/// Those of the bands.
+/// Puts the scans of all bands after the others.
 fn push_bands(alloc: Global, works: &mut Works) -> Result<(), AllocError>
     ensures { OnOk result (works.new ≡ works.old ++ band_scans 10) }
 {
@@ -108,7 +108,7 @@ fn push_bands(alloc: Global, works: &mut Works) -> Result<(), AllocError>
     Ok(())
 }
 
-/// That of a band.
+/// Puts the scan of a band after the others.
 fn push_band(alloc: Global, works: &mut Works, band: u32) -> Result<(), AllocError>
     requires { band < 10 }
     ensures { OnOk result (works.new ≡ works.old ++ scan_band band ∷ []) }

@@ -117,7 +117,7 @@ fn push_share(alloc: Global, number: u32, lane: u8, lanes: &mut Vec<Lane>) -> Re
     Ok(())
 }
 
-/// Runs them.
+/// Runs the lanes that store the records, and looks at what they say.
 fn run_shares<R: Threads + Sync, D: Disk + Send>(
     rt: &R,
     alloc: Global,

@@ -14,7 +14,7 @@ pub(crate) fn are_whole(lanes: &[Lane]) -> bool
     lanes.iter().all(|lane| is_whole(lane))
 }
 
-/// Whether one did.
+/// Whether a lane met no fault, and hands nothing back.
 fn is_whole(lane: &Lane) -> bool
     ensures { result ≡ is_whole_lane lane.now }
 {
@@ -28,7 +28,7 @@ pub(crate) fn are_registered(items: &[Item]) -> bool
     items.iter().all(|item| is_registered(item))
 }
 
-/// Whether one does.
+/// Whether an item says that a definition was registered, and where its index begins.
 fn is_registered(item: &Item) -> bool
     ensures { result ≡ is_registered item.now }
 {
@@ -44,14 +44,14 @@ pub(crate) fn are_stored(lanes: &[Lane]) -> bool
         .all(|lane| are_all_stored(lane.items.as_slice()))
 }
 
-/// Whether those of one do.
+/// Whether items say that files were stored of which each line is a record.
 fn are_all_stored(items: &[Item]) -> bool
     ensures { result ≡ list_all is_stored items.now }
 {
     items.iter().all(|item| is_stored(item))
 }
 
-/// Whether one item does.
+/// Whether an item says so of one file.
 fn is_stored(item: &Item) -> bool
     ensures { result ≡ is_stored item.now }
 {
@@ -68,7 +68,7 @@ pub(crate) fn are_scanned(items: &[Item]) -> bool
     items.iter().all(|item| is_scanned(item))
 }
 
-/// Whether one does.
+/// Whether an item is a scan that left no number open.
 fn is_scanned(item: &Item) -> bool
     ensures { result ≡ is_scanned item.now }
 {

@@ -17,7 +17,7 @@ use std::thread::Threads;
 /// Why a sample wasn't printed.
 #[derive(Clone, Copy, Debug, PartialEq, Eq)]
 pub enum SampleFault {
-    /// Memory ran out.
+    /// Memory ran out, or a lane's items aren't those of a sample.
     Memory,
     /// The output failed.
     Output,
@@ -35,7 +35,7 @@ impl From<AllocError> for SampleFault {
 }
 
 /// Stores the records below a number by four lanes in a store of its own, counts its values by scans, and prints the
-/// counts.
+/// counts. A number whose records don't fit into a table of 8 pages ends as `Memory`; 60,000 do.
 pub fn sample<R: Threads + Sync, W: Sink>(
     rt: &R,
     alloc: Global,
@@ -58,7 +58,7 @@ pub fn sample<R: Threads + Sync, W: Sink>(
     }
 }
 
-/// The same without printing.
+/// Fills and scans the store of a sample, and answers what is printed.
 fn made<R: Threads + Sync>(rt: &R, alloc: Global, number: u32) -> Result<Sampled, AllocError>
     ensures { IfOk result (λ s. IsSample number s.text s.remains) }
 {
@@ -68,7 +68,7 @@ fn made<R: Threads + Sync>(rt: &R, alloc: Global, number: u32) -> Result<Sampled
     sampled
 }
 
-/// The same on a disk that is empty.
+/// Fills and scans a store on an empty disk.
 fn made_on<R: Threads + Sync, D: Disk + Send>(
     rt: &R,
     alloc: Global,

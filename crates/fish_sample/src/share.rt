@@ -29,7 +29,7 @@ pub(crate) fn share_lane(alloc: Global, number: u32, lane: u8) -> Result<Lane, A
     }
 }
 
-/// What it is to do.
+/// The statement that stores a lane's share.
 fn share_work(alloc: Global, number: u32, lane: u8) -> Result<Work, AllocError>
     ensures { IfOk result (IsShareWork number lane) }
 {

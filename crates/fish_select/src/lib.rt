@@ -1,5 +1,4 @@
-//! What `select` answers for a file of either form, from its parts: each line or row is read once, and evaluated while
-//! it is read.
+//! What `select` answers for a file of either form, from its parts: each line or row is evaluated as it comes.
 #![tactic(auto)]
 
 mod found;

@@ -28,8 +28,11 @@ use std::alloc::Global;
 /// What is asked of a file: the records of its form on which a definition has a value.
 #[derive(Clone, Copy)]
 pub struct Query<'q> {
+    /// The definition.
     pub def: &'q Def,
+    /// The value asked for.
     pub value: &'q Value,
+    /// The form of the file's records.
     pub form: Form,
 }
 
