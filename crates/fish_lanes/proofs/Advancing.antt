@@ -5,13 +5,16 @@ use Rattle.fish_lanes.proofs.Claims.{shuts_answers, shuts_more}
 use Rattle.fish_lanes.proofs.Done.{HasAnswered, item_told}
 use Rattle.fish_lanes.proofs.Gaining.{full_later, gains_both}
 use Rattle.fish_lanes.proofs.Lists.{all_more, filter_first, filter_last, filter_other, filter_skip}
-use Rattle.fish_lanes.proofs.Items.{SaysAll, behind_is, made_append, shown_in, says_cut, says_ended, says_more}
+use Rattle.fish_lanes.proofs.Items.{SaysAll, StandAfter, behind_is, made_append, shown_in, says_cut, says_ended, says_more}
 use Rattle.fish_lanes.proofs.Publishing.{published_later}
-use Rattle.fish_lanes.proofs.Showing.{full_fit, item_settles, item_shown}
+use Rattle.fish_lanes.proofs.RowLists.{has_above}
+use Rattle.fish_lanes.proofs.Showing.{full_fit, item_ends, item_settles, item_shown}
+use Rattle.fish_lanes.specs.within.Advancing.{EndsBy}
 use Rattle.fish_lanes.specs.within.Doing.{IsFit}
 use Rattle.fish_lanes.specs.Gains.{KeepsShut}
 use Rattle.fish_lanes.specs.within.Gains.{Gains}
 use Rattle.fish_lanes.specs.Records.{LaneRow, contents}
+use Rattle.fish_lanes.specs.within.Records.{Ascends}
 use Rattle.fish_lanes.specs.within.Running.{HasRun, IsFullItem}
 use Rattle.fish_lanes.specs.Seen.{Shown, settled, shown_by}
 use Rattle.fish_lanes.specs.within.Sizes.{SaysShut}
@@ -42,6 +45,20 @@ shown_either n (y ∷ items) x m =
     ⊎_elim (λ (g : Among n (shown_in items)). inl (among_right n (shown_by y) (shown_in items) g))
     (λ (g : Among n (shown_by x)). inr g) (shown_either n items x h))
     (among_either n (shown_by y) (shown_in (items ++ x ∷ [])) m)
+
+-- items that tell of no number from a count on tell of none from a higher one on
+ends_later : (count more : ℕ) (items : List Item) → count ≤ more → AllOf (EndsBy count) items → AllOf (EndsBy more) items
+ends_later count more [] less h = tt
+ends_later count more (x ∷ items) less h = (let a = h.0 in omega arith, ends_later count more items less h.1)
+
+-- so what is stored from the count on stands after them
+stand_after : (count to : ℕ) (items : List Item) (rows : List LaneRow) → AllOf (EndsBy count) items → Ascends count rows to
+    → StandAfter items rows
+stand_after count to [] rows h up = tt
+stand_after count to (x ∷ items) rows h up = (
+  λ n has. let a = h.0 in let b = has_above n count to rows up has in omega arith,
+  stand_after count to items rows h.1 up,
+)
 
 -- what was refused before is still named by the claim that shut the pass
 fulls_later : (u t : View) (items : List Item) → t.about ≡ u.about → KeepsShut u t → AllOf (IsFullItem u) items
@@ -88,6 +105,7 @@ told_on v u t works items h g same =
       shown = λ n x m i low. published_later u t n learns
           (h.shown n x m i (let same : t.about.number ≡ u.about.number = ap (λ (z : Key). z.number) learns.about in omega arith));
       settles = λ k m. let a = h.settles k m in let e = learns.settled in omega arith;
+      ends = ends_later u.learned.count t.learned.count items learns.count h.ends;
       size = h.size;
       full = fulls_later u t items learns.about g.shut h.full;
       versions = omega arith;
@@ -110,7 +128,8 @@ told_more {Past} v u t works items w x rows h g first fit shuts version =
       gains = gains_both v u t h.rows rows h.gains g;
       tells = λ past behind s within full z m far.
           says_more z s [] [] h.rows rows works items w x
-          (up_to_later past u t s.to _ learns (h.tells past behind s (within_before v u t s learns within) full) z m far) first
+          (up_to_later past u t s.to _ learns (h.tells past behind s (within_before v u t s learns within) full) z m far)
+          (stand_after u.learned.count t.learned.count items rows h.ends g.ascends) first
           (subst (λ (k : Span). SaysItem z k h.rows (shown_in items) w x) (sym (behind_is items s))
           (item_told Past v u t works items s h learns within full past behind w x fit z m far));
       shown = λ n s m i low. ⊎_elim
@@ -119,6 +138,8 @@ told_more {Past} v u t works items w x rows h g first fit shuts version =
       settles = λ k m. ⊎_elim (λ (n : Among (settled k) (shown_in items)). (let a = h.settles k n in omega arith))
           (λ (n : Among (settled k) (shown_by x)). item_settles u t learns.about Past w x k fit n)
           (shown_either (settled k) items x m);
+      ends = all_more (EndsBy t.learned.count) items x (ends_later u.learned.count t.learned.count items learns.count h.ends)
+          (item_ends u t Past w x fit);
       size = (let a = length-append items (x ∷ []) in let b = length-append works (w ∷ []) in let e = h.size in
           omega arith);
       full = all_more (IsFullItem t) items x (fulls_later u t items learns.about g.shut h.full) (full_fit Past u t w x fit);
@@ -179,7 +200,8 @@ run_cut v u t works items w later rows count why named h g first =
       gains = gains_both v u t h.rows rows h.gains g;
       tells = λ past behind s within full z m far.
           says_cut z s [] [] h.rows rows works (answers items) w later count
-          (up_to_later past u t s.to _ learns (h.tells past behind s (within_before v u t s learns within) full) z m far) first;
+          (up_to_later past u t s.to _ learns (h.tells past behind s (within_before v u t s learns within) full) z m far)
+          (stand_after u.learned.count t.learned.count (answers items) rows h.ends g.ascends) first;
       full = fulls_later u t items learns.about g.shut (fulls_all u items h.full);
       ended = record {
         whole = λ e. absurd (named e);
@@ -199,6 +221,7 @@ told_fewer P Q v u works items fewer h = record {
   tells = λ past behind. h.tells past (fewer past behind);
   shown = h.shown;
   settles = h.settles;
+  ends = h.ends;
   size = h.size;
   full = h.full;
   versions = h.versions;

@@ -179,12 +179,11 @@ module _ (v u : View) (ask : Ask) (from to : ℕ) (opens : List ℕ) (range : Is
     open_numbers k inside far = record {
       rise = range.rise;
       first = λ n o. pick_first n o (dec_lt n k.from);
-      apart = λ i j lane f g p q one other below_i below_j at_i at_j.
+      latest = λ i j lane f g p q at more within below at_i at_j.
           let base = base_is.1 in
-          let above_i = opened i one in
-          let above_j = opened j other in
-          always_closed u m.last (λ k x. IsEntry x i (entry.Stored lane f p) → IsEntry x j (entry.Stored lane g q) → i ≡ j) m.remains
-          m.learns m.closed (range.apart i j lane f g p q one other)
+          let above = opened j at in
+          always_closed u m.last (λ k x. IsEntry x i (entry.Stored lane f p) → ¬ IsEntry x j (entry.Stored lane g q)) m.remains
+          m.learns m.closed (range.latest i j lane f g p q at more within)
           (entry_there past u w m i (entry.Stored lane f p) (omega arith) (omega arith) at_i)
           (entry_there past u w m j (entry.Stored lane g q) (omega arith) (omega arith) at_j);
       behind = λ n above below past_end. pick n above below past_end (among_or n opens);

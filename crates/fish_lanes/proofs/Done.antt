@@ -52,6 +52,7 @@ told_self Past v outside idle = record {
   tells = λ past behind s within full w m far. refl;
   shown = λ n s m. elim m [ ];
   settles = λ n m. elim m [ ];
+  ends = tt;
   size = refl;
   full = tt;
   versions = omega arith;

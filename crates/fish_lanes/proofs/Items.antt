@@ -1,13 +1,16 @@
 -- One statement more.
-use Rattle.std.proofs.Common.{◌≡◌, ◌+◌, ℕ, arith, List, [], ◌∷◌, ◌++◌, refl, sym, ap, ◌∙◌, subst}
+use Rattle.std.proofs.Common.{◌≡◌, ◌+◌, ℕ, arith, List, [], ◌∷◌, ◌++◌, refl, sym, ap, ◌∙◌, subst, ⊎_elim}
 use Rattle.std.proofs.Common.{append_assoc, append-nil, take}
-pub use Rattle.fish_lanes.specs.within.Advancing.{SaysAll, made, shown_in}
-use Rattle.fish_lanes.specs.Records.{LaneRow, contents}
+use Rattle.fish_lanes.proofs.RowLists.{has_either}
+pub use Rattle.fish_lanes.specs.within.Advancing.{SaysAll, shown_in}
+pub use Rattle.fish_lanes.specs.within.Spans.{made}
+use Rattle.fish_lanes.specs.Records.{HasNumber, LaneRow, contents}
 use Rattle.fish_lanes.specs.Seen.{Shown, shown_by}
 use Rattle.fish_lanes.specs.Spans.{Span, behind, made_by}
-use Rattle.fish_lanes.specs.Telling.{SaysItem, SaysItems, content_of, count_of}
+use Rattle.fish_lanes.specs.Telling.{SaysItem, SaysItems, StandFrom, content_of, count_of, told_to}
 use Rattle.fish_lanes.specs.declared.work.Work.{Work}
 use Rattle.fish_report.specs.declared.item.Item.{Item}
+use Rattle.fish_rule.specs.Views.{AllOf}
 use Rattle.fish_whole.specs.Whole.{Whole}
 
 -- the block after items, by the versions that they made
@@ -26,31 +29,42 @@ behind_is (x ∷ items) s = behind_is items (behind x s)
     ∙ ap (λ (n : ℕ). record s { first = n })
     (let e : s.first + made_by x + made items ≡ s.first + (made_by x + made items) = omega arith in e)
 
+-- the same of two lists of rows
+stand_both : (first : ℕ) (rows more : List LaneRow) → StandFrom first rows → StandFrom first more → StandFrom first (rows ++ more)
+stand_both first rows more h g n has =
+    ⊎_elim (λ (m : HasNumber n rows). h n m) (λ (m : HasNumber n more). g n m) (has_either n rows more has)
+
+-- the rows stand after all that these items tell of
+abbrev pub StandAfter : List Item → List LaneRow → Type 0
+StandAfter items more = AllOf (λ y. StandFrom (told_to y) more) items
+
 -- one more after them
 pub says_more : (z : Whole) (s : Span) (before : List LaneRow) (shown : List Shown) (rows more : List LaneRow)
     (works : List Work) (items : List Item) (w : Work) (x : Item)
     → SaysAll z s before shown rows works items
-    → contents more ≡ take (count_of x) (content_of w)
+    → StandAfter items more → contents more ≡ take (count_of x) (content_of w)
     → SaysItem z (behind_all items s) (before ++ rows) (shown ++ shown_in items) w x
     → SaysAll z s before shown (rows ++ more) (works ++ w ∷ []) (items ++ x ∷ [])
-says_more z s before shown rows more [] [] w x none same tells = (
+says_more z s before shown rows more [] [] w x none from same tells = (
   more,
   [],
   ap (λ (z : List LaneRow). z ++ more) none ∙ sym (append-nil more),
   same,
   subst (λ (p : List LaneRow × List Shown). SaysItem z s p.0 p.1 w x)
       (λ i. ((ap (λ (z : List LaneRow). before ++ z) none ∙ append-nil before) i, append-nil shown i)) tells,
+  λ n has. elim has [ ],
   refl,
 )
-says_more z s before shown rows more [] (y ∷ items) w x none same tells = elim none [ ]
-says_more z s before shown rows more (w2 ∷ works) [] w x none same tells = elim none [ ]
-says_more z s before shown rows more (w2 ∷ works) (y ∷ items) w x (mine, rest, parts, mine_is, here, there) same tells = (
+says_more z s before shown rows more [] (y ∷ items) w x none from same tells = elim none [ ]
+says_more z s before shown rows more (w2 ∷ works) [] w x none from same tells = elim none [ ]
+says_more z s before shown rows more (w2 ∷ works) (y ∷ items) w x (mine, rest, parts, mine_is, here, after, there) from same tells = (
   mine,
   rest ++ more,
   ap (λ (z : List LaneRow). z ++ more) parts ∙ append_assoc mine rest more,
   mine_is,
   here,
-  says_more z (behind y s) (before ++ mine) (shown ++ shown_by y) rest more works items w x there same
+  stand_both (told_to y) rest more after from.0,
+  says_more z (behind y s) (before ++ mine) (shown ++ shown_by y) rest more works items w x there from.1 same
       (subst (λ (p : List LaneRow × List Shown). SaysItem z (behind_all items (behind y s)) p.0 p.1 w x)
       (λ i. (
         (ap (λ (z : List LaneRow). before ++ z) parts ∙ sym (append_assoc before mine rest)) i,
@@ -65,29 +79,31 @@ pub says_ended : (z : Whole) (s : Span) (before : List LaneRow) (shown : List Sh
 says_ended z s before shown rows [] [] h = h
 says_ended z s before shown rows [] (x ∷ items) h = elim h [ ]
 says_ended z s before shown rows (w ∷ works) [] h = elim h [ ]
-says_ended z s before shown rows (w ∷ works) (x ∷ items) (mine, rest, parts, mine_is, here, there) = (
+says_ended z s before shown rows (w ∷ works) (x ∷ items) (mine, rest, parts, mine_is, here, after, there) = (
   mine,
   rest,
   parts,
   mine_is,
   here,
+  after,
   says_ended z (behind x s) (before ++ mine) (shown ++ shown_by x) rest works items there,
 )
 
 -- with a part of the next statement it was cut
 pub says_cut : (z : Whole) (s : Span) (before : List LaneRow) (shown : List Shown) (rows more : List LaneRow)
     (works : List Work) (items : List Item) (w : Work) (later : List Work) (j : ℕ)
-    → SaysAll z s before shown rows works items → contents more ≡ take j (content_of w)
+    → SaysAll z s before shown rows works items → StandAfter items more → contents more ≡ take j (content_of w)
     → SaysItems z s before shown (rows ++ more) (works ++ w ∷ later) items
-says_cut z s before shown rows more [] [] w later j none part =
+says_cut z s before shown rows more [] [] w later j none from part =
     (j, ap (λ (z : List LaneRow). contents (z ++ more)) none ∙ part)
-says_cut z s before shown rows more [] (y ∷ items) w later j none part = elim none [ ]
-says_cut z s before shown rows more (w2 ∷ works) [] w later j none part = elim none [ ]
-says_cut z s before shown rows more (w2 ∷ works) (y ∷ items) w later j (mine, rest, parts, mine_is, here, there) part = (
+says_cut z s before shown rows more [] (y ∷ items) w later j none from part = elim none [ ]
+says_cut z s before shown rows more (w2 ∷ works) [] w later j none from part = elim none [ ]
+says_cut z s before shown rows more (w2 ∷ works) (y ∷ items) w later j (mine, rest, parts, mine_is, here, after, there) from part = (
   mine,
   rest ++ more,
   ap (λ (z : List LaneRow). z ++ more) parts ∙ append_assoc mine rest more,
   mine_is,
   here,
-  says_cut z (behind y s) (before ++ mine) (shown ++ shown_by y) rest more works items w later j there part,
+  stand_both (told_to y) rest more after from.0,
+  says_cut z (behind y s) (before ++ mine) (shown ++ shown_by y) rest more works items w later j there from.1 part,
 )

@@ -72,12 +72,13 @@ says_short : (z : Whole) (s : Span) (before : List LaneRow) (shown : List Shown)
 says_short z s before shown rows [] [] w later size none = (0, ap contents none)
 says_short z s before shown rows [] (x ∷ items) w later size h = elim h [ ]
 says_short z s before shown rows (y ∷ works) [] w later size h = absurd (omega arith)
-says_short z s before shown rows (y ∷ works) (x ∷ items) w later size (mine, rest, parts, mine_is, here, there) = (
+says_short z s before shown rows (y ∷ works) (x ∷ items) w later size (mine, rest, parts, mine_is, here, after, there) = (
   mine,
   rest,
   parts,
   mine_is,
   here,
+  after,
   says_short z (behind x s) (before ++ mine) (shown ++ shown_by x) rest works items w later (omega arith) there,
 )
 

@@ -8,6 +8,7 @@ use Rattle.fish_lanes.specs.within.Published.{IsPublished}
 use Rattle.fish_lanes.specs.within.Running.{IsFree, IsFullItem}
 use Rattle.fish_lanes.specs.Seen.{IsShown, Shown, claimed, range, settled, shown_by}
 use Rattle.fish_lanes.specs.Spans.{is_answer, made_by}
+use Rattle.fish_lanes.specs.Telling.{told_to}
 use Rattle.fish_lanes.specs.declared.work.Work.{Work}
 use Rattle.fish_lanes.specs.declared.work.Work.TheVariants as work
 use Rattle.fish_report.specs.declared.item.Item.{Item}
@@ -106,6 +107,37 @@ module _ (u t : View) (about : t.about ≡ u.about) where
       checked : (f : FitsCheckpoint u t x) → Among (settled k) (settled f.count ∷ []) → k ≤ t.learned.settled
       checked f (inr none) = elim none [ ]
       checked f (inl e) = (let same : f.count ≡ k = ap count_shown e in let a = f.settled in omega arith)
+
+-- what tells of no number ends by any
+ends_none : (x y : Item) (count : ℕ) → x ≡ y → told_to y ≡ 0 → told_to x ≤ count
+ends_none x y count is none = (let e : told_to x ≡ told_to y = ap told_to is in omega arith)
+
+-- no item tells of a number that its pass hadn't counted
+pub item_ends : (u t : View) (Past : Whole → Type 0) (w : Work) (x : Item) → IsFit Past u t w x → told_to x ≤ t.learned.count
+item_ends u t Past (work.Register name def) x (inl f) = ends_none x _ t.learned.count f.2 refl
+item_ends u t Past (work.Register name def) x (inr (inl f)) = ends_none x _ t.learned.count f.3 refl
+item_ends u t Past (work.Register name def) x (inr (inr f)) = ends_none x _ t.learned.count f.1 refl
+item_ends u t Past (work.Deregister name) x (inl f) = ends_none x _ t.learned.count f.2 refl
+item_ends u t Past (work.Deregister name) x (inr f) = ends_none x _ t.learned.count f.1 refl
+item_ends u t Past (work.Ingest form begin name file) x (inl f) = ends_none x _ t.learned.count f.is refl
+item_ends u t Past (work.Ingest form begin name file) x (inr (inl f)) = ends_none x _ t.learned.count f.is refl
+item_ends u t Past (work.Ingest form begin name file) x (inr (inr f)) = ends_none x _ t.learned.count f.is refl
+item_ends u t Past (work.Scan ask) x (inl f) =
+    let r = f.fits.planned.range in
+    let within = r.within in
+    let claimed = r.claimed in
+    let e : told_to x ≡ f.to = ap told_to f.is in
+    omega arith
+item_ends u t Past (work.Scan ask) x (inr f) = ends_none x _ t.learned.count f.is refl
+item_ends u t Past (work.Explain ask) x (inl f) =
+    let r = f.fits.explained.planned.range in
+    let within = r.within in
+    let claimed = r.claimed in
+    let e : told_to x ≡ f.to = ap told_to f.is in
+    omega arith
+item_ends u t Past (work.Explain ask) x (inr f) = ends_none x _ t.learned.count f.is refl
+item_ends u t Past work.Checkpoint x f =
+    (let e : told_to x ≡ f.count = ap told_to f.is in let counted = f.counted in omega arith)
 
 -- ---- kinds
 

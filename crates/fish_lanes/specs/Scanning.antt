@@ -1,5 +1,5 @@
 -- What scans, and plans of scans, tell of the whole log.
-use Rattle.std.specs.Prelude.{ℕ, ◌≡◌, ◌+◌, ◌<◌, ◌≤◌, List, [], Some, length, map, min, slice_get}
+use Rattle.std.specs.Prelude.{ℕ, ◌≡◌, ◌≢◌, ◌+◌, ◌<◌, ◌≤◌, List, [], Some, length, map, min, slice_get}
 use Rattle.fish_catalog.specs.declared.entry.Entry.{Entry}
 use Rattle.fish_catalog.specs.declared.entry.Entry.TheVariants as entry
 use Rattle.fish_catalog.specs.declared.listed.Listed.{Listed}
@@ -57,13 +57,13 @@ pub record IsAskedRange (s : Span) (ask : Ask) (from to : ℕ) : Type 0 where
 pub record HoldsSeen (w : Whole) (seen : ℕ → Type 0) (ask : Ask) (from to : ℕ) (opens : List ℕ) : Type 0 where
   pub each : (n : ℕ) → seen n → n < length w.log → IsAskedFor ask n → (from ≤ n) × (n < to) × ¬ Among n opens
 
--- the open numbers rise within the range, from a beginning on; no two below an end are stored by one lane, and every
--- number from the end on is open, so that what a scan shows lies below it
+-- the open numbers rise within the range, from a beginning on; each is the last number of its lane in the range, of
+-- those below an end; and every number from the end on is open, so that what a scan shows lies below it
 pub record AreOpen (begin end : ℕ) (entries : List Entry) (from to : ℕ) (opens : List ℕ) : Type 0 where
   pub rise : Rise from to opens
   pub first : (n : ℕ) → Among n opens → begin ≤ n
-  pub apart : (m n lane : ℕ) (f g : Form) (p q : List ℕ) → Among m opens → Among n opens → m < end → n < end
-      → slice_get entries m ≡ Some (entry.Stored lane f p) → slice_get entries n ≡ Some (entry.Stored lane g q) → m ≡ n
+  pub latest : (m n lane : ℕ) (f g : Form) (p q : List ℕ) → Among n opens → n < m → m < to → m < end
+      → slice_get entries m ≡ Some (entry.Stored lane f p) → slice_get entries n ≢ Some (entry.Stored lane g q)
   pub behind : (n : ℕ) → from ≤ n → n < to → end ≤ n → Among n opens
 
 -- a scan: its rows are exactly the records of the log in its range, less the open ones, on which the definition that

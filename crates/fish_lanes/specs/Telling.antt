@@ -35,6 +35,17 @@ count_of (item.Ingested file stored refused) = stored
 count_of (item.IngestFull file line lines end stored refused) = stored
 count_of x = 0
 
+-- up to which number an item tells of the log
+abbrev pub told_to : Item → ℕ
+told_to (item.Scanned name value from to opens rows version) = to
+told_to (item.Explained name value from to plan version) = to
+told_to (item.Checkpointed count) = count
+told_to x = 0
+
+-- none of the rows has a number below this one
+abbrev pub StandFrom : ℕ → List LaneRow → Type 0
+StandFrom first rows = (n : ℕ) → HasNumber n rows → first ≤ n
+
 -- all lines or rows were read, and so many are records, and so many are none
 pub record AreCounted (outs : List (Option (List ℕ))) (stored many : ℕ) : Type 0 where
   pub stored_is : stored ≡ length (accepted outs)
@@ -103,8 +114,9 @@ SaysItem w s before shown work.Checkpoint x = SaysCheckpoint s before shown x
 
 -- ---- the items of a lane
 
--- what the items of a lane tell: the rows are what they say is stored, one after the other; where statements are
--- left without an item, the rest of the rows are the first payloads of the next statement
+-- what the items of a lane tell: the rows are what they say is stored, one after the other, and none tells of what is
+-- stored after it; where statements are left without an item, the rest of the rows are the first payloads of the next
+-- statement
 abbrev pub SaysItems : Whole → Span → List LaneRow → List Shown → List LaneRow → List Work → List Item → Type 0
 SaysItems w s before shown rows [] [] = rows ≡ []
 SaysItems w s before shown rows [] (x ∷ items) = ⊥
@@ -113,6 +125,7 @@ SaysItems w s before shown rows (y ∷ works) (x ∷ items) = (mine : List LaneR
     × (rows ≡ mine ++ rest)
     × (contents mine ≡ take (count_of x) (content_of y))
     × SaysItem w s before shown y x
+    × StandFrom (told_to x) rest
     × SaysItems w (behind x s) (before ++ mine) (shown ++ shown_by x) rest works items
 
 -- the same from the lane's first statement on, by the items that answer statements

@@ -67,13 +67,11 @@ pub record Facts (k : Key) (count : ℕ) (dir log start : ℕ → ℕ) (l : Lear
   pub gaps : AllOf (IsGap k count dir log start) l.gaps
   pub labels : AllOf (IsLabel k count dir log start) l.labels
 
--- these numbers were found unpublished since the tail was at a count: no two were claimed by one lane, and a record in
--- flight below the count, of a lane that claimed one of them, is that one
+-- these numbers were found unpublished since the tail was at a count: below it each was the last that its lane claimed
 pub record AreOpens (k : Key) (count : ℕ) (dir lane_of : ℕ → ℕ) (o : Opens) : Type 0 where
   pub within : o.count ≤ count
   pub below : (n : ℕ) → Among n o.numbers → n < o.count
-  pub apart : (m n : ℕ) → Among m o.numbers → Among n o.numbers → lane_of m ≡ lane_of n → m ≡ n
-  pub flying : (m n : ℕ) → Among n o.numbers → k.number ≤ m → m < o.count → dir m ≡ 0 → lane_of m ≡ lane_of n → m ≡ n
+  pub latest : (m n : ℕ) → Among n o.numbers → n < m → m < o.count → lane_of m ≢ lane_of n
 
 -- the claim that shut a pass is a published mark
 pub record IsShut (k : Key) (count : ℕ) (dir start : ℕ → ℕ) (s : Shut) : Type 0 where

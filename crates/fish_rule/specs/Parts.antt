@@ -81,8 +81,8 @@ pub record Whole (k : Key) (log : ℕ → ℕ) (lane : ℕ) (f : Flight) : Type 
   pub record_of : IsRecord lane f.number f.lines (body log f.line)
   pub upto : f.linked ≤ keys_of (body log f.line 0)
 
--- a record in flight with a pass of this lane: its region is claimed and its number not published;
--- the words stored so far stand in the log, and zeros after them; of a void that is the header alone
+-- a record in flight with a pass of this lane: its region is claimed and its number not published, and it is the lane's
+-- last claim; the words stored so far stand in the log, and zeros after them; of a void that is the header alone
 pub record InFlight (k : Key) (count : ℕ) (dir log start lane_of : ℕ → ℕ) (lane : ℕ) (f : Flight) : Type 0 where
   pub above : k.number ≤ f.number
   pub below : f.number < count
@@ -90,6 +90,7 @@ pub record InFlight (k : Key) (count : ℕ) (dir log start lane_of : ℕ → ℕ
   pub lines : start (suc f.number) ≡ f.line + f.lines
   pub unpublished : dir f.number ≡ 0
   pub owner : lane_of f.number ≡ lane
+  pub latest : (n : ℕ) → f.number < n → n < count → lane_of n ≢ lane
   pub live : 1 ≤ lane
   pub short : length f.words ≤ f.lines * 4
   pub written : (i : ℕ) → i < length f.words → ¬ IsLinkedWord f.linked i → log (f.line * 4 + i) ≡ slice_index f.words i

@@ -5,7 +5,7 @@ ghost use Rattle.fish_rule.specs.ClosedLaws.{DefinitionsAreClosed, EndsWhereNext
 ghost use Rattle.fish_rule.specs.Comparing.{OneLineIsOneClaim, OneNumberIsOneClaim, RegionsFollow};
 ghost use Rattle.fish_rule.specs.Intervals.{CoveredAreBetween, IntervalsAreCovered, IntervalsAreIndexed, IntervalsStay};
 ghost use Rattle.fish_rule.specs.Machine.{EverySchedule, EveryStepIsFinal};
-ghost use Rattle.fish_rule.specs.OpenNumbers.{OpensAreApart};
+ghost use Rattle.fish_rule.specs.OpenNumbers.{OpensAreLast};
 
 /// From an empty log on, the rule holds after every list of steps of any passes, in any order; and
 /// each step keeps for good what lasts.
@@ -51,10 +51,10 @@ pub fn law_found_regions()
     ensures follow { RegionsFollow }
 {}
 
-/// Of the numbers that a pass found unpublished since one load of the tail, no two are ever stored by one
-/// lane: while it looked, each lane had one record in flight at most.
+/// A number that a pass found unpublished is the last that its lane ever stores of those that were claimed when the
+/// pass loaded the tail: a lane claims a number when its record before is published.
 ///
 /// Its contract is that law.
 pub fn law_opens()
-    ensures { OpensAreApart }
+    ensures { OpensAreLast }
 {}

@@ -62,7 +62,7 @@ module _ (number lane : ℕ) (few : number < 2 ^ 32) where
   share_rows w s before shown name rows [] h many all = absurd (let e = many in omega arith)
   share_rows w s before shown name rows (x ∷ y ∷ items) h many all = absurd (let e = many in omega arith)
   share_rows w s before shown name rows (x ∷ []) h many all =
-      ap contents h.2 ∙ contents_append h.0 h.1 ∙ ap (λ (z : List LaneRow). contents h.0 ++ contents z) h.5 ∙ append-nil (contents h.0)
+      ap contents h.2 ∙ contents_append h.0 h.1 ∙ ap (λ (z : List LaneRow). contents h.0 ++ contents z) h.6 ∙ append-nil (contents h.0)
       ∙ h.3 ∙ by h.4
     where
       stored : is_stored x ≡ true

@@ -90,7 +90,7 @@ nothing_stored w s before shown rows [] [] none h = ap contents h
 nothing_stored w s before shown rows [] (x ∷ items) none h = absurd h
 nothing_stored w s before shown rows (y ∷ works) [] none h = h.1 ∙ take_none h.0 (content_of y) none.0
 nothing_stored w s before shown rows (y ∷ works) (x ∷ items) none h =
-    let rest = nothing_stored w (behind x s) (before ++ h.0) (shown ++ shown_by x) h.1 works items none.1 h.5 in
+    let rest = nothing_stored w (behind x s) (before ++ h.0) (shown ++ shown_by x) h.1 works items none.1 h.6 in
     ap contents h.2 ∙ contents_append h.0 h.1
     ∙ (λ i. (h.3 ∙ take_none (count_of_item x) (content_of y) none.0) i ++ rest i)
 
@@ -126,7 +126,7 @@ all_named w s before shown rows [] (x ∷ items) r h many all = absurd h
 all_named w s before shown rows (g ∷ gs) [] r h many all = absurd (let e = many in omega arith)
 all_named w s before shown rows (g ∷ gs) (x ∷ items) r h many all =
     let both = and_both (is_registered x) (list_all is_registered items) all in
-    let rest = all_named w (behind x s) (before ++ h.0) (shown ++ shown_by x) h.1 gs items (after r x) h.5 (let e = many in omega arith)
+    let rest = all_named w (behind x s) (before ++ h.0) (shown ++ shown_by x) h.1 gs items (after r x) h.6 (let e = many in omega arith)
     both.1 in
     let one = one_named r g.0 (definition_text (definition_of g.1)) x h.4 both.0 in
     rest ∙ ap (λ (z : List (List ℕ × List ℕ)). z ++ map text_of gs) one ∙ append_assoc (namings r.rows) (text_of g ∷ []) (map text_of gs)
@@ -187,7 +187,7 @@ module _ (w : Whole) (r : Registry) (number below : ℕ) (rows_are : w.rows r.ve
   scan_lines s before shown rows (a ∷ asked) [] low high begins h many all so means = absurd (let e = many in omega arith)
   scan_lines s before shown rows (a ∷ asked) (x ∷ items) low high begins h many all so means =
       let both = and_both (is_scanned x) (list_all is_scanned items) all in
-      let more = scan_lines (behind x s) (before ++ h.0) (shown ++ shown_by x) h.1 asked items low high begins h.5 (let e = many in omega
+      let more = scan_lines (behind x s) (before ++ h.0) (shown ++ shown_by x) h.1 asked items low high begins h.6 (let e = many in omega
       arith) both.1
       (subst (λ (z : Registry). ItemsFit low high z items) (same_after r x both.0) so.1) means.1 in
       (λ i. by h.4 both.0 so.0 i ++ more i)

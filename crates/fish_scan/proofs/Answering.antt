@@ -175,7 +175,7 @@ range_within v m u t from to first last opens before after h = record {
       )) h.stops;
   rise = h.rise;
   were = λ n among. open_sooner v m t n before.learns before.clock (open_later m u t n after.clock (h.were n among));
-  apart = λ a b lane f g p q one other. always_later u t _ after.learns (h.apart a b lane f g p q one other);
+  latest = λ a b lane f g p q at more below. always_later u t _ after.learns (h.latest a b lane f g p q at more below);
   others = λ n base above below closed. entry_later u t n after.learns
       (h.others n (subst (λ (z : Key). z.number ≤ n) (sym before.learns.about) base) above below closed);
 }

@@ -7,12 +7,12 @@ use Rattle.fish_rule.proofs.laws.Clocks.{later_both, later_self, loaded_within}
 use Rattle.fish_rule.proofs.laws.Alone.{knows_mark}
 use Rattle.fish_rule.proofs.laws.Lists.{among_left, among_right}
 use Rattle.fish_rule.proofs.laws.Learning.{learns_both, learns_self}
-use Rattle.fish_rule.proofs.laws.OpenNumbers.{opens_apart}
+use Rattle.fish_rule.proofs.laws.OpenNumbers.{opens_last}
 use Rattle.fish_rule.specs.Clocks.{HasLoaded, IsLater}
 use Rattle.fish_rule.specs.Logs.{Extends, Learns, KnowsMark}
 use Rattle.fish_rule.specs.LoadSteps.{IsAlone, after_look_at}
 use Rattle.fish_rule.specs.Table.{Sees}
-use Rattle.fish_rule.specs.OpenNumbers.{AreApart}
+use Rattle.fish_rule.specs.OpenNumbers.{AreLast}
 use Rattle.fish_rule.specs.Views.{Among}
 use Rattle.fish_rule.specs.declared.view.Key.{Key}
 use Rattle.fish_rule.specs.declared.view.Noted.TheVariants.{Directory}
@@ -204,10 +204,11 @@ settles_looks a b d h g = record {
       (sym (ap (λ (z : View). z.tail) g.extends.frame));
 }
 
--- of the numbers that were found open since one load of the tail, no two are of one lane
-pub listed_apart : (v : View) (count : ℕ) (opens : List ℕ) → HasOpens v count opens → AreApart v opens
-listed_apart v count opens h m n lane f g p q one other =
-    opens_apart v h.last (subst (Among h.last) (sym h.opens) (inl refl)) m n lane f g p q (h.listed m one) (h.listed n other)
+-- of the numbers that were found open since one load of the tail, each is the last of its lane in a range of those counted
+pub listed_last : (v : View) (count last : ℕ) (opens : List ℕ) → HasOpens v count opens → last ≤ count → AreLast v last opens
+listed_last v count last opens h within m n lane f g p q at more below =
+    let is = h.count_is in
+    opens_last v h.last (subst (Among h.last) (sym h.opens) (inl refl)) m n lane f g p q (h.listed n at) more (omega arith)
 
 -- the end of a range isn't past the one that is asked for
 pub cut_within : (v : View) (stop from limit end : ℕ) → IsCut v stop from limit end → end ≤ limit
@@ -269,7 +270,7 @@ module _ (a b c d : View) (from : ℕ) (to : Option ℕ) (settled count end base
           (subst (λ (z : ℕ). Rise first z reach.opens) (sym ends) looks.rise);
       were = λ n among. open_sooner a c d n (learns_both a b c settles.learns cuts.extends.learns)
           (later_both a.clock b.clock c.clock settles.clock cuts.extends.clock) (looks.were n among);
-      apart = listed_apart d count reach.opens looks.listed;
+      latest = listed_last d count reach.to reach.opens looks.listed (let f = looks.few in omega arith);
       others = λ n above least most closed. reached_word d reach (reach_reached less) n
           (subst (λ (z : Key). z.number ≤ n) (sym (looked_all.extends.learns.about ∙ settles.learns.about)) above)
           least most closed;

@@ -3,7 +3,7 @@ use Rattle.std.specs.Prelude.{ℕ, ◌≡◌, ◌<◌, ◌≤◌, ◌⊎◌, Lis
 use Rattle.std.specs.Option.{unwrap_or}
 use Rattle.fish_rule.specs.Clocks.{HasLoaded}
 use Rattle.fish_rule.specs.Logs.{KnowsMark}
-use Rattle.fish_rule.specs.OpenNumbers.{AreApart}
+use Rattle.fish_rule.specs.OpenNumbers.{AreLast}
 use Rattle.fish_rule.specs.Views.{Among}
 use Rattle.fish_rule.specs.declared.view.Noted.TheVariants.{Directory}
 use Rattle.fish_rule.specs.declared.view.View.{View}
@@ -40,10 +40,10 @@ pub record IsRange (v u : View) (from : ℕ) (to : Option ℕ) (first last : ℕ
   pub claimed : count ≤ u.learned.count
   pub within : last ≤ end_of to count
   pub stops : (last ≡ end_of to count) ⊎ (KnowsMark u last × (u.about.number ≤ last))
-  -- the open numbers rise, none was published when the pass looked, and no two are of one lane
+  -- the open numbers rise, none was published when the pass looked, and each is the last of its lane in the range
   pub rise : Rise first last opens
   pub were : (n : ℕ) → Among n opens → WasOpen v u n
-  pub apart : AreApart u opens
+  pub latest : AreLast u last opens
   -- and every other number of the range from the log's first one on is published, and no mark
   pub others : (n : ℕ) → v.about.number ≤ n → first ≤ n → n < last → ¬ Among n opens → KnowsEntry u n
 

@@ -1,7 +1,6 @@
 -- How far the statements of a lane are done.
 use Rattle.std.specs.Prelude.{ℕ, ◌≡◌, ◌≢◌, ◌⊎◌, ◌+◌, ◌≤◌, List, [], ◌∷◌, ◌++◌, Option, Some, None, Result, Ok, Err}
-use Rattle.std.specs.Prelude.{length, take}
-use Rattle.std.specs.Prelude.{Bool, false}
+use Rattle.std.specs.Prelude.{Bool, false, length, take}
 use Rattle.fish_cold.specs.declared.cold.Cold.{Cold}
 use Rattle.fish_lanes.specs.within.Doing.{IsItem, IsStopped}
 use Rattle.fish_lanes.specs.Full.{IsNotFull}
@@ -15,9 +14,9 @@ use Rattle.fish_lanes.specs.Registering.{Registry, after_all}
 use Rattle.fish_lanes.specs.within.Running.{CanBegin, HasRun, IsFullItem, SayPlans}
 use Rattle.fish_lanes.specs.Seen.{IsShown, Shown, settled, shown_by}
 use Rattle.fish_lanes.specs.within.Sizes.{SaysShut}
-use Rattle.fish_lanes.specs.Spans.{IsAnswer, Span, answers, behind, made_by}
-use Rattle.fish_lanes.specs.within.Spans.{IsWithinSpan}
-use Rattle.fish_lanes.specs.Telling.{SaysItem, content_of, count_of}
+use Rattle.fish_lanes.specs.Spans.{IsAnswer, Span, answers, behind}
+use Rattle.fish_lanes.specs.within.Spans.{IsWithinSpan, made}
+use Rattle.fish_lanes.specs.Telling.{SaysItem, StandFrom, content_of, count_of, told_to}
 use Rattle.fish_lanes.specs.declared.lane.Lane.{Lane}
 use Rattle.fish_lanes.specs.declared.lane.LanePass.{LanePass}
 use Rattle.fish_lanes.specs.declared.statements.Stop.{Stop}
@@ -39,21 +38,20 @@ abbrev pub shown_in : List Item → List Shown
 shown_in [] = []
 shown_in (x ∷ items) = shown_by x ++ shown_in items
 
--- how many versions they made
-abbrev pub made : List Item → ℕ
-made [] = 0
-made (x ∷ items) = made_by x + made items
-
 -- what items tell that are as many as the statements
 abbrev pub SaysAll : Whole → Span → List LaneRow → List Shown → List LaneRow → List Work → List Item → Type 0
 SaysAll z s before shown rows [] [] = rows ≡ []
 SaysAll z s before shown rows [] (x ∷ items) = ⊥
 SaysAll z s before shown rows (w ∷ works) [] = ⊥
 SaysAll z s before shown rows (w ∷ works) (x ∷ items) = (mine : List LaneRow) × (rest : List LaneRow)
-    × (rows ≡ mine ++ rest)
-    × (contents mine ≡ take (count_of x) (content_of w))
+    × (rows ≡ mine ++ rest) × (contents mine ≡ take (count_of x) (content_of w))
     × SaysItem z s before shown w x
+    × StandFrom (told_to x) rest
     × SaysAll z (behind x s) (before ++ mine) (shown ++ shown_by x) rest works items
+
+-- the item tells of no number from this one on
+abbrev pub EndsBy : ℕ → Item → Type 0
+EndsBy count x = told_to x ≤ count
 
 -- the statements so far are told by as many items, after each such past
 pub record HasAnswered (Past : Whole → Type 0) (v u : View) (works : List Work) (items : List Item) : Type 0 where
@@ -63,6 +61,7 @@ pub record HasAnswered (Past : Whole → Type 0) (v u : View) (works : List Work
       → MustHoldUpTo past u s.to (λ w. SaysAll w s [] [] rows works items)
   pub shown : (n : ℕ) (s : Shown) → Among s (shown_in items) → IsShown n s → u.about.number ≤ n → IsPublished u n
   pub settles : (m : ℕ) → Among (settled m) (shown_in items) → m ≤ u.learned.settled
+  pub ends : AllOf (EndsBy u.learned.count) items
   pub size : length items ≡ length works
   pub full : AllOf (IsFullItem u) items
   pub versions : v.learned.version + made items ≤ u.learned.version

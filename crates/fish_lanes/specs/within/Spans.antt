@@ -1,9 +1,15 @@
 -- What a lane's pass knows lies within its block.
-use Rattle.std.specs.Prelude.{ℕ, ◌≡◌, ◌+◌, ◌<◌, ◌≤◌}
+use Rattle.std.specs.Prelude.{ℕ, ◌≡◌, ◌+◌, ◌<◌, ◌≤◌, List, [], ◌∷◌}
+use Rattle.fish_report.specs.declared.item.Item.{Item}
 use Rattle.fish_rule.specs.LoadSteps.{IsAlone}
 use Rattle.fish_rule.specs.declared.view.View.{View}
 use Rattle.fish_walk.specs.Looks.{KnowsEntry}
-use Rattle.fish_lanes.specs.Spans.{Span}
+use Rattle.fish_lanes.specs.Spans.{Span, made_by}
+
+-- how many versions items made
+abbrev pub made : List Item → ℕ
+made [] = 0
+made (x ∷ items) = made_by x + made items
 
 -- what a lane's pass knew at its start and knows at its end lies within the block, which begins in the pass's table;
 -- what it knows to be settled or an entry lies below the block's end

@@ -2,6 +2,7 @@
 use Rattle.std.proofs.Common.{◌≡◌, ◌≢◌, ℕ, ◌+◌, ◌-◌, ◌*◌, ◌<◌, ◌≤◌, suc, List, sym, ap, ◌∙◌, subst, arith, Some, None}
 use Rattle.std.proofs.Common.{Option}
 use Rattle.fish_layout.specs.Header.{lines_of}
+use Rattle.std.proofs.Math.Decide.{dec_lt}
 use Rattle.fish_rule.proofs.basics.Lists.{all_map}
 use Rattle.fish_rule.specs.Chains.{Chained, IsLeastPrevious, IsKeyEntry}
 use Rattle.fish_rule.specs.Parts.{InFlight, IsPublishedRegion, Whole}
@@ -163,11 +164,12 @@ module _ {k : Key} {w w' : World} {start start' lane_of lane_of' : ℕ → ℕ}
   shut_later None h = h
   shut_later (Some s) h = record { number = h.number; end = h.end; past = h.past; mark = found_later _ h.mark }
 
-  -- a record in flight stays so while its directory word and its words are left
+  -- a record in flight stays so while its directory word and its words are left, and its lane claims nothing
   pub flight_later : (lane : ℕ) (g : Flight) → InFlight k w.count w.dir w.log start lane_of lane g → w'.dir g.number ≡ 0
+      → ((n : ℕ) → w.count ≤ n → n < w'.count → lane_of' n ≢ lane)
       → ((i : ℕ) → i < g.lines * 4 → w'.log (g.line * 4 + i) ≡ w.log (g.line * 4 + i))
       → (0 < g.linked → Whole k w'.log lane g) → InFlight k w'.count w'.dir w'.log start' lane_of' lane g
-  flight_later lane g h dir same whole =
+  flight_later lane g h dir unclaimed same whole =
       let up = f.counts in
       let below = h.below in
       let short = h.short in
@@ -178,6 +180,7 @@ module _ {k : Key} {w w' : World} {start start' lane_of lane_of' : ℕ → ℕ}
         lines = f.starts (suc g.number) below ∙ h.lines;
         unpublished = dir;
         owner = f.lanes g.number below ∙ h.owner;
+        latest = λ n more less. last n more less (dec_lt n w.count);
         live = h.live;
         short = short;
         written = λ i less plain. same i (omega arith) ∙ h.written i less plain;
@@ -185,6 +188,10 @@ module _ {k : Key} {w w' : World} {start start' lane_of lane_of' : ℕ → ℕ}
         whole = whole;
         header = h.header;
       }
+    where
+      last : (n : ℕ) → g.number < n → n < w'.count → Dec (n < w.count) → lane_of' n ≢ lane
+      last n more less (yes old) = λ e. h.latest n more old (sym (f.lanes n old) ∙ e)
+      last n more less (no new) = unclaimed n (omega arith) less
 
   -- a record of a lane stays one
   pub stored_later : (l n : ℕ) → IsStoredBy k w.count w.dir lane_of l n → IsStoredBy k w'.count w'.dir lane_of' l n

@@ -181,6 +181,7 @@ module _ {k : Key} {w : World} (r : Rule k w) (id : ℕ) {v : View} (at : get_el
       lines = own.lines;
       unpublished = own.unpublished;
       owner = own.owner;
+      latest = own.latest;
       live = own.live;
       short = own.short;
       written = λ i less plain. (let short = own.short in

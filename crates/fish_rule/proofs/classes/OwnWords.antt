@@ -64,6 +64,7 @@ module _ {k : Key} {w : World} (r : Rule k w) (id : ℕ) {v : View} (at : get_el
     lines = own.lines;
     unpublished = own.unpublished;
     owner = own.owner;
+    latest = own.latest;
     live = own.live;
     short = becomes.fits;
     written = λ i less plain. words i less plain (ℕ_discrete i o);
@@ -107,7 +108,7 @@ module _ {k : Key} {w : World} (r : Rule k w) (id : ℕ) {v : View} (at : get_el
       let same : (i : ℕ) → i < g.lines * 4 → written.log (g.line * 4 + i) ≡ w.log (g.line * 4 + i) =
       λ i less. elsewhere r id at f flying o x words' clock becomes g.number (g.line * 4 + i) h.above
       h.below other (omega arith) (omega arith) in
-      flight_later final u.lane g h h.unpublished same
+      flight_later final u.lane g h h.unpublished (λ n more less. absurd (omega arith)) same
       (λ some_. whole_later k w.log written.log u.lane g (omega arith) same (h.whole some_))
 
   -- the record in flight keeps its version, and its keys once entries are linked

@@ -105,6 +105,7 @@ module _ {k : Key} {w : World} (r : Rule k w) (id : ℕ) {v : View} (at : get_el
     lines = new_end;
     unpublished = r.space.dir_beyond w.count (omega arith);
     owner = put-here r.lane_of w.count v.lane;
+    latest = λ n more less. absurd (omega arith);
     live = can.live;
     short = omega arith;
     written = λ i less plain. absurd (omega arith);
@@ -113,13 +114,19 @@ module _ {k : Key} {w : World} (r : Rule k w) (id : ℕ) {v : View} (at : get_el
     header = λ e. omega arith;
   }
 
-  -- the records in flight with others
-  others_fly : (lane : ℕ) (o : Option Flight) → Flies k w.count w.dir w.log r.start r.lane_of lane o
-      → Flies k (suc w.count) w.dir w.log start' lane_of' lane o
-  others_fly lane None h = h
-  others_fly lane (Some g) h =
-      flight_later claim_final lane g h h.unpublished
+  -- the records in flight with others, of which none has this lane
+  others_fly : (j : ℕ) (u : View) → j ≢ id → get_elem? w.views j ≡ some u → (o : Option Flight)
+      → Flies k w.count w.dir w.log r.start r.lane_of u.lane o → Flies k (suc w.count) w.dir w.log start' lane_of' u.lane o
+  others_fly j u ne at_u None h = h
+  others_fly j u ne at_u (Some g) h =
+      flight_later claim_final u.lane g h h.unpublished (λ n more less same. ne (r.seats.apart j id u v v.lane at_u at
+      (subst (Has u.lane u.out) (sym (lane n more less same)) (has_own w.views j u at_u h.live r.seats))
+      (has_own w.views id v at can.live r.seats)))
       (λ i less. refl) h.whole
+    where
+      lane : (n : ℕ) → w.count ≤ n → n < suc w.count → lane_of' n ≡ u.lane → v.lane ≡ u.lane
+      lane n more less same = (let e : n ≡ w.count = omega arith in
+          sym (ap lane_of' e ∙ put-here r.lane_of w.count v.lane) ∙ same)
 
   -- a record that was in flight before has a number below the old count
   below_count : (lane n : ℕ) (o : Option Flight) → Flies k w.count w.dir w.log r.start r.lane_of lane o
@@ -135,7 +142,7 @@ module _ {k : Key} {w : World} (r : Rule k w) (id : ℕ) {v : View} (at : get_el
         (old n below set_) set_ (r.space.finished n above (old n below set_) set_);
     flying = λ n above below unset. fly n above below unset (ℕ_discrete n w.count);
     flights = each_set _ w.views id view'
-        (λ j u ne at_u. others_fly u.lane u.flight (r.space.flights j u at_u)) own_flight;
+        (λ j u ne at_u. others_fly j u ne at_u u.flight (r.space.flights j u at_u)) own_flight;
     alone = λ i j a b n at_i at_j p q. (pairs_set
         (λ i j a b. IsFlightOf n a.flight → IsFlightOf n b.flight → i ≡ j) w.views id view'
         (λ i p q. refl)

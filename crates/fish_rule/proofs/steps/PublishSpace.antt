@@ -198,7 +198,7 @@ module _ {k : Key} {w : World} (r : Rule k w) (id : ℕ) {v : View} (at : get_el
       (r.space.alone j id u v g.number at_u at (subst (IsFlightOf g.number) (sym is) refl)
       (subst (IsFlightOf g.number) (sym flying) (sym e))) in
       flight_later publish_final u.lane g h
-      (dir_else g.number other ∙ h.unpublished) (λ i less. refl) h.whole
+      (dir_else g.number other ∙ h.unpublished) (λ n more less. absurd (omega arith)) (λ i less. refl) h.whole
 
   -- each number is published or in flight
   pub publish_space : Space k w.count w.line dir' w.log (set w.views id view') r.start r.lane_of

@@ -183,6 +183,7 @@ module _ {k : Key} {w : World} (r : Rule k w) (id : ℕ) {v : View} (at : get_el
         lines = h.lines;
         unpublished = h.unpublished;
         owner = h.owner;
+        latest = h.latest;
         live = h.live;
         short = h.short;
         written = λ i less plain. let short = h.short in same ne i (omega arith) ∙ h.written i less plain;
@@ -202,6 +203,7 @@ module _ {k : Key} {w : World} (r : Rule k w) (id : ℕ) {v : View} (at : get_el
             lines = h.lines;
             unpublished = h.unpublished;
             owner = h.owner;
+            latest = h.latest;
             live = h.live;
             short = h.short;
             written = λ i less plain. put-else w.log q own_at (g.line * 4 + i)
