@@ -39,12 +39,14 @@ pub record Opens {D : Type 0} (disks : Disks D) (disk mid disk' : D) (asked : As
   pub held : IsSome (disks.content disk') → Held disks disk mid disk' asked o commit log
 
 -- no store was opened, for this: where the disk is told, it is the cause, and where it is one of the store, nothing
--- on the disk changed. Of a disk that stood for a log a crash left what was there, or what stands for that log; and
--- where it was empty, few calls were made
+-- on the disk changed, nor could a crash change it. Of a disk that stood for a log a crash left what was there, or what
+-- stands for that log; and where it was empty, few calls were made
 pub record IsUnopened {D : Type 0} (disks : Disks D) (disk disk' : D) (asked : Asked) (refusal : OpenRefusal)
     : Type 0 where
   pub cause : IfSome (disks.content disk') (λ image. IsStoreCause image asked refusal)
   pub reads : IsOfStore refusal → StillReads (disks.content disk) (disks.content disk')
+  pub leaves : IsOfStore refusal
+      → LeavesOnly disks.images disks.since disks.moment disk disk' (disks.images disk)
   pub crash : (i : List ℕ) (c : Commit) (log : List Entry) → disks.content disk ≡ Some i → Stands c i log
       → LeavesOnly disks.images disks.since disks.moment disk disk' (λ e. disks.images disk e ⊎ Stands c e log)
   pub calls : IfSome (disks.content disk') (λ _. disks.content disk ≡ Some []

@@ -50,6 +50,8 @@ pub fn open_store<D: Disk>(alloc: Global, asked: Asked, disk: &mut D) -> Result<
 
     ensures refused { IfErr result (λ e. IfSome (D.content disk.new) (λ c. IsStoreCause c asked e)) }
     ensures reads { IfErr result (λ e. IsOfStore e → StillReads (D.content disk.old) (D.content disk.new)) }
+    ensures leaves { IfErr result (λ e. IsOfStore e → LeavesOnly D.images D.since D.moment disk.old disk.new (D.images
+        disk.old)) }
     ensures cause { HasOpenCause (D.faults disk.old) (D.faults disk.new) result }
 {
     disk.sync()?;
@@ -68,6 +70,8 @@ fn open_synced<D: Disk>(alloc: Global, asked: Asked, disk: &mut D) -> Result<Ope
         → D.moment disk.new ≤ D.moment disk.old + 7) }
     ensures refused { IfErr result (λ e. IfSome (D.content disk.new) (λ c. IsStoreCause c asked e)) }
     ensures reads { IfErr result (λ e. IsOfStore e → StillReads (D.content disk.old) (D.content disk.new)) }
+    ensures leaves { IfErr result (λ e. IsOfStore e → LeavesOnly D.images D.since D.moment disk.old disk.new (D.images
+        disk.old)) }
     ensures cause { HasOpenCause (D.faults disk.old) (D.faults disk.new) result }
 {
     let size = disk.length()?;
@@ -127,6 +131,8 @@ fn open_kept<D: Disk>(alloc: Global, asked: Asked, disk: &mut D) -> Result<Opene
     ensures before { IfSome (D.content disk.new) (λ _. (i : List ℕ) × (D.content disk.old ≡ Some i)) }
     ensures refused { IfErr result (λ e. IfSome (D.content disk.new) (λ c. IsOpenCause c asked e)) }
     ensures reads { IfErr result (λ e. IsOfStore e → StillReads (D.content disk.old) (D.content disk.new)) }
+    ensures leaves { IfErr result (λ e. IsOfStore e → LeavesOnly D.images D.since D.moment disk.old disk.new (D.images
+        disk.old)) }
     ensures cause { HasOpenCause (D.faults disk.old) (D.faults disk.new) result }
 {
     match find_store(alloc, asked, disk) {

@@ -64,6 +64,7 @@ returns-in-Err-clause-ended g c =
     let none : IsUnopened disk start end c.args.asked e = record {
       cause = c.in-Err.ensures.refused;
       reads = c.in-Err.ensures.reads;
+      leaves = c.in-Err.ensures.leaves;
       crash = c.open_store.ensures.crash;
       calls = c.open_store.ensures.calls;
     } in

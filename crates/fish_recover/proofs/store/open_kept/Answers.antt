@@ -51,6 +51,10 @@ pub returns-in_err-resume-in-Ok-rest_store-clause-reads : goal.returns-in_err-re
 returns-in_err-resume-in-Ok-rest_store-clause-reads g c =
     err_is OutOfMemory c.from_residual.result _ c.from_residual.ensures.1 (λ s. outside_not _ OutOfMemory tt s)
 
+pub returns-in_err-resume-in-Ok-rest_store-clause-leaves : goal.returns-in_err-resume-in-Ok-rest_store-clause-leaves
+returns-in_err-resume-in-Ok-rest_store-clause-leaves g c =
+    err_is OutOfMemory c.from_residual.result _ c.from_residual.ensures.1 (λ s. outside_not _ OutOfMemory tt s)
+
 pub returns-in_err-resume-in-Ok-rest_store-clause-cause : goal.returns-in_err-resume-in-Ok-rest_store-clause-cause
 returns-in_err-resume-in-Ok-rest_store-clause-cause g c =
     let disk = g.D.Disk in
@@ -125,11 +129,17 @@ returns-in-Err-rest_store-clause-refused g c =
 pub returns-in-Err-rest_store-clause-reads : goal.returns-in-Err-rest_store-clause-reads
 returns-in-Err-rest_store-clause-reads g c = λ s. outside_not _ c.in-Err-rest_store.refusal c.in-Err-rest_store.ensures.refused s
 
+pub returns-in-Err-rest_store-clause-leaves : goal.returns-in-Err-rest_store-clause-leaves
+returns-in-Err-rest_store-clause-leaves g c = λ s. outside_not _ c.in-Err-rest_store.refusal c.in-Err-rest_store.ensures.refused s
+
 pub returns-in-Err-rest_store-clause-cause : goal.returns-in-Err-rest_store-clause-cause
 returns-in-Err-rest_store-clause-cause g c =
     let disk = g.D.Disk in
     same_cause (disk.faults c.args.disk.now) (disk.faults c.find_store.new.disk) (disk.faults c.rest_store.new.disk)
     c.in-Err-rest_store.refusal c.find_store.ensures.cause.later c.in-Err-rest_store.ensures.cause
+
+pub returns-in-Err-clause-leaves : goal.returns-in-Err-clause-leaves
+returns-in-Err-clause-leaves g c = λ s. c.find_store.ensures.crash
 
 pub returns-in-Err-clause-crash : goal.returns-in-Err-clause-crash
 returns-in-Err-clause-crash g c i d log all h =

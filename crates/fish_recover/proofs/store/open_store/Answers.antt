@@ -4,6 +4,7 @@ use Rattle.std.specs.Prelude.{Some}
 use Rattle.std.proofs.lemmas.Option.{IfSome_then}
 use Rattle.fish_disk.proofs.Moments.{leaves_each, leaves_more, leaves_then}
 use Rattle.fish_disk.specs.Content.{StillReads}
+use Rattle.fish_disk.specs.Crash.{LeavesOnly}
 use Rattle.fish_image.specs.Stands.{Stands}
 use Rattle.fish_slots.proofs.Keeping.{on_ok}
 use Rattle.fish_recover.proofs.Feeding.{any_holds}
@@ -39,6 +40,10 @@ returns-in_err-sync-clause-refused g c =
 
 pub returns-in_err-sync-clause-reads : goal.returns-in_err-sync-clause-reads
 returns-in_err-sync-clause-reads g c =
+    err_is DiskFault c.from_residual.result _ c.from_residual.ensures.1 (λ s. outside_not _ DiskFault tt s)
+
+pub returns-in_err-sync-clause-leaves : goal.returns-in_err-sync-clause-leaves
+returns-in_err-sync-clause-leaves g c =
     err_is DiskFault c.from_residual.result _ c.from_residual.ensures.1 (λ s. outside_not _ DiskFault tt s)
 
 pub returns-clause-opened : goal.returns-clause-opened
@@ -102,6 +107,18 @@ returns-clause-reads g c =
     let new = disk.content c.open_synced.new.disk in
     err_then c.open_synced.result (λ e. IsOfStore e → StillReads x new) (λ e. IsOfStore e → StillReads old new)
     c.open_synced.ensures.reads (λ e reads. λ s. still_then old x new c.sync.ensures.content (reads s))
+
+pub returns-clause-leaves : goal.returns-clause-leaves
+returns-clause-leaves g c =
+    let disk = g.D.Disk in
+    let old = c.args.disk.now in
+    let mid = c.sync.new.self in
+    let new = c.open_synced.new.disk in
+    err_then c.open_synced.result
+    (λ e. IsOfStore e → LeavesOnly disk.images disk.since disk.moment mid new (disk.images mid))
+    (λ e. IsOfStore e → LeavesOnly disk.images disk.since disk.moment old new (disk.images old)) c.open_synced.ensures.leaves
+    (λ e leaves. λ s. leaves_then disk.images disk.since disk.moment old mid new (disk.images old) c.sync.ensures.crash
+    (leaves_more disk.images disk.since disk.moment mid new (disk.images mid) (disk.images old) c.sync.ensures.crash.now (leaves s)))
 
 pub returns-clause-cause : goal.returns-clause-cause
 returns-clause-cause g c =

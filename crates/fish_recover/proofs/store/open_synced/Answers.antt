@@ -5,6 +5,7 @@ use Rattle.std.proofs.lemmas.Option.{IfSome_then}
 use Rattle.fish_disk.proofs.Moments.{leaves_more, leaves_then}
 use Rattle.fish_disk.proofs.Regions.{told_at}
 use Rattle.fish_disk.specs.Content.{StillReads}
+use Rattle.fish_disk.specs.Crash.{LeavesOnly}
 use Rattle.fish_flush.specs.Kept.{first_commit}
 use Rattle.fish_image.specs.Stands.{Stands}
 use Rattle.fish_recover.proofs.Feeding.{any_holds}
@@ -39,6 +40,10 @@ returns-in_err-size-clause-refused g c =
 
 pub returns-in_err-size-clause-reads : goal.returns-in_err-size-clause-reads
 returns-in_err-size-clause-reads g c =
+    err_is DiskFault c.from_residual.result _ c.from_residual.ensures.1 (λ s. outside_not _ DiskFault tt s)
+
+pub returns-in_err-size-clause-leaves : goal.returns-in_err-size-clause-leaves
+returns-in_err-size-clause-leaves g c =
     err_is DiskFault c.from_residual.result _ c.from_residual.ensures.1 (λ s. outside_not _ DiskFault tt s)
 
 pub make_store-requires-clause-empty : goal.make_store-requires-clause-empty
@@ -106,6 +111,10 @@ pub returns-then-size-eq0-clause-reads : goal.returns-then-size-eq0-clause-reads
 returns-then-size-eq0-clause-reads g c =
     err_then c.make_store.result IsOutside _ c.make_store.ensures.refused (λ e outside. outside_not _ e outside)
 
+pub returns-then-size-eq0-clause-leaves : goal.returns-then-size-eq0-clause-leaves
+returns-then-size-eq0-clause-leaves g c =
+    err_then c.make_store.result IsOutside _ c.make_store.ensures.refused (λ e outside. outside_not _ e outside)
+
 pub returns-then-size-eq0-clause-cause : goal.returns-then-size-eq0-clause-cause
 returns-then-size-eq0-clause-cause g c =
     let disk = g.D.Disk in
@@ -159,6 +168,18 @@ returns-else-size-eq0-clause-reads g c =
     let new = disk.content c.open_kept.new.disk in
     err_then c.open_kept.result (λ e. IsOfStore e → StillReads x new) (λ e. IsOfStore e → StillReads old new) c.open_kept.ensures.reads
     (λ e reads. λ s. still_then old x new c.length.ensures.content (reads s))
+
+pub returns-else-size-eq0-clause-leaves : goal.returns-else-size-eq0-clause-leaves
+returns-else-size-eq0-clause-leaves g c =
+    let disk = g.D.Disk in
+    let old = c.args.disk.now in
+    let mid = c.length.new.self in
+    let new = c.open_kept.new.disk in
+    err_then c.open_kept.result
+    (λ e. IsOfStore e → LeavesOnly disk.images disk.since disk.moment mid new (disk.images mid))
+    (λ e. IsOfStore e → LeavesOnly disk.images disk.since disk.moment old new (disk.images old)) c.open_kept.ensures.leaves
+    (λ e leaves. λ s. leaves_then disk.images disk.since disk.moment old mid new (disk.images old) c.length.ensures.crash
+    (leaves_more disk.images disk.since disk.moment mid new (disk.images mid) (disk.images old) c.length.ensures.crash.now (leaves s)))
 
 pub returns-else-size-eq0-clause-cause : goal.returns-else-size-eq0-clause-cause
 returns-else-size-eq0-clause-cause g c =
