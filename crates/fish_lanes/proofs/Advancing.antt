@@ -15,6 +15,8 @@ use Rattle.fish_lanes.specs.Gains.{KeepsShut}
 use Rattle.fish_lanes.specs.within.Gains.{Gains}
 use Rattle.fish_lanes.specs.Records.{LaneRow, contents}
 use Rattle.fish_lanes.specs.within.Records.{Ascends}
+use Rattle.fish_lanes.specs.Registering.{ItemFits, Registry}
+use Rattle.fish_lanes.specs.Running.{IsShared}
 use Rattle.fish_lanes.specs.within.Running.{HasRun, IsFullItem}
 use Rattle.fish_lanes.specs.Seen.{Shown, settled, shown_by}
 use Rattle.fish_lanes.specs.within.Sizes.{SaysShut}
@@ -115,9 +117,9 @@ told_on v u t works items h g same =
 -- one statement more
 pub told_more : {Past : Whole → Type 0} (v u t : View) (works : List Work) (items : List Item) (w : Work) (x : Item) (rows : List LaneRow)
     → HasAnswered Past v u works items → Gains u t rows → contents rows ≡ take (count_of x) (content_of w)
-    → IsFit Past u t w x → SaysShut u t (x ∷ []) → u.learned.version + made_by x ≤ t.learned.version
-    → HasAnswered Past v t (works ++ w ∷ []) (items ++ x ∷ [])
-told_more {Past} v u t works items w x rows h g first fit shuts version =
+    → IsFit Past u t w x → IsShared w ⊎ ((r : Registry) × ItemFits u.learned.count t.learned.count r x) → SaysShut u t (x ∷ [])
+    → u.learned.version + made_by x ≤ t.learned.version → HasAnswered Past v t (works ++ w ∷ []) (items ++ x ∷ [])
+told_more {Past} v u t works items w x rows h g first fit so shuts version =
     let learns = g.on.learns in
     let settled_more = learns.settled in
     let known = h.versions in
@@ -139,7 +141,7 @@ told_more {Past} v u t works items w x rows h g first fit shuts version =
           (λ (n : Among (settled k) (shown_by x)). item_settles u t learns.about Past w x k fit n)
           (shown_either (settled k) items x m);
       ends = all_more (EndsBy t.learned.count) items x (ends_later u.learned.count t.learned.count items learns.count h.ends)
-          (item_ends u t Past w x fit);
+          (item_ends u t Past w x fit so);
       size = (let a = length-append items (x ∷ []) in let b = length-append works (w ∷ []) in let e = h.size in
           omega arith);
       full = all_more (IsFullItem t) items x (fulls_later u t items learns.about g.shut h.full) (full_fit Past u t w x fit);

@@ -365,7 +365,7 @@ module _ (v u : View) (ask : Ask) (on : Learns v u) (seen : ℕ → Type 0)
 
   -- a gap below what was settled
   gap_told : (from to : ℕ) (known : Known) → IsUncovered v u known ask from to
-      → MustHold past u (λ w. (from < to) × (to ≤ length w.log) × (first_asked ask ≤ from) × ((end : ℕ) → ask.to ≡ Some end → to ≤ end))
+      → MustHold past u (λ w. (from < to) × (to ≤ k.to) × (first_asked ask ≤ from) × ((end : ℕ) → ask.to ≡ Some end → to ≤ end))
   gap_told from to known h w m =
       let p = piece_within h.plan h.first h.last h.gap.position (Full from to) h.covered.cover.fill h.gap.gap.there in
       let some_ = p.1 in
@@ -375,7 +375,7 @@ module _ (v u : View) (ask : Ask) (on : Learns v u) (seen : ℕ → Type 0)
       let under = h.gap.gap.below in
       let most = h.most in (
         omega arith,
-        sure_settled past u to (omega arith) w m,
+        let stored = inside.stored in omega arith,
         omega arith,
         λ end e. let a = asked_end ask.to h.range.count h.last end e h.range.within in omega arith,
       )

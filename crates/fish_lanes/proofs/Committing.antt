@@ -1,5 +1,5 @@
 -- A checkpoint of the control pass.
-use Rattle.std.proofs.Common.{◌≡◌, ℕ, ◌≤◌, List, [], ◌∷◌, Bool, true, false, None, Result, Ok, Err, refl, sym, ap, ◌∙◌, subst, inl, inr}
+use Rattle.std.proofs.Common.{◌≡◌, ℕ, ◌≤◌, List, [], ◌∷◌, true, false, None, Result, Ok, Err, refl, sym, ap, ◌∙◌, subst, inl, inr}
 use Rattle.std.proofs.Common.{arith}
 use Rattle.std.specs.Prelude.{IfErr, IfOk}
 use Rattle.fish_flush.specs.Carrying.{HasSettled, Reads}
@@ -7,6 +7,7 @@ use Rattle.fish_ingest.specs.Ingestion.{CanStart}
 use Rattle.fish_lanes.proofs.Controls.{take_nothing}
 use Rattle.fish_lanes.proofs.Gaining.{gains_reads}
 use Rattle.fish_lanes.proofs.Lists.{all_more}
+use Rattle.fish_lanes.specs.CommitRows.{is_checkpoint}
 use Rattle.fish_lanes.specs.Controlling.{CanControl, IsCommitted}
 use Rattle.fish_lanes.specs.within.Controlling.{HasPolled, IsPartControlled}
 use Rattle.fish_lanes.specs.within.Doing.{FitsCheckpoint, IsFit, IsItem}
@@ -89,13 +90,8 @@ commit_part v u (Err e) start idle reads = record {
 
 -- ---- what items tell of commits
 
--- it tells of a checkpoint
-abbrev pub is_checkpoint : Item → Bool
-is_checkpoint (item.Checkpointed n) = true
-is_checkpoint x = false
-
--- no other statement's item does
-other_fit : (Past : Whole → Type 0) (u t : View) (w : Work) (x : Item) → (w ≡ work.Checkpoint → ⊥) → IsFit Past u t w x
+-- no item of another statement tells of one
+pub other_fit : (Past : Whole → Type 0) (u t : View) (w : Work) (x : Item) → (w ≡ work.Checkpoint → ⊥) → IsFit Past u t w x
     → is_checkpoint x ≡ false
 other_fit Past u t (work.Register name def) x other (inl f) = ap is_checkpoint f.2
 other_fit Past u t (work.Register name def) x other (inr (inl f)) = ap is_checkpoint f.3

@@ -220,7 +220,8 @@ held_done {Past} v r u s t q works items w x stood stands began known knows now 
     ap (λ (z : Registry). z.version) c.does.is ∙ after_load_version (registry_of u s) x in
     held_item v r u s t q works (works ++ w ∷ []) items x h h.told.gains.on.learns c.gains.on.learns c.does
     (subst (HasAnswered Past v t (works ++ w ∷ [])) (sym (answers_more items x (fit_answer Past u t w x c.fit)))
-    (told_more v u t works (answers items) w x c.rows h.told c.gains c.first c.fit c.shuts (omega arith)))
+    (told_more v u t works (answers items) w x c.rows h.told c.gains c.first c.fit (inr (registry_of u s, c.does.so)) c.shuts
+    (omega arith)))
     (λ alone. c.none (alone_gains v u h.told.rows h.told.gains alone))
     (λ none wait. absurd (some_there works w [] none))
     (λ end e wait one is.

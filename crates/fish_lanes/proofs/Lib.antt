@@ -4,6 +4,7 @@ pub mod Answered
 pub mod Beginning
 pub mod Behind
 pub mod Claims
+pub mod CommitRows
 pub mod Committing
 pub mod Controls
 pub mod Course

@@ -1,10 +1,14 @@
 -- What an item shows, and what else it says by its kind alone.
-use Rattle.std.proofs.Common.{◌≡◌, ◌<◌, ◌≤◌, ℕ, List, [], ◌∷◌, refl, sym, ap, subst, inl, inr, arith, true}
+use Rattle.std.proofs.Common.{◌≡◌, ◌<◌, ◌≤◌, ◌⊎◌, ℕ, List, [], ◌∷◌, refl, sym, ap, subst, inl, inr, ⊎_elim, arith, true}
 use Rattle.fish_lanes.proofs.Answered.{range_published}
 use Rattle.fish_lanes.proofs.Publishing.{settled_published}
-use Rattle.fish_lanes.specs.within.Doing.{FitsCheckpoint, FitsScanned, IsFit}
+use Rattle.fish_lang.specs.Canonical.{definition_text}
+use Rattle.fish_lang.specs.Definition.{definition_of}
+use Rattle.fish_lanes.specs.within.Doing.{FitsCheckpoint, FitsScanned, IsFit, IsRefusedAt}
 use Rattle.fish_lanes.specs.within.Gains.{IsFullBy}
 use Rattle.fish_lanes.specs.within.Published.{IsPublished}
+use Rattle.fish_lanes.specs.Registering.{ItemFits, Registry}
+use Rattle.fish_lanes.specs.Running.{IsShared}
 use Rattle.fish_lanes.specs.within.Running.{IsFree, IsFullItem}
 use Rattle.fish_lanes.specs.Seen.{IsShown, Shown, claimed, range, settled, shown_by}
 use Rattle.fish_lanes.specs.Spans.{is_answer, made_by}
@@ -13,9 +17,13 @@ use Rattle.fish_lanes.specs.declared.work.Work.{Work}
 use Rattle.fish_lanes.specs.declared.work.Work.TheVariants as work
 use Rattle.fish_report.specs.declared.item.Item.{Item}
 use Rattle.fish_report.specs.declared.item.Item.TheVariants as item
+use Rattle.fish_report.specs.declared.item.ScanCause.{ScanCause}
+use Rattle.fish_report.specs.declared.item.ScanCause.TheVariants as cause
 use Rattle.fish_rule.specs.Views.{Among}
 use Rattle.fish_rule.specs.declared.view.Key.{Key}
 use Rattle.fish_rule.specs.declared.view.View.{View}
+use Rattle.fish_scan.specs.declared.ask.Ask.{Ask}
+use Rattle.fish_walk.specs.Settling.{HasEnd, IsEnd}
 use Rattle.fish_whole.specs.Whole.{Whole}
 
 -- the number up to which all is settled, and whether one is told
@@ -112,31 +120,67 @@ module _ (u t : View) (about : t.about ≡ u.about) where
 ends_none : (x y : Item) (count : ℕ) → x ≡ y → told_to y ≡ 0 → told_to x ≤ count
 ends_none x y count is none = (let e : told_to x ≡ told_to y = ap told_to is in omega arith)
 
--- no item tells of a number that its pass hadn't counted
-pub item_ends : (u t : View) (Past : Whole → Type 0) (w : Work) (x : Item) → IsFit Past u t w x → told_to x ≤ t.learned.count
-item_ends u t Past (work.Register name def) x (inl f) = ends_none x _ t.learned.count f.2 refl
-item_ends u t Past (work.Register name def) x (inr (inl f)) = ends_none x _ t.learned.count f.3 refl
-item_ends u t Past (work.Register name def) x (inr (inr f)) = ends_none x _ t.learned.count f.1 refl
-item_ends u t Past (work.Deregister name) x (inl f) = ends_none x _ t.learned.count f.2 refl
-item_ends u t Past (work.Deregister name) x (inr f) = ends_none x _ t.learned.count f.1 refl
-item_ends u t Past (work.Ingest form begin name file) x (inl f) = ends_none x _ t.learned.count f.is refl
-item_ends u t Past (work.Ingest form begin name file) x (inr (inl f)) = ends_none x _ t.learned.count f.is refl
-item_ends u t Past (work.Ingest form begin name file) x (inr (inr f)) = ends_none x _ t.learned.count f.is refl
-item_ends u t Past (work.Scan ask) x (inl f) =
+-- a boundary that fits the registry was counted
+registered_ends : (low high id from : ℕ) (r : Registry) (name text : List ℕ)
+    → ItemFits low high r (item.Registered name id from text) → from ≤ high
+registered_ends low high id from r name text (may, id_is, between) = between.1
+
+deregistered_ends : (low high id to : ℕ) (r : Registry) (name : List ℕ) → ItemFits low high r (item.Deregistered name id to)
+    → to ≤ high
+deregistered_ends low high id to r name (may, active, between) = between.1
+
+-- so was the gap for which a scan or a plan was refused
+refused_ends : (u t : View) (ask : Ask) (name : List ℕ) (version : ℕ) (why : ScanCause) → IsRefusedAt u t ask version why
+    → (told_to (item.ScanRefused name version why) ≤ t.learned.count) × (told_to (item.ExplainRefused name version why) ≤ t.learned.count)
+refused_ends u t ask name version cause.UnknownName s = (omega arith, omega arith)
+refused_ends u t ask name version (cause.EmptyRange from to) s = (omega arith, omega arith)
+refused_ends u t ask name version (cause.NotCovered from to) s =
+    let h = s.refused.1 in
+    let under = h.gap.gap.below in
+    let claimed = h.range.claimed in
+    let within : h.settled ≤ h.range.count = ⊎_elim (λ (e : h.settled ≡ h.range.count). omega arith)
+    (λ (e : HasEnd IsEnd u t h.settled h.range.count). (let less = e.below in omega arith)) h.stops_at in
+    let most : to ≤ t.learned.count = omega arith in
+    (most, most)
+
+-- no item tells of a number that its pass hadn't counted, where a boundary fits the registry
+pub item_ends : (u t : View) (Past : Whole → Type 0) (w : Work) (x : Item) → IsFit Past u t w x
+    → IsShared w ⊎ ((r : Registry) × ItemFits u.learned.count t.learned.count r x) → told_to x ≤ t.learned.count
+item_ends u t Past (work.Register name def) x f (inl shared) = elim shared [ ]
+item_ends u t Past (work.Register name def) x (inl f) (inr so) =
+    let most = registered_ends u.learned.count t.learned.count f.0 f.1 so.0 name
+    (definition_text (definition_of def)) (subst (ItemFits u.learned.count t.learned.count so.0) f.2 so.1) in
+    let e : told_to x ≡ f.1 = ap told_to f.2 in
+    omega arith
+item_ends u t Past (work.Register name def) x (inr (inl f)) (inr so) = ends_none x _ t.learned.count f.3 refl
+item_ends u t Past (work.Register name def) x (inr (inr f)) (inr so) = ends_none x _ t.learned.count f.1 refl
+item_ends u t Past (work.Deregister name) x f (inl shared) = elim shared [ ]
+item_ends u t Past (work.Deregister name) x (inl f) (inr so) =
+    let most = deregistered_ends u.learned.count t.learned.count f.0 f.1 so.0 name
+    (subst (ItemFits u.learned.count t.learned.count so.0) f.2 so.1) in
+    let e : told_to x ≡ f.1 = ap told_to f.2 in
+    omega arith
+item_ends u t Past (work.Deregister name) x (inr f) (inr so) = ends_none x _ t.learned.count f.1 refl
+item_ends u t Past (work.Ingest form begin name file) x (inl f) h = ends_none x _ t.learned.count f.is refl
+item_ends u t Past (work.Ingest form begin name file) x (inr (inl f)) h = ends_none x _ t.learned.count f.is refl
+item_ends u t Past (work.Ingest form begin name file) x (inr (inr f)) h = ends_none x _ t.learned.count f.is refl
+item_ends u t Past (work.Scan ask) x (inl f) h =
     let r = f.fits.planned.range in
     let within = r.within in
     let claimed = r.claimed in
     let e : told_to x ≡ f.to = ap told_to f.is in
     omega arith
-item_ends u t Past (work.Scan ask) x (inr f) = ends_none x _ t.learned.count f.is refl
-item_ends u t Past (work.Explain ask) x (inl f) =
+item_ends u t Past (work.Scan ask) x (inr f) h =
+    (let most = refused_ends u t ask ask.name f.version f.why f.fits in let e = ap told_to f.is in omega arith)
+item_ends u t Past (work.Explain ask) x (inl f) h =
     let r = f.fits.explained.planned.range in
     let within = r.within in
     let claimed = r.claimed in
     let e : told_to x ≡ f.to = ap told_to f.is in
     omega arith
-item_ends u t Past (work.Explain ask) x (inr f) = ends_none x _ t.learned.count f.is refl
-item_ends u t Past work.Checkpoint x f =
+item_ends u t Past (work.Explain ask) x (inr f) h =
+    (let most = refused_ends u t ask ask.name f.version f.why f.fits in let e = ap told_to f.is in omega arith)
+item_ends u t Past work.Checkpoint x f h =
     (let e : told_to x ≡ f.count = ap told_to f.is in let counted = f.counted in omega arith)
 
 -- ---- kinds

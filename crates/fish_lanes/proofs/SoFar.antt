@@ -163,7 +163,7 @@ module _ {Past : Whole → Type 0} (v u t : View) (works : List Work) (items : L
         ap (λ (n : ℕ). take n works) more ∙ take_more works (length items) w less
         ∙ ap (λ (z : Work). take (length items) works ++ z ∷ []) (sym is) in
         let told : HasAnswered Past v t (take (length items) works ++ w ∷ []) (answers items ++ x ∷ []) =
-        told_more v u t (take (length items) works) (answers items) w x g.rows h.told g.gains g.first item.fit item.shuts
+        told_more v u t (take (length items) works) (answers items) w x g.rows h.told g.gains g.first item.fit (inl shared) item.shuts
         (omega arith) in
         record {
           told = subst (λ (z : List Work × List Item). HasAnswered Past v t z.0 z.1)

@@ -1,5 +1,5 @@
 -- Why a lane stops.
-use Rattle.std.specs.Prelude.{ℕ, None, ⊤}
+use Rattle.std.specs.Prelude.{ℕ, ⊤}
 use Rattle.fish_lanes.specs.declared.work.LaneFault.{LaneFault}
 use Rattle.fish_lanes.specs.declared.work.LaneFault.TheVariants as fault
 use Rattle.fish_outside.specs.Causes.{Rose}

@@ -3,6 +3,7 @@
 use Rattle.std.specs.Prelude.{ℕ, ◌≡◌, ◌≤◌, List, Some, length, slice_get}
 use Rattle.fish_disk.specs.declared.disk.Disk.{Ghosts as Disks}
 use Rattle.fish_lanes.specs.Blocks.{EachLane, AreEnded, AreKept, HasRegistered, IsBlockSpan, NameMarks, SaysBlock}
+use Rattle.fish_lanes.specs.CommitRows.{LeavesRowsOf}
 use Rattle.fish_lanes.specs.Controlling.{CanControl, IsCommitted}
 use Rattle.fish_lanes.specs.Ending.{HasEnd}
 use Rattle.fish_lanes.specs.Gains.{WasShut}
@@ -25,8 +26,8 @@ use Rattle.fish_store.specs.declared.store.Store.{Store}
 use Rattle.fish_whole.specs.Whole.{Later, Whole, WillHold}
 
 -- its log is the same one, and ends where the block does; at each moment since, a crash left a part of it that has the
--- last commit's entries; a checkpoint may follow, unless the first lane met a fault of the disk; and what that lane
--- tells as committed was
+-- last commit's entries, and the definitions of a moment between two items of the first lane; a checkpoint may follow,
+-- unless that lane met a fault of the disk; and what it tells as committed was
 pub record LeavesStore {D : Type 0} (disks : Disks D) (disk : D) (s : Store) (disk' : D) (t : Store) (lanes : List Lane)
     (end : BlockEnd) : Type 0 where
   pub log : t.log ≡ s.log
@@ -38,6 +39,8 @@ pub record LeavesStore {D : Type 0} (disks : Disks D) (disk : D) (s : Store) (di
   pub ends : HasEnd (view t.pass) end.to
   pub later : Later (view s.pass) (view t.pass)
   pub committed : (x : Lane) → slice_get lanes 0 ≡ Some x → AllOf (IsCommitted t.file.flusher.count) x.items
+  pub rows : (x : Lane) → slice_get lanes 0 ≡ Some x
+      → LeavesRowsOf disks disk disk' (registry_of (view s.pass) s.registrar) x.items
 
 -- each lane has an item for each statement that it keeps, or a fault with its cause and fewer; what it handed back it
 -- hasn't begun, and that only where the log was found full in the block, which its last item says; no seat is lost

@@ -1,5 +1,6 @@
 pub mod Blocks
 pub mod Causes
+pub mod CommitRows
 pub mod Controlling
 pub mod Doing
 pub mod Ending

@@ -98,7 +98,7 @@ IsRefusedFor w s ask version cause.UnknownName =
     (rows : List Listed) × HasRows w s version rows × HasNone rows ask.name
 IsRefusedFor w s ask version (cause.EmptyRange from to) = AreEmptyEnds ask from to
     × ((rows : List Listed) × HasRows w s version rows × ((position : ℕ) × IsNewest rows ask.name position))
-IsRefusedFor w s ask version (cause.NotCovered from to) = (ask.how ≡ how.Index) × (from < to) × (to ≤ length w.log)
+IsRefusedFor w s ask version (cause.NotCovered from to) = (ask.how ≡ how.Index) × (from < to) × (to ≤ s.to)
     × (first_asked ask ≤ from) × ((end : ℕ) → ask.to ≡ Some end → to ≤ end)
 
 -- ---- items

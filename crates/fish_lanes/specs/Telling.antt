@@ -14,6 +14,7 @@ use Rattle.fish_lines.specs.File.{accepted, refused}
 use Rattle.fish_lines.specs.Resuming.{outcomes_from}
 use Rattle.fish_report.specs.declared.item.Item.{Item}
 use Rattle.fish_report.specs.declared.item.Item.TheVariants as item
+use Rattle.fish_report.specs.declared.item.ScanCause.TheVariants as cause
 use Rattle.fish_rule.specs.Views.{Among}
 use Rattle.fish_value.specs.Limits.{longest_file}
 use Rattle.fish_value.specs.declared.field.Form.{Form}
@@ -37,8 +38,12 @@ count_of x = 0
 
 -- up to which number an item tells of the log
 abbrev pub told_to : Item → ℕ
+told_to (item.Registered name id from def) = from
+told_to (item.Deregistered name id to) = to
 told_to (item.Scanned name value from to opens rows version) = to
 told_to (item.Explained name value from to plan version) = to
+told_to (item.ScanRefused name version (cause.NotCovered from to)) = to
+told_to (item.ExplainRefused name version (cause.NotCovered from to)) = to
 told_to (item.Checkpointed count) = count
 told_to x = 0
 

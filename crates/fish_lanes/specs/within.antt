@@ -2,6 +2,7 @@
 pub mod Advancing
 pub mod Blocks
 pub mod Causes
+pub mod CommitRows
 pub mod Controlling
 pub mod Course
 pub mod Doing

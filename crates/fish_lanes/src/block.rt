@@ -5,6 +5,7 @@ ghost use Rattle.std.specs.Thread.{IsSync};
 ghost use Rattle.fish_lanes.specs.Blocks.{EachLane, AreEnded, AreKept, AreLanes, HasRegistered, IsBlockSpan, IsKept};
 ghost use Rattle.fish_lanes.specs.Blocks.{IsNewLane};
 ghost use Rattle.fish_lanes.specs.Blocks.{NameMarks, SaysBlock};
+ghost use Rattle.fish_lanes.specs.CommitRows.{LeavesRowsOf};
 ghost use Rattle.fish_lanes.specs.Controlling.{CanControl, IsCommitted};
 ghost use Rattle.fish_lanes.specs.Ending.{HasEnd};
 ghost use Rattle.fish_lanes.specs.Gains.{WasShut};
@@ -132,6 +133,7 @@ fn run_first<D: Disk, G: Gate>(
     ensures stops { Stops (IsSoundBehind D.Disk (point_of disk.old file.old log.now control.old registrar.old)
         (D.content disk.new)) (D.faults disk.old) (D.faults disk.new) lane.new }
     ensures committed { AllOf (IsCommitted file.new.flusher.count) lane.new.items }
+    ensures rows { LeavesRowsOf D.Disk disk.old disk.new (registry_of (view control.old) registrar.old) lane.new.items }
 {
     let fault = run_control(
         alloc,
@@ -176,6 +178,8 @@ fn run_all<R: Threads + Sync, D: Disk + Send, G: Gate + Sync>(
     ensures stops { Stops (IsSoundBehind D.Disk (point_of disk.old file.old log.now control.old registrar.old)
         (D.content disk.new)) (D.faults disk.old) (D.faults disk.new) first.new }
     ensures committed { AllOf (IsCommitted file.new.flusher.count) first.new.items }
+    ensures rows { LeavesRowsOf D.Disk disk.old disk.new (registry_of (view control.old) registrar.old)
+        first.new.items }
     ensures gone { AreGone log.now others.old others.new }
 {
     if others.is_empty() {
@@ -224,6 +228,8 @@ fn run_by_passes<R: Threads + Sync, D: Disk + Send, G: Gate + Sync>(
     ensures stops { EachLane (λ i x. Stops (IsSoundBehind D.Disk (point_of disk.old file.old log.now control.old
         registrar.old) (D.content disk.new)) (D.faults disk.old) (D.faults disk.new) x) (first.new ∷ others.new) }
     ensures committed { AllOf (IsCommitted file.new.flusher.count) first.new.items }
+    ensures rows { LeavesRowsOf D.Disk disk.old disk.new (registry_of (view control.old) registrar.old)
+        first.new.items }
 {
     let full = is_full(control);
     give_all(log, control, others);
@@ -298,6 +304,8 @@ fn run_lanes<R: Threads + Sync, D: Disk + Send, G: Gate + Sync>(
     ensures stops { EachLane (λ i x. Stops (IsSoundBehind D.Disk (point_of disk.old file.old log.now control.old
         registrar.old) (D.content disk.new)) (D.faults disk.old) (D.faults disk.new) x) (first.new ∷ others.new) }
     ensures committed { AllOf (IsCommitted file.new.flusher.count) first.new.items }
+    ensures rows { LeavesRowsOf D.Disk disk.old disk.new (registry_of (view control.old) registrar.old)
+        first.new.items }
 {
     run_by_passes(
         rt, alloc, log, control, registrar, file, disk, first, others, gate,

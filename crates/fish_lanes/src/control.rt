@@ -1,10 +1,12 @@
 //! The statements of the first lane, done by the control pass: it may register definitions and end them, commits the
 //! log, and reads older records from the store's file.
 
-ghost use Rattle.std.specs.Prelude.{◌≡◌, ◌≢◌, ◌≤◌, ◌⊎◌, [], All, IfErr, IfOk, IsErrOf, None, length};
+ghost use Rattle.std.specs.Prelude.{◌≡◌, ◌≢◌, ◌≤◌, ◌⊎◌, [], ◌∷◌, All, IfErr, IfOk, IsErrOf, None, length};
 ghost use Rattle.fish_epoch.specs.Definitions.{IsDefsOf};
 ghost use Rattle.fish_lanes.specs.Causes.{HasCause, IsUndamaged};
+ghost use Rattle.fish_lanes.specs.CommitRows.{LeavesRowsOf};
 ghost use Rattle.fish_lanes.specs.Controlling.{CanControl, IsCommitted};
+ghost use Rattle.fish_lanes.specs.within.CommitRows.{rows_by};
 ghost use Rattle.fish_lanes.specs.within.Controlling.{HasControlled, IsControlled, IsPartControlled};
 ghost use Rattle.fish_lanes.specs.within.Doing.{FitsCheckpoint};
 ghost use Rattle.fish_lanes.specs.within.Full.{SaysLast, done_of};
@@ -16,6 +18,7 @@ ghost use Rattle.fish_flush.specs.Carrying.{Reads};
 ghost use Rattle.fish_rule.specs.Passes.{view};
 ghost use Rattle.fish_rule.specs.Views.{AllOf};
 ghost use Rattle.fish_scan.specs.Colder.{IsBelow};
+ghost use Rattle.fish_store.specs.CommitRows.{LeavesRows};
 ghost use Rattle.fish_store.specs.Points.{point_of};
 ghost use Rattle.fish_store.specs.Sound.{GoesOnHere, IsSoundBehind, MayGoOn};
 ghost use Rattle.fish_whole.specs.Whole.{Whole};
@@ -67,6 +70,7 @@ pub(crate) fn run_control<D: Disk, G: Gate>(
         ⊎ (((view pass.old).shut ≡ None) × WasShut (view pass.new)) }
     ensures last { (view pass.old).shut ≡ None → SaysLast (view pass.new) items.new result }
     ensures committed { AllOf (IsCommitted file.new.flusher.count) items.new }
+    ensures rows { LeavesRowsOf D.Disk disk.old disk.new (registry_of (view pass.old) registrar.old) items.new }
 
     ensures cause { HasCause (D.faults disk.old) (D.faults disk.new) result }
     ensures later { D.faults disk.old ≤ D.faults disk.new }
@@ -127,6 +131,8 @@ fn run_statement<D: Disk, G: Gate>(
     ensures done { IfOk result (IsControlled (IsSoundBehind D.Disk (point_of disk.old file.old log.now pass.old
         registrar.old) (D.content disk.new)) (view pass.old) registrar.old (view pass.new) registrar.new work.now) }
     ensures committed { IfOk result (IsCommitted file.new.flusher.count) }
+    ensures rows { LeavesRows D.Disk disk.old disk.new (rows_by result registrar.old.catalog) (registrar.old.catalog ∷
+        []) }
     ensures part { IfErr result (λ _. IsPartControlled (view pass.old) (view pass.new) work.now) }
     ensures named { IfErr result (λ e. e ≢ cause.None) }
     ensures cause { IfErr result (HasCause (D.faults disk.old) (D.faults disk.new)) }
@@ -166,6 +172,8 @@ fn commit<D: Disk>(
         → MayGoOn D.images (point_of disk.new file.new log.now pass.new registrar.now) }
     ensures fits { IfOk result (FitsCheckpoint (view pass.old) (view pass.new)) }
     ensures committed { IfOk result (IsCommitted file.new.flusher.count) }
+    ensures rows { LeavesRows D.Disk disk.old disk.new (rows_by result registrar.now.catalog) (registrar.now.catalog ∷
+        []) }
 
     ensures named { IfErr result (λ e. (e ≢ cause.None) × IsUndamaged e) }
     ensures cause { IfErr result (HasCause (D.faults disk.old) (D.faults disk.new)) }

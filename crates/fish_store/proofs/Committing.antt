@@ -1,6 +1,6 @@
 -- A checkpoint, done or refused by the disk, goes from one moment to the next.
 use Rattle.std.proofs.Common.{◌≡◌, ℕ, ◌+◌, ◌≤◌, ◌⊎◌, arith, List, ◌++◌, Option, Some, None, false, true, ap, subst, sym, refl}
-use Rattle.std.proofs.Common.{inl, inr, ◌∙◌, length, take, drop, length-append, length-drop}
+use Rattle.std.proofs.Common.{inl, inr, ◌∙◌, [], ◌∷◌, length, take, drop, length-append, length-drop}
 use Rattle.std.specs.Prelude.{IfOk, IsErrOf, IsSome, Result, Ok, Err}
 use Rattle.std.proofs.lemmas.List.{drop-append-le, take-append-drop, take-append-le}
 use Rattle.fish_catalog.specs.declared.commit.Commit.{Commit}
@@ -22,7 +22,10 @@ use Rattle.fish_flush.specs.declared.refusal.FlushRefusal.{FlushRefusal}
 use Rattle.fish_flush.specs.declared.refusal.FlushRefusal.TheVariants.{DiskFault, OutOfMemory}
 use Rattle.fish_image.specs.Reached.{Reached}
 use Rattle.fish_image.specs.Stands.{Stands}
+use Rattle.fish_recover.proofs.Excluding.{one_stands}
+use Rattle.fish_rule.proofs.laws.Lists.{among_left, among_right}
 use Rattle.fish_rule.specs.Logs.{AreKnown}
+use Rattle.fish_rule.specs.Views.{Among}
 use Rattle.fish_rule.specs.declared.table.Shape.{Shape}
 use Rattle.fish_rule.specs.declared.view.Key.{Key}
 use Rattle.fish_rule.specs.declared.view.View.{View}
@@ -31,6 +34,7 @@ use Rattle.fish_store.proofs.Kept.{stays_carried}
 use Rattle.fish_store.proofs.Again.{may_again}
 use Rattle.fish_store.proofs.Running.{here_stays, may_stays}
 use Rattle.fish_store.proofs.Same.{still_self, table_same}
+use Rattle.fish_store.specs.CommitRows.{HasRowsOf, HaveRowsOf, LeavesRows, by_checkpoint}
 use Rattle.fish_store.specs.Sound.{GoesOnHere, HasPast, IsImageOf, MayCommit, MayGoOn, Point, Rests, Sound, Stays}
 use Rattle.fish_whole.proofs.Parts.{fits_later}
 use Rattle.fish_whole.proofs.Prefixes.{prefix_self}
@@ -254,3 +258,56 @@ module _
   again_checkpoint (Err OutOfMemory) counted done memory unbroken =
       (let same = memory refl in may_stays disks p q (stays_same same.0 same.1)
       (record { live = live; may = may; counted = counted }))
+
+  -- ---- the rows of commits
+
+  -- those of the last commit were among these, where the disk is told
+  old_among : (was : List (List CatRow)) → HaveRowsOf (disks.images p.disk) was → IsSome (disks.content p.disk) → Among may.0.rows was
+  old_among was have some = by (disks.content p.disk) refl some
+    where
+      by : (o : Option (List ℕ)) → disks.content p.disk ≡ o → IsSome o → Among may.0.rows was
+      by None is some = absurd cc
+      by (Some i) is some =
+          let here = read p.disk i is in
+          let h = have i here in
+          let stands = rest_stands (disks.images p.disk) p.flusher may.0 may.1 may.2.rest i here in
+          subst (λ (c : Commit). Among c.rows was) (one_stands i h.commit may.0 h.log may.1 h.stands stands).0 h.among
+
+  -- so are those that a crash leaves, or they are the rows that are committed
+  either_among : (was : List (List CatRow)) → HaveRowsOf (disks.images p.disk) was → IsSome (disks.content p.disk)
+      → (h : LeavesEither disks.images disks.since disks.moment p.disk q.disk q.view p.rows may.0 may.1 may.2.rest.lines) → (i : List ℕ)
+      → Stands may.0 i may.1 ⊎ Stands h.next i (may.1 ++ h.more) → HasRowsOf (was ++ p.rows ∷ []) i
+  either_among was have some h i (inl stands) = record {
+    commit = may.0;
+    log = may.1;
+    stands = stands;
+    among = among_left may.0.rows was (p.rows ∷ []) (old_among was have some);
+  }
+  either_among was have some h i (inr stands) = record {
+    commit = h.next;
+    log = may.1 ++ h.more;
+    stands = stands;
+    among = among_right h.next.rows was (p.rows ∷ []) (inl (sym h.rows_are));
+  }
+
+  either_rows : IsSome (disks.content q.disk) → (was : List (List CatRow)) → HaveRowsOf (disks.images p.disk) was
+      → LeavesOnly disks.images disks.since disks.moment p.disk q.disk (HasRowsOf (was ++ p.rows ∷ []))
+  either_rows still was have =
+      let h = either may.0 may.1 may.2 in
+      leaves_more disks.images disks.since disks.moment p.disk q.disk _ (HasRowsOf (was ++ p.rows ∷ []))
+      (either_among was have (before still) h) h.leaves
+
+  -- where a checkpoint is done, these alone
+  pub rows_checkpoint : (r : Result ℕ FlushRefusal)
+      → IfOk r (λ n. (i : List ℕ) → disks.images q.disk i → HasRowsOf (p.rows ∷ []) i)
+      → LeavesRows disks p.disk q.disk (by_checkpoint r p.rows) (p.rows ∷ [])
+  rows_checkpoint (Ok n) all = record {
+    told_before = before;
+    now = λ still was have. all;
+    since = either_rows;
+  }
+  rows_checkpoint (Err e) all = record {
+    told_before = before;
+    now = λ still was have. (either_rows still was have).now;
+    since = either_rows;
+  }

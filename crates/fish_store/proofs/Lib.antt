@@ -1,6 +1,7 @@
 pub mod Again
 pub mod Beginning
 pub mod Closing
+pub mod CommitRows
 pub mod Committing
 pub mod Ending
 pub mod Kept

@@ -3,6 +3,7 @@ use Rattle.std.specs.Prelude.{ℕ, ◌≡◌, ◌≤◌, ◌++◌, List, length}
 use Rattle.fish_catalog.specs.declared.commit.Commit.{Commit}
 use Rattle.fish_catalog.specs.declared.entry.Entry.{Entry}
 use Rattle.fish_catalog.specs.declared.row.CatRow.{CatRow}
+use Rattle.fish_flush.specs.Reading.{IsLineAt}
 use Rattle.fish_flush.specs.declared.flusher.Flusher.{Flusher}
 use Rattle.fish_image.specs.Stands.{Stands}
 use Rattle.fish_rule.specs.ClosedLog.{IsClosed}
@@ -24,21 +25,24 @@ pub record IsPartOf (old log : List Entry) (least : ℕ) (image : List ℕ) : Ty
   pub kept : KeepsOld old least image
   pub front : IsPrefix kept.part log
 
--- the image stands for a log by a commit with these rows, of a store of this shape
-pub record KeepsCatalog (shape : Shape) (rows : List CatRow) (image : List ℕ) : Type 0 where
+-- the image stands for a log by a commit with these rows and so many lines, of a store of this shape
+pub record KeepsCatalog (shape : Shape) (rows : List CatRow) (lines : ℕ) (image : List ℕ) : Type 0 where
   pub commit : Commit
   pub log : List Entry
   pub stands : Stands commit image log
   pub rows_are : commit.rows ≡ rows
+  pub lines_are : commit.lines ≡ lines
   pub pages : commit.pages ≡ shape.pages
   pub bits : commit.bucket_bits ≡ shape.bucket_bits
 
--- a commit of so many entries is kept: the pass has counted no fewer, and every image has these rows and this shape
+-- a commit of so many entries is kept: the pass has counted no fewer, and knows the line at which they end; and every
+-- image has that line, these rows and this shape
 pub record IsCommitOf (images : List ℕ → Type 0) (shape : Shape) (rows : List CatRow) (f : Flusher) (v : View) (n : ℕ)
     : Type 0 where
   pub count : f.count ≡ n
   pub counted : n ≤ v.learned.count
-  pub definitions : (image : List ℕ) → images image → KeepsCatalog shape rows image
+  pub line : IsLineAt v f.count f.line
+  pub definitions : (image : List ℕ) → images image → KeepsCatalog shape rows f.line image
 
 -- the log was closed and shows the end of a whole, with the definitions of its words, of which all is so that was told;
 -- what a crash now may leave is a part of it with the last commit's entries, and what one since a moment may have left,

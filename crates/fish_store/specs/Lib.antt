@@ -1,3 +1,4 @@
+pub mod CommitRows
 pub mod Ending
 pub mod Laws
 pub mod Opened

@@ -1,6 +1,6 @@
 //! What the control pass keeps of a store's file: of the last commit, and of the pages below the table.
 
-ghost use Rattle.std.specs.Prelude.{◌≡◌, ◌≤◌, ℕ, true, IfErr, IfOk, IsErrOf};
+ghost use Rattle.std.specs.Prelude.{◌≡◌, ◌≤◌, ℕ, [], ◌∷◌, true, IfErr, IfOk, IsErrOf};
 ghost use Rattle.fish_cold.specs.Carries.{CarriesTable};
 ghost use Rattle.fish_epoch.specs.Definitions.{IsDefsOf};
 ghost use Rattle.fish_flush.specs.Carrying.{HasSettled, Reads};
@@ -11,6 +11,7 @@ ghost use Rattle.fish_rule.specs.Views.{Among};
 ghost use Rattle.fish_scan.specs.Across.{IsAnswerWith, IsRefusedWith, IsUndamagedScan};
 ghost use Rattle.fish_scan.specs.Colder.{IsBelow, IsScanFault};
 ghost use Rattle.fish_scan.specs.Scans.{IsExplained, OnlyScans};
+ghost use Rattle.fish_store.specs.CommitRows.{LeavesRows, by_checkpoint};
 ghost use Rattle.fish_store.specs.Ending.{IsCommitOf};
 ghost use Rattle.fish_store.specs.Points.{point_of};
 ghost use Rattle.fish_store.specs.Sound.{GoesOnHere, MayGoOn, ReadsPages};
@@ -59,6 +60,8 @@ impl StoreFile {
             → MayGoOn D.images (point_of disk.new self.new log.now pass.new registrar.now) }
         ensures goes { GoesOnHere D.Disk (point_of disk.old self.old log.now pass.old registrar.now)
             (point_of disk.new self.new log.now pass.new registrar.now) }
+        ensures rows { LeavesRows D.Disk disk.old disk.new (by_checkpoint result registrar.now.catalog)
+            (registrar.now.catalog ∷ []) }
 
         ensures cause { HasFlushCause (D.faults disk.old) (D.faults disk.new) result }
         ensures shut { IsErrOf result FlushRefusal.DiskFault → self.new.flusher ≡ record self.old.flusher

@@ -36,7 +36,6 @@ use Rattle.fish_scan.specs.Older.{selectable}
 use Rattle.fish_scan.specs.Scans.{IsExplained, IsPlanned, IsRefused, OnlyScans}
 use Rattle.fish_scan.specs.declared.ask.Answer.{Answer}
 use Rattle.fish_scan.specs.declared.ask.Ask.{Ask}
-use Rattle.fish_scan.specs.declared.ask.Explained.{Explained}
 use Rattle.fish_scan.specs.declared.refusal.ScanRefusal.{ScanRefusal}
 use Rattle.fish_scan.specs.declared.refusal.ScanRefusal.TheVariants as refusal
 use Rattle.fish_value.specs.Limits.{longest_file}

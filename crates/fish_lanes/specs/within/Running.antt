@@ -7,7 +7,7 @@ use Rattle.fish_lanes.specs.within.Plans.{AreReadBounds, PlansHoldFor}
 use Rattle.fish_lanes.specs.Records.{LaneRow}
 use Rattle.fish_lanes.specs.Registering.{KnowsRegistry, Registry}
 use Rattle.fish_lanes.specs.within.Sizes.{SaysShut}
-use Rattle.fish_lanes.specs.Spans.{IsAnswer, Span, answers}
+use Rattle.fish_lanes.specs.Spans.{IsAnswer, Span}
 use Rattle.fish_lanes.specs.within.Spans.{IsWithinSpan}
 use Rattle.fish_lanes.specs.Telling.{SaysLane}
 use Rattle.fish_lanes.specs.declared.lane.Lane.{Lane}

@@ -5,6 +5,7 @@ use Rattle.fish_lanes.proofs.Firsts.{vacant_both}
 use Rattle.fish_lanes.proofs.Kept.{left_none}
 use Rattle.fish_lanes.specs.Blocks.{AreEnded, AreKept, EachLane, HasRegistered, IsKept, IsNewLane, NameMarks, SaysBlock}
 use Rattle.fish_lanes.specs.within.Blocks.{CanGive}
+use Rattle.fish_lanes.specs.CommitRows.{LeavesRowsOf}
 use Rattle.fish_lanes.specs.Controlling.{IsCommitted}
 use Rattle.fish_lanes.specs.Outcome.{AreVacant, HandsBack, LanesSayPlans, Stops, SayFullLast, SaysAloneBy, SaysShutBy}
 use Rattle.fish_lanes.specs.Plans.{KnowsRows}
@@ -51,6 +52,10 @@ returns-clause-store g c =
       committed = λ x at.
           first_there (λ (z : Lane). AllOf (IsCommitted c.run_lanes.new.file.flusher.count) z.items) first c.args.lanes.now others
           c.requires.lanes e.committed x (subst (λ (z : List Lane). slice_get (set z 0 first ++ others) 0 ≡ Some x) front at);
+      rows = λ x at.
+          first_there (λ (z : Lane). LeavesRowsOf g.D.Disk c.args.disk.now c.run_lanes.new.disk
+          (registry_of (view c.args.store.now.pass) c.args.store.now.registrar) z.items) first c.args.lanes.now others
+          c.requires.lanes e.rows x (subst (λ (z : List Lane). slice_get (set z 0 first ++ others) 0 ≡ Some x) front at);
     }
 
 pub returns-clause-lanes : goal.returns-clause-lanes

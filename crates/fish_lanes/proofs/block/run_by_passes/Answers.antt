@@ -3,19 +3,23 @@ use Rattle.std.proofs.Common.{◌≡◌, arith, get_or, Some, slice_get, sym, su
 use Rattle.std.proofs.lemmas.Option.{slice_get-get_or, slice_get_within}
 use Rattle.fish_flush.specs.declared.flusher.Flusher.{Flusher}
 use Rattle.fish_lanes.proofs.Behind.{all_ran, behind_given, behind_run, gone_at, gone_ready, pages_stay_at, pass_again, pass_goes}
+use Rattle.fish_lanes.proofs.CommitRows.{left_read}
 use Rattle.fish_lanes.proofs.Course.{may_join}
-use Rattle.fish_lanes.proofs.Ends.{given_known, given_knows, taken_knows, taken_start}
+use Rattle.fish_lanes.proofs.Ends.{given_known, given_knows, given_registry, taken_knows, taken_start}
 use Rattle.fish_lanes.proofs.Finished.{stops_before, stops_fault, stops_later}
 use Rattle.fish_lanes.proofs.Lanes.{seated_ready}
 use Rattle.fish_lanes.proofs.Lists.{at_places}
 use Rattle.fish_lanes.proofs.Moments.{get_there}
+use Rattle.fish_lanes.specs.CommitRows.{LeavesRowsOf}
 use Rattle.fish_lanes.specs.Controlling.{IsCommitted}
 use Rattle.fish_lanes.specs.Outcome.{Stops}
 use Rattle.fish_lanes.specs.within.Pasts.{WasHere}
+use Rattle.fish_lanes.specs.Registering.{Registry, registry_of}
 use Rattle.fish_rule.proofs.laws.Learning.{learns_same}
 use Rattle.fish_rule.specs.Passes.{view}
 use Rattle.fish_rule.specs.Views.{AllOf}
-use Rattle.fish_store.proofs.Running.{here_both, here_stays, may_stays}
+use Rattle.fish_store.proofs.CommitRows.{rows_kept}
+use Rattle.fish_store.proofs.Running.{here_both, here_stays, may_stays, told_still}
 use Rattle.fish_store.specs.Points.{point_of}
 use Rattle.fish_store.specs.Sound.{IsSoundBehind}
 use Rattle.fish_whole.specs.Whole.{Whole}
@@ -221,3 +225,16 @@ returns-clause-stops g c =
 pub returns-clause-committed : goal.returns-clause-committed
 returns-clause-committed g c = subst (λ (f : Flusher). AllOf (IsCommitted f.count) c.run_all.new.first.items)
     (sym c.finish_others.ensures.flusher) c.run_all.ensures.committed
+
+pub returns-clause-rows : goal.returns-clause-rows
+returns-clause-rows g c =
+    let disk = g.D.Disk in
+    let reads = c.finish_others.ensures.reads.cold in
+    let items = c.run_all.new.first.items in
+    left_read disk c.args.disk.now (registry_of (view c.args.control.now) c.args.registrar.now) c.run_all.new.disk
+    c.finish_others.new.disk items
+    (subst (λ (z : Registry). LeavesRowsOf disk c.args.disk.now c.run_all.new.disk z items)
+    (given_registry (view c.args.control.now) (view c.give_all.new.control) c.args.registrar.now c.give_all.ensures.given.learned)
+    c.run_all.ensures.rows)
+    (rows_kept disk c.run_all.new.disk c.finish_others.new.disk
+    (told_still (disk.content c.run_all.new.disk) (disk.content c.finish_others.new.disk) reads.content_is) reads.crash)

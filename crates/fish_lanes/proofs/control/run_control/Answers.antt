@@ -5,6 +5,7 @@ use Rattle.std.specs.Prelude.{IsErrOf, is_some}
 use Rattle.std.proofs.lemmas.List.{take_all, take_more}
 use Rattle.fish_epoch.proofs.Reading.{defs_later}
 use Rattle.fish_ingest.proofs.IngestionStart.{idle_law}
+use Rattle.fish_lanes.proofs.CommitRows.{HaveLeft, left_all, left_done, left_failed, left_none, left_polled}
 use Rattle.fish_lanes.proofs.Committing.{committed_on, committed_polled}
 use Rattle.fish_lanes.proofs.Controls.{Held, held_cut, held_done, held_ended, held_fewer, held_polled, held_self, take_nothing_first}
 use Rattle.fish_lanes.proofs.Finished.{cause_before}
@@ -15,12 +16,14 @@ use Rattle.fish_lanes.proofs.Parts.{around, err_told, ok_told, same_fault}
 use Rattle.fish_lanes.proofs.Pending.{found_next, found_polled}
 use Rattle.fish_lanes.proofs.SoFar.{controlled_fewer}
 use Rattle.fish_lanes.proofs.Stepping.{looked_goes, looked_may, rows_self, stays_pass}
+use Rattle.fish_lanes.specs.CommitRows.{LeavesRowsOf}
+use Rattle.fish_lanes.specs.within.CommitRows.{rows_by}
 use Rattle.fish_lanes.specs.Controlling.{IsCommitted}
 use Rattle.fish_lanes.specs.within.Controlling.{HasControlled, HasPolled}
 use Rattle.fish_lanes.specs.Full.{IsNotFull}
 use Rattle.fish_lanes.specs.within.Full.{HasFound, SaysLast}
 use Rattle.fish_lanes.specs.Pending.{AreFound}
-use Rattle.fish_lanes.specs.Registering.{registry_of}
+use Rattle.fish_lanes.specs.Registering.{Registry, registry_of}
 use Rattle.fish_lanes.specs.Spans.{answers}
 use Rattle.fish_lanes.specs.Telling.{count_of}
 use Rattle.fish_lanes.specs.declared.work.LaneFault.{LaneFault}
@@ -32,6 +35,7 @@ use Rattle.fish_rule.proofs.laws.Learning.{learns_self}
 use Rattle.fish_rule.specs.Passes.{view}
 use Rattle.fish_rule.specs.Views.{AllOf}
 use Rattle.fish_store.proofs.Running.{behind_on, here_both, here_stays}
+use Rattle.fish_store.specs.CommitRows.{LeavesRows}
 use Rattle.fish_store.specs.Points.{point_of}
 use Rattle.fish_store.specs.Sound.{IsSoundBehind}
 use Rattle.fish_whole.specs.Whole.{Whole}
@@ -55,6 +59,8 @@ loop-work-init g c =
           (held_self v r c.requires.can.start.outside (idle_law v c.requires.can.of.stands c.requires.can.start) c.requires.known);
       found = subst (AreFound v.clock v.clock (registry_of v r)) (sym c.requires.empty) (later_self v.clock);
       committed = subst (AllOf (IsCommitted c.args.file.now.flusher.count)) (sym c.requires.empty) tt;
+      rows = subst (HaveLeft disk c.args.disk.now (registry_of v r) c.args.disk.now) (sym c.requires.empty)
+          (left_none disk c.args.disk.now (registry_of v r));
       last = λ unshut. inl (unshut, subst (AllOf IsNotFull) (sym c.requires.empty) tt);
       later = omega arith;
     }
@@ -95,6 +101,13 @@ returns-then-is_err-clause-run g c =
     ))
     (held_cut v r (view c.loop-work.pass) c.loop-work.registrar u s (take i works) c.loop-work.items w (drop (i + 1) works) [] 0
     cause.Memory (λ e. absurd cc) inv.held inv.found c.find_boundary.ensures.gains (take_nothing_first w))
+
+pub returns-then-is_err-clause-rows : goal.returns-then-is_err-clause-rows
+returns-then-is_err-clause-rows g c =
+    let start = registry_of (view c.args.pass.now) c.args.registrar.now in
+    subst (LeavesRowsOf g.D.Disk c.args.disk.now c.loop-work.disk start)
+    (sym (err_told c.find_boundary.result c.is_err.result c.is_err.ensures.value c.if-is_err.true c.find_boundary.ensures.refused))
+    (left_all g.D.Disk c.args.disk.now start c.loop-work.disk c.loop-work.items c.loop-work.invariant.rows)
 
 pub returns-then-is_err-clause-committed : goal.returns-then-is_err-clause-committed
 returns-then-is_err-clause-committed g c =
@@ -252,6 +265,45 @@ returns-in-Err-push-clause-run g c =
     (held_cut v r u s t q (take i works) c.find_boundary.new.items w (drop (i + 1) works) done.rows (count_of c.in-Ok.item)
     cause.Memory (λ e. absurd cc) held found done.gains done.first)
 
+pub returns-in-Err-clause-rows : goal.returns-in-Err-clause-rows
+returns-in-Err-clause-rows g c =
+    let disk = g.D.Disk in
+    let inv = c.loop-work.invariant in
+    let v = view c.args.pass.now in
+    let r = c.args.registrar.now in
+    let u = view c.find_boundary.new.pass in
+    let s = c.find_boundary.new.registrar in
+    let items = c.find_boundary.new.items in
+    let polled : HasPolled (view c.loop-work.pass) c.loop-work.registrar u s c.loop-work.items items =
+    ok_told c.find_boundary.result c.is_err.result c.is_err.ensures.value c.if-is_err.false c.find_boundary.ensures.polled in
+    let held = held_polled v r (view c.loop-work.pass) c.loop-work.registrar u s (take c.loop-work.work-index c.args.works.now)
+    c.loop-work.items items inv.held c.find_boundary.ensures.gains c.find_boundary.ensures.loads c.find_boundary.ensures.shut
+    c.find_boundary.ensures.idle polled in
+    (left_failed disk c.args.disk.now (registry_of v r) c.loop-work.disk c.run_statement.new.disk items s.catalog
+    (ap (λ (z : Registry). z.rows) held.is)
+    (left_polled disk c.args.disk.now (registry_of v r) c.loop-work.disk (view c.loop-work.pass) c.loop-work.registrar u s
+    c.loop-work.items items polled inv.rows) c.run_statement.result c.run_statement.ensures.rows)
+
+pub returns-in-Err-push-clause-rows : goal.returns-in-Err-push-clause-rows
+returns-in-Err-push-clause-rows g c =
+    let disk = g.D.Disk in
+    let inv = c.loop-work.invariant in
+    let v = view c.args.pass.now in
+    let r = c.args.registrar.now in
+    let u = view c.find_boundary.new.pass in
+    let s = c.find_boundary.new.registrar in
+    let items = c.find_boundary.new.items in
+    let polled : HasPolled (view c.loop-work.pass) c.loop-work.registrar u s c.loop-work.items items =
+    ok_told c.find_boundary.result c.is_err.result c.is_err.ensures.value c.if-is_err.false c.find_boundary.ensures.polled in
+    let held = held_polled v r (view c.loop-work.pass) c.loop-work.registrar u s (take c.loop-work.work-index c.args.works.now)
+    c.loop-work.items items inv.held c.find_boundary.ensures.gains c.find_boundary.ensures.loads c.find_boundary.ensures.shut
+    c.find_boundary.ensures.idle polled in
+    subst (LeavesRowsOf disk c.args.disk.now c.run_statement.new.disk (registry_of v r)) (sym c.in-Err-push.ensures.err)
+    (left_failed disk c.args.disk.now (registry_of v r) c.loop-work.disk c.run_statement.new.disk items s.catalog
+    (ap (λ (z : Registry). z.rows) held.is)
+    (left_polled disk c.args.disk.now (registry_of v r) c.loop-work.disk (view c.loop-work.pass) c.loop-work.registrar u s
+    c.loop-work.items items polled inv.rows) c.run_statement.result c.run_statement.ensures.rows)
+
 pub returns-in-Err-push-clause-committed : goal.returns-in-Err-push-clause-committed
 returns-in-Err-push-clause-committed g c =
     let inv = c.loop-work.invariant in
@@ -324,6 +376,14 @@ loop-work-preserved g c =
       committed = subst (AllOf (IsCommitted c.run_statement.new.file.flusher.count)) (sym c.in-Ok-push.ensures.ok)
           (all_more (IsCommitted c.run_statement.new.file.flusher.count) c.find_boundary.new.items c.in-Ok.item committed
           c.in-Ok.ensures.committed);
+      rows = subst (HaveLeft disk c.args.disk.now (registry_of v r) c.run_statement.new.disk) (sym c.in-Ok-push.ensures.ok)
+          (left_done disk c.args.disk.now (registry_of v r) c.loop-work.disk c.run_statement.new.disk c.find_boundary.new.items s.catalog
+          (ap (λ (z : Registry). z.rows) held.is)
+          (left_polled disk c.args.disk.now (registry_of v r) c.loop-work.disk (view c.loop-work.pass) c.loop-work.registrar u s
+          c.loop-work.items c.find_boundary.new.items polled inv.rows) c.in-Ok.item
+          (subst (λ (z : Result Item LaneFault).
+          LeavesRows disk c.loop-work.disk c.run_statement.new.disk (rows_by z s.catalog) (s.catalog ∷ [])) c.in-Ok.is
+          c.run_statement.ensures.rows));
       last = λ unshut.
           let free = open_test (view c.loop-work.pass).shut c.is_full-full.result c.finds_full.result c.finds_full.ensures
           c.if-finds_full.false (c.is_full-full.ensures ∙ ap is_some unshut) in
@@ -361,6 +421,16 @@ returns-then-finds_full-clause-run g c =
     (sym (take_size works c.loop-work.work-index (length (answers items)) held.told.size))
     (held_ended (view c.args.pass.now) c.args.registrar.now (view c.loop-work.pass) c.loop-work.registrar
     (take c.loop-work.work-index works) items held c.loop-work.invariant.found)
+
+pub returns-clause-rows : goal.returns-clause-rows
+returns-clause-rows g c =
+    left_all g.D.Disk c.args.disk.now (registry_of (view c.args.pass.now) c.args.registrar.now) c.loop-work.disk c.loop-work.items
+    c.loop-work.invariant.rows
+
+pub returns-then-finds_full-clause-rows : goal.returns-then-finds_full-clause-rows
+returns-then-finds_full-clause-rows g c =
+    left_all g.D.Disk c.args.disk.now (registry_of (view c.args.pass.now) c.args.registrar.now) c.loop-work.disk c.loop-work.items
+    c.loop-work.invariant.rows
 
 -- ---- a full log
 

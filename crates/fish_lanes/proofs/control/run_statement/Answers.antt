@@ -4,6 +4,7 @@ use Rattle.std.specs.Prelude.{IfErr, IfOk}
 use Rattle.fish_epoch.proofs.Reading.{defs_later}
 use Rattle.fish_ingest.proofs.IngestionStart.{idle_law}
 use Rattle.fish_lanes.proofs.Behind.{sound_now}
+use Rattle.fish_lanes.proofs.CommitRows.{rows_other, rows_same}
 use Rattle.fish_lanes.proofs.Committing.{commit_item, commit_part, other_committed}
 use Rattle.fish_lanes.proofs.Controls.{control_done, control_part, free_done, free_part, gained_any}
 use Rattle.fish_lanes.proofs.Doings.{ok_then}
@@ -15,6 +16,7 @@ use Rattle.fish_lanes.proofs.SoFar.{items_anywhere, items_fewer, shared_free, sh
 use Rattle.fish_lanes.proofs.Stepping.{rows_self, stays_pass}
 use Rattle.fish_lanes.specs.Controlling.{IsCommitted}
 use Rattle.fish_lanes.specs.within.Controlling.{IsControlled, IsPartControlled}
+use Rattle.fish_lanes.specs.within.Doing.{IsFit}
 use Rattle.fish_lanes.specs.within.Pasts.{IsHere, anywhere}
 use Rattle.fish_lanes.specs.Registering.{IsAcceptable}
 use Rattle.fish_lanes.specs.declared.work.LaneFault.{LaneFault}
@@ -23,7 +25,8 @@ use Rattle.fish_lanes.specs.declared.work.Work.TheVariants as work
 use Rattle.fish_report.specs.declared.item.Item.{Item}
 use Rattle.fish_rule.specs.Passes.{view}
 use Rattle.fish_rule.specs.declared.view.Key.{Key}
-use Rattle.fish_store.proofs.Running.{here_stays, may_stays}
+use Rattle.fish_store.proofs.CommitRows.{rows_kept}
+use Rattle.fish_store.proofs.Running.{here_stays, may_stays, told_still}
 use Rattle.fish_store.proofs.Scanning.{pages_stay}
 use Rattle.fish_store.specs.Points.{point_of}
 use Rattle.fish_store.specs.Sound.{IsSoundBehind, ReadsPages}
@@ -84,6 +87,15 @@ returns-in-Register-clause-committed g c =
     (memory_ok c.register.result (IsCommitted count)
     (other_committed anywhere count v t w c.register.result (λ bad. absurd cc) c.register.ensures.item))
 
+pub returns-in-Register-clause-rows : goal.returns-in-Register-clause-rows
+returns-in-Register-clause-rows g c =
+    let v = view c.args.pass.now in
+    let t = view c.register.new.pass in
+    let w = work.Register c.in-Register.name c.in-Register.def in
+    rows_other g.D.Disk c.args.disk.now c.args.disk.now c.args.registrar.now.catalog anywhere v t w c.or_memory.result (λ bad. absurd cc)
+    (subst (λ (z : Result Item LaneFault). IfOk z (IsFit anywhere v t w)) (sym c.or_memory.ensures)
+    (memory_ok c.register.result (IsFit anywhere v t w) c.register.ensures.item)) (rows_same g.D.Disk c.args.disk.now)
+
 pub returns-in-Register-clause-part : goal.returns-in-Register-clause-part
 returns-in-Register-clause-part g c =
     let v = view c.args.pass.now in
@@ -143,6 +155,16 @@ returns-in-Deregister-clause-committed g c =
     subst (λ (z : Result Item LaneFault). IfOk z (IsCommitted count)) (sym c.or_memory-in-Deregister.ensures)
     (memory_ok c.deregister.result (IsCommitted count)
     (other_committed anywhere count v t w c.deregister.result (λ bad. absurd cc) c.deregister.ensures.item))
+
+pub returns-in-Deregister-clause-rows : goal.returns-in-Deregister-clause-rows
+returns-in-Deregister-clause-rows g c =
+    let v = view c.args.pass.now in
+    let t = view c.deregister.new.pass in
+    let w = work.Deregister c.in-Deregister.name in
+    rows_other g.D.Disk c.args.disk.now c.args.disk.now c.args.registrar.now.catalog anywhere v t w
+    c.or_memory-in-Deregister.result (λ bad. absurd cc)
+    (subst (λ (z : Result Item LaneFault). IfOk z (IsFit anywhere v t w)) (sym c.or_memory-in-Deregister.ensures)
+    (memory_ok c.deregister.result (IsFit anywhere v t w) c.deregister.ensures.item)) (rows_same g.D.Disk c.args.disk.now)
 
 pub returns-in-Deregister-clause-part : goal.returns-in-Deregister-clause-part
 returns-in-Deregister-clause-part g c =
@@ -259,6 +281,19 @@ returns-in_default-clause-committed g c =
     let here = IsHere (g.D.Disk.content c.run_shared.new.disk) c.args.log.now.key c.args.file.now.cold in
     other_committed here c.run_shared.new.file.flusher.count v t w c.run_shared.result c.in_default.not-Checkpoint
     (ok_then c.run_shared.result (λ x h. h.fit) c.run_shared.ensures.item)
+
+pub returns-in_default-clause-rows : goal.returns-in_default-clause-rows
+returns-in_default-clause-rows g c =
+    let disk = g.D.Disk in
+    let v = view c.args.pass.now in
+    let t = view c.run_shared.new.pass in
+    let here = IsHere (disk.content c.run_shared.new.disk) c.args.log.now.key c.args.file.now.cold in
+    let reads = c.run_shared.ensures.reads.cold in
+    rows_other disk c.args.disk.now c.run_shared.new.disk c.args.registrar.now.catalog here v t c.args.work.now
+    c.run_shared.result
+    c.in_default.not-Checkpoint (ok_then c.run_shared.result (λ x h. h.fit) c.run_shared.ensures.item)
+    (rows_kept disk c.args.disk.now c.run_shared.new.disk
+    (told_still (disk.content c.args.disk.now) (disk.content c.run_shared.new.disk) reads.content_is) reads.crash)
 
 pub returns-in_default-clause-part : goal.returns-in_default-clause-part
 returns-in_default-clause-part g c = free_part (view c.args.pass.now) (view c.run_shared.new.pass) c.args.work.now c.run_shared.result

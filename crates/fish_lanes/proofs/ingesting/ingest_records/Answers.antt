@@ -1,5 +1,5 @@
 -- What is stored of the texts is stored of the file.
-use Rattle.std.proofs.Common.{ℕ, List, Option, subst, sym}
+use Rattle.std.proofs.Common.{ℕ, List, Option, subst}
 use Rattle.std.specs.Prelude.{IfErr, IfOk}
 use Rattle.fish_ingest.proofs.IngestionStart.{idle_law}
 use Rattle.fish_lanes.proofs.Storing.{stored_none}

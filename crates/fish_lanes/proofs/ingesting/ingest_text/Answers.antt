@@ -1,18 +1,13 @@
 -- A line is a record or none, and a row that is given is one.
-use Rattle.std.proofs.Common.{rules, ◌≡◌, Some, false, refl, subst, sym, true}
+use Rattle.std.proofs.Common.{subst, sym}
 use Rattle.std.specs.Prelude.{IfOk, MatchOption}
-use Rattle.fish_ingest.proofs.IngestionStart.{idle_law}
 use Rattle.fish_json.specs.Lines as json
-use Rattle.fish_lanes.proofs.Gaining.{gains_self}
-use Rattle.fish_lanes.proofs.Keeping.{keeps_self}
 use Rattle.fish_lanes.proofs.Storing.{json_record, json_refused, taken}
-use Rattle.fish_lanes.specs.within.Storing.{FindsTextFull, IsGiven, TakesText}
+use Rattle.fish_lanes.specs.within.Storing.{FindsTextFull, TakesText}
 use Rattle.fish_lines.specs.Texts.{payload_in, text_form}
 use Rattle.fish_lines.specs.declared.texts.RecordText.{RecordText}
-use Rattle.fish_lines.specs.declared.texts.RecordText.TheVariants as text
-use Rattle.fish_psf.specs.Records.{is_record}
 use Rattle.fish_rule.specs.Passes.{view}
-use Rattle.fish_value.specs.declared.field.Form.TheVariants.{Csv, Json}
+use Rattle.fish_value.specs.declared.field.Form.TheVariants.{Json}
 use Rattle.fish_lanes.proofs.ingesting.ingest_text.Goals as goal
 
 pub returns-in-Line-clause-takes : goal.returns-in-Line-clause-takes

@@ -6,8 +6,8 @@ use Rattle.fish_catalog.specs.declared.entry.Entry.{Entry}
 use Rattle.fish_catalog.specs.declared.row.CatRow.{CatRow}
 use Rattle.fish_flush.specs.Carrying.{Carries, HasCommitted, LeavesEither}
 use Rattle.fish_rule.specs.Passes.{view}
-use Rattle.fish_store.proofs.Again.{commit_ok}
-use Rattle.fish_store.proofs.Committing.{again_checkpoint, here_checkpoint}
+use Rattle.fish_store.proofs.Again.{commit_ok, rows_ok}
+use Rattle.fish_store.proofs.Committing.{again_checkpoint, here_checkpoint, rows_checkpoint}
 use Rattle.fish_store.specs.Points.{point_of}
 use Rattle.fish_store.proofs.file.StoreFile.checkpoint.Goals as goal
 
@@ -64,3 +64,19 @@ returns-clause-goes g c =
     (disk.images c.checkpoint.new.disk) c.args.self.now.flusher c.checkpoint.new.flusher (view c.args.pass.now)
     (view c.checkpoint.new.pass) c.args.log.now.shape z)) c.catalog.ensures c.checkpoint.ensures.committed)
     c.checkpoint.ensures.shut c.checkpoint.ensures.memory
+
+pub returns-clause-rows : goal.returns-clause-rows
+returns-clause-rows g c =
+    let disk = g.D.Disk in
+    let p = point_of c.args.disk.now c.args.self.now c.args.log.now c.args.pass.now c.args.registrar.now in
+    let q = point_of c.checkpoint.new.disk (record c.args.self.now { flusher = c.checkpoint.new.flusher }) c.args.log.now
+    c.checkpoint.new.pass c.args.registrar.now in
+    rows_checkpoint disk p q c.checkpoint.ensures.reads refl refl refl c.requires.may.live
+    c.requires.may.may g.met.D.Disk.as_read g.met.D.Disk.told
+    (subst (λ (z : List CatRow). (e : Commit) (old : List Entry)
+    (h : Carries (disk.images c.args.disk.now) c.args.self.now.flusher (view c.args.pass.now) c.args.log.now.shape z e old)
+    → LeavesEither disk.images disk.since disk.moment c.args.disk.now c.checkpoint.new.disk (view c.checkpoint.new.pass) z e old
+    h.rest.lines) c.catalog.ensures c.checkpoint.ensures.crash)
+    c.checkpoint.result
+    (rows_ok (disk.images c.checkpoint.new.disk) c.args.log.now.shape c.args.registrar.now.catalog c.checkpoint.new.flusher
+    (view c.checkpoint.new.pass) c.checkpoint.result (returns-clause-commit g c))
