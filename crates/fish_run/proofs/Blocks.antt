@@ -2,6 +2,7 @@
 use Rattle.std.proofs.Common.{◌≡◌, ℕ, ◌+◌, ◌<◌, ◌≤◌, List, [], ◌∷◌, ◌++◌, length, refl, sym, ap, ◌∙◌, subst, ⊎_elim, arith}
 use Rattle.std.proofs.Common.{Bool, None, Some, map, slice_get}
 use Rattle.fish_catalog.specs.Listing.{listed_of}
+use Rattle.fish_disk.specs.declared.disk.Disk.{Ghosts as Disks}
 use Rattle.fish_lanes.proofs.Controls.{each_so}
 use Rattle.fish_lanes.proofs.Gaining.{same_lines}
 use Rattle.fish_lanes.proofs.Lists.{some_once}
@@ -9,10 +10,12 @@ use Rattle.fish_lanes.proofs.Plans.{plans_so}
 use Rattle.fish_lanes.proofs.Single.{singles_whole}
 use Rattle.fish_lanes.specs.Blocks.{AreEnded, AreLanes, HasRegistered, IsBlockSpan, IsMarkItem, NameMarks, control_items}
 use Rattle.fish_lanes.specs.Blocks.{SaysBlock}
+use Rattle.fish_lanes.specs.CommitRows.{LeavesRowsOf}
 use Rattle.fish_lanes.specs.Controlling.{IsCommitted}
-use Rattle.fish_lanes.specs.Outcome.{LanesSayPlans, SayFullLast, SaysAlone, SaysShutBy}
+use Rattle.fish_lanes.specs.Leaving.{LeavesStore}
+use Rattle.fish_lanes.specs.Outcome.{HandsBack, LanesSayPlans, SayFullLast, SaysAlone, SaysShutBy}
 use Rattle.fish_lanes.specs.Ending.{HasEnd}
-use Rattle.fish_lanes.specs.Gains.{IsMarkAt}
+use Rattle.fish_lanes.specs.Gains.{IsMarkAt, WasShut}
 use Rattle.fish_lanes.specs.Plans.{KnowsRows, RowsAre}
 use Rattle.fish_lanes.specs.Registering.{ItemsFit, HasEach, HasRegistry, KnowsEach, KnowsRegistry, Registry, after_all, registry_of}
 use Rattle.fish_lanes.specs.Registering.{waiting_id}
@@ -26,6 +29,7 @@ use Rattle.fish_report.specs.declared.item.Item.TheVariants as item
 use Rattle.fish_rule.proofs.laws.Lists.{all_among, among_either}
 use Rattle.fish_rule.proofs.laws.ChainFacts.{always_later}
 use Rattle.fish_rule.specs.Logs.{Learns}
+use Rattle.fish_rule.specs.Passes.{view}
 use Rattle.fish_rule.specs.Table.{Stands}
 use Rattle.fish_rule.specs.Views.{AllOf, Among}
 use Rattle.fish_rule.specs.ChainFacts.{Always}
@@ -35,6 +39,7 @@ use Rattle.fish_run.specs.Blocks.{AreAcknowledged, FullsAgree, IsFullOf, Round, 
 use Rattle.fish_run.specs.within.Blocks.{AreMarked}
 use Rattle.fish_run.specs.Blocks.{lanes_controls}
 use Rattle.fish_run.specs.within.Steps.{AreWhole, HasCutOne, HasRunOne, Leaves}
+use Rattle.fish_store.specs.declared.store.Store.{Store}
 use Rattle.fish_whole.proofs.Wholes.{may_hold, sure_rows}
 use Rattle.fish_whole.specs.Whole.{MayEnd, Whole, WillHold}
 
@@ -168,8 +173,9 @@ pub leaves_of : (Past : Whole → Type 0) (count : ℕ) (v u : View) (r s : Regi
     → ((x : Lane) → slice_get lanes 0 ≡ Some x → HasRegistered v u r s x end) → AreEnded lanes → NameMarks u lanes
     → SaysShutBy v u lanes → SayFullLast v lanes → LanesSayPlans (KnowsRows u) (registry_of v r) s.catalog from lanes
     → r.waiting ≡ None → SaysAlone Past v u r lanes → ((x : Lane) → slice_get lanes 0 ≡ Some x → AllOf (IsCommitted count) x.items)
-    → Leaves Past count v u r s from lanes end
-leaves_of Past count v u r s from items lanes end are many begins tells has ended marks shuts last plans settled alone committed = record {
+    → HandsBack v u lanes → (WasShut v → end.to ≤ from) → Leaves Past count v u r s from lanes end
+leaves_of Past count v u r s from items lanes end are many begins tells has ended marks shuts last plans settled alone committed left stays
+    = record {
   some = (let some_ = are.some in omega arith);
   begins = begins;
   tells = tells;
@@ -186,6 +192,8 @@ leaves_of Past count v u r s from items lanes end are many begins tells has ende
   last = last;
   plans = plans;
   committed = first_committed count lanes committed;
+  left = left;
+  stays = stays;
 }
 
 module _ (Past : Whole → Type 0) (count : ℕ) (v u : View) (r s : Registrar) (from : ℕ)
@@ -212,6 +220,8 @@ module _ (Past : Whole → Type 0) (count : ℕ) (v u : View) (r s : Registrar) 
         ended = h.ended;
         fulls = h.shuts.one;
         last_full = h.last;
+        left = λ i x at some. let cut = h.left i x at some in (cut.fault, cut.last, cut.unshut);
+        stays = λ c is. (let most = h.stays (c, is) in let least = t.0 in omega arith);
         alone = h.alone;
       }
 
@@ -265,3 +275,16 @@ module _ (Past : Whole → Type 0) (count : ℕ) (v u : View) (r s : Registrar) 
         committed = h.committed;
         after = after;
       }
+
+-- what is so of the first lane of some is so of its items
+first_is : (P : List Item → Type 0) (lanes : List Lane) → 0 < length lanes
+    → ((x : Lane) → slice_get lanes 0 ≡ Some x → P x.items) → P (first_items lanes)
+first_is P [] some h = absurd (omega arith)
+first_is P (x ∷ lanes) some h = h x refl
+
+-- so a block leaves the definitions between its items
+pub block_rows : {D : Type 0} (disks : Disks D) (disk : D) (s : Store) (disk' : D) (t : Store) (lanes : List Lane) (end : BlockEnd)
+    → LeavesStore disks disk s disk' t lanes end → 0 < length lanes
+    → LeavesRowsOf disks disk disk' (registry_of (view s.pass) s.registrar) (first_items lanes)
+block_rows disks disk s disk' t lanes end h some =
+    first_is (LeavesRowsOf disks disk disk' (registry_of (view s.pass) s.registrar)) lanes some h.rows

@@ -22,6 +22,7 @@ use Rattle.fish_run.proofs.Blocks.{fulls_agree}
 use Rattle.fish_run.proofs.Ends.{all_first}
 use Rattle.fish_run.proofs.Faults.{write_loud}
 use Rattle.fish_run.proofs.Keeping.{entries_end, keeps_of, sound_first, still_keeps}
+use Rattle.fish_run.proofs.Lines.{fulls_past}
 use Rattle.fish_run.proofs.Shown.{store_is}
 use Rattle.fish_run.proofs.Written.{gained_none, part_still, part_then, part_whole, written_both}
 use Rattle.fish_run.proofs.Tables.{renewed_any}
@@ -32,13 +33,12 @@ use Rattle.fish_run.specs.Ran.{IsLost, IsStopped, IsWhole, StillKeeps, StoodFor,
 use Rattle.fish_run.specs.Tables.{LastTable}
 use Rattle.fish_run.specs.Reports.{report_of, whole_report}
 use Rattle.fish_run.specs.within.Faults.{IsWriteFault}
-use Rattle.fish_run.specs.within.Runs.{CanClose}
+use Rattle.fish_run.specs.within.Runs.{CanClose, IsAllKept}
 use Rattle.fish_run.specs.within.Steps.{HasRunFirst, RunsAll, RunsSome}
 use Rattle.fish_run.specs.Tables.{AreRenewed}
 use Rattle.fish_run.specs.declared.fault.RunFault.{RunFault}
 use Rattle.fish_run.specs.declared.lasting.Stopped.{Stopped}
 use Rattle.fish_script.specs.declared.script.Block as script
-use Rattle.fish_store.specs.Ending.{KeepsCatalog}
 use Rattle.fish_store.specs.Opened.{first_past, opened_point}
 use Rattle.fish_store.specs.Points.{point_at}
 use Rattle.fish_store.specs.Sound.{Point}
@@ -59,9 +59,9 @@ module _
   Stops refused e = RunsSome disks p disk' o.count (first_registry rows) (opened_item o) told text old mid
       refused e
 
-  -- every image has the definitions of a store's rows
+  -- all of the log of a store is committed
   abbrev pub Kept : Store → Type 0
-  Kept x = (i : List ℕ) → disks.images disk' i → KeepsCatalog x.log.shape x.registrar.catalog i
+  Kept x = IsAllKept disks.images disk' x
 
   -- after all blocks no new one has to be begun
   renewed_all : (rounds : List Round) → AreRenewed rounds false → AreRenewed (rounds ++ []) true
@@ -83,6 +83,7 @@ module _
               ∙ ap (λ (z : Shape). 2 ^ z.bucket_bits) shape ∙ sym buckets;
           fulls = fulls_agree (view x.pass) (left_table fresh [] rounds cut) (view x.pass).about.end close.of.stands
               (h.marks [] (λ b among. elim among [ ])) refl;
+          past = fulls_past (view x.pass) remains closed (left_table fresh [] rounds cut) (h.marks [] (λ b among. elim among [ ]));
           end = subst (λ (k : Key). k.end ≡ k.line + table_lines o.log.shape.pages k.number k.line) (sym key)
               (subst (λ (z : Shape). x.log.key.end ≡ x.log.key.line + table_lines z.pages x.log.key.number x.log.key.line) shape
               close.table.end);
@@ -94,10 +95,10 @@ module _
         }
 
     -- all blocks ran, the log was committed, and its end was written
-    whole_of : (refused : Bool) (end : ℕ) → All x refused end → HasEnd (view x.pass) x.file.flusher.count → Kept x
+    whole_of : (refused : Bool) (end : ℕ) → All x refused end → Kept x
         → Gained mid new (report_text (item.Closed end ∷ []))
         → IsWhole disks disk disk' o told text remains old new refused
-    whole_of refused end h ends kept last = record {
+    whole_of refused end h kept last = record {
       blocks = h.blocks;
       are = h.all;
       renewed = h.renewed;
@@ -107,14 +108,14 @@ module _
           (written_both old mid new (report_of (opened_item o) h.blocks) (item.Closed end ∷ []) h.written last);
       refused_is = h.refused_is;
       keeps = keeps_of disks read disk o p (point_at disk' x) from rows same (rounds_of h.blocks) false None end h.ran
-          unshut remains true closed (λ e. ends) (λ e. h.rows_are) (λ e. kept);
+          unshut remains true closed (λ e. kept.end) (λ e. kept.line) (λ e. h.rows_are) (λ e. kept.catalog);
     }
 
     -- of its end a part was written at most
     late_of : (refused : Bool) (end : ℕ) (why : RunFault) → IsWriteFault why → All x refused end
-        → HasEnd (view x.pass) x.file.flusher.count → Kept x → GainedPart mid new (report_text (item.Closed end ∷ []))
+        → Kept x → GainedPart mid new (report_text (item.Closed end ∷ []))
         → IsStopped disks disk disk' o told text remains old new refused why
-    late_of refused end why loud h ends kept last = record {
+    late_of refused end why loud h kept last = record {
       blocks = h.blocks;
       part = [];
       cut = None;
@@ -135,9 +136,9 @@ module _
       exact = λ output memory. absurd (write_loud why loud output memory);
       input = λ e. refl;
       keeps = keeps_of disks read disk o p (point_at disk' x) from rows same (rounds_of h.blocks ++ []) false None
-          end ran unshut remains true closed (λ e. ends)
+          end ran unshut remains true closed (λ e. kept.end) (λ e. kept.line)
           (λ e. h.rows_are ∙ ap (λ (z : List Round). (after_rounds (first_registry rows) z).rows) (sym (append-nil (rounds_of h.blocks))))
-          (λ e. kept);
+          (λ e. kept.catalog);
     }
       where
         ran : HasRunFirst disks p (point_at disk' x) o.count (first_registry rows) (rounds_of h.blocks ++ []) false
@@ -147,17 +148,17 @@ module _
 
     -- the run came to its end
     pub ends_whole : (refused : Bool) (end : ℕ) (why : Option RunFault) → why ≡ None → All x refused end
-        → HasEnd (view x.pass) x.file.flusher.count → Kept x → Finishes (Ok end) why mid new
+        → Kept x → Finishes (Ok end) why mid new
         → IsWhole disks disk disk' o told text remains old new refused
-    ends_whole refused end None is all ends kept f = whole_of refused end all ends kept f
-    ends_whole refused end (Some why) is all ends kept f = absurd cc
+    ends_whole refused end None is all kept f = whole_of refused end all kept f
+    ends_whole refused end (Some why) is all kept f = absurd cc
 
     -- or a fault came at its end
     pub ends_late : (refused : Bool) (end : ℕ) (why : RunFault) (fault : Option RunFault) → fault ≡ Some why → All x refused end
-        → HasEnd (view x.pass) x.file.flusher.count → Kept x → Finishes (Ok end) fault mid new
+        → Kept x → Finishes (Ok end) fault mid new
         → IsStopped disks disk disk' o told text remains old new refused why
-    ends_late refused end why fault is all ends kept f =
-        let last = subst (λ (z : Option RunFault). Finishes (Ok end) z mid new) is f in late_of refused end why last.0 all ends kept last.1
+    ends_late refused end why fault is all kept f =
+        let last = subst (λ (z : Option RunFault). Finishes (Ok end) z mid new) is f in late_of refused end why last.0 all kept last.1
 
   -- where a fault stopped the blocks, a store that is there may be closed
   close_is : {refused : Bool} (e : Stopped) (x : Store) → e.store ≡ Some x → (h : Stops refused e)
@@ -184,7 +185,8 @@ module _
     exact = λ output memory. gained_none old mid new (report_text (report_of (opened_item o) h.blocks)) (h.exact output memory) none;
     input = h.input;
     keeps = keeps_of disks read disk o p (point_at disk' x) from rows same (rounds_of h.blocks ++ h.part)
-        h.stops.fresh h.cut h.stops.end ran unshut remains false closed (λ i. absurd cc) (λ i. absurd cc) (λ i. absurd cc);
+        h.stops.fresh h.cut h.stops.end ran unshut remains false closed (λ i. absurd cc) (λ i. absurd cc)
+        (λ i. absurd cc) (λ i. absurd cc);
   }
     where
       at : h.stops.at ≡ point_at disk' x
@@ -234,7 +236,7 @@ module _
     written = h.written;
     refused_is = h.refused_is;
     keeps = subst (λ (z : D). (c : Commit) (log : List Entry) (t : ℕ) → StoodFor disks disk z o c log t
-        → StillKeeps (disks.images z) (disks.since z t) log (rounds_of h.blocks ++ h.part) h.cut) h.stops.disk_is
+        → StillKeeps (disks.images z) (disks.since z t) c log (rounds_of h.blocks ++ h.part) h.cut) h.stops.disk_is
         (still_keeps disks read disk o p h.stops.at from rows same (rounds_of h.blocks ++ h.part) h.stops.fresh h.cut
         h.stops.end h.stops.ran unshut);
   }

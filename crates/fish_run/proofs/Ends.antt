@@ -7,6 +7,7 @@ use Rattle.std.specs.Prelude.{◌||◌, IsSome}
 use Rattle.std.proofs.lemmas.Grind.{flat_map-append}
 use Rattle.std.proofs.lemmas.List.{take_all, take_more}
 use Rattle.std.proofs.lemmas.List.Folds.{list_any-append}
+use Rattle.fish_catalog.specs.declared.row.CatRow.{CatRow}
 use Rattle.fish_disk.specs.declared.disk.Disk.{Ghosts as Disks}
 use Rattle.fish_feed.specs.Works.{Pairs}
 use Rattle.fish_lanes.specs.Ending.{HasEnd}
@@ -33,6 +34,7 @@ use Rattle.fish_run.specs.Tables.{AreRenewed}
 use Rattle.fish_run.specs.declared.fault.RunFault.TheVariants as fault
 use Rattle.fish_run.specs.declared.lasting.Stopped.{Stopped}
 use Rattle.fish_script.specs.declared.script.Block as script
+use Rattle.fish_store.specs.CommitRows.{LeavesRows}
 use Rattle.fish_store.specs.Sound.{Point, Runs}
 
 -- ---- one more block
@@ -246,11 +248,13 @@ module _
   pub all_later : (p m q : Point D) (told : Option Files) (text : List script.Block) (a b : Option (List ℕ)) (refused : Bool) (to : ℕ)
       → RunsAll disks p m from r begin told text a b refused to
       → Runs disks m q (λ w. Unit {0}) → Learns m.view q.view → HasEnd q.view to → q.shape ≡ m.shape → q.rows ≡ m.rows
+      → LeavesRows disks m.disk q.disk (λ was. was ++ m.rows ∷ []) (m.rows ∷ [])
       → RunsAll disks p q from r begin told text a b refused to
-  all_later p m q told text a b refused to h runs learns ends shape rows = record {
+  all_later p m q told text a b refused to h runs learns ends shape rows left = record {
     blocks = h.blocks;
     all = h.all;
-    ran = first_on disks p m q from to r (rounds_of h.blocks) false None h.ran runs learns ends shape;
+    ran = first_on disks p m q from to r (rounds_of h.blocks) false None h.ran runs learns ends shape
+        (subst (λ (z : List CatRow). LeavesRows disks m.disk q.disk (λ was. was ++ z ∷ []) (z ∷ [])) h.rows_are left);
     rows_are = rows ∙ h.rows_are;
     renewed = h.renewed;
     written = h.written;

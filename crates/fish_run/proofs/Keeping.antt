@@ -1,5 +1,5 @@
 -- What a run leaves of the store, in the log that is closed and on the disk.
-use Rattle.std.proofs.Common.{◌≡◌, ℕ, ◌≤◌, List, [], length, map, sym, ap, ◌∙◌, subst, arith}
+use Rattle.std.proofs.Common.{◌≡◌, ℕ, ◌≤◌, List, [], ◌∷◌, ◌++◌, length, map, refl, sym, ap, ◌∙◌, subst, inl, ⊎_elim, arith}
 use Rattle.std.proofs.Common.{Bool, true, Option, Some, None, length-append}
 use Rattle.std.specs.Prelude.{IsSome}
 use Rattle.fish_catalog.specs.Clamps.{clamped}
@@ -8,6 +8,9 @@ use Rattle.fish_catalog.specs.declared.entry.Entry.{Entry}
 use Rattle.fish_catalog.specs.declared.row.CatRow.{CatRow}
 use Rattle.fish_disk.specs.declared.disk.Disk.{Ghosts as Disks}
 use Rattle.fish_flush.proofs.Committed.{committed_length}
+use Rattle.fish_flush.proofs.Resting.{rest_stands}
+use Rattle.fish_flush.specs.Reading.{IsLineAt}
+use Rattle.fish_image.specs.Stands.{Stands}
 use Rattle.fish_lanes.proofs.Surely.{closed_length}
 use Rattle.fish_lanes.specs.Ending.{HasEnd}
 use Rattle.fish_recover.specs.Stores.{IsOpened}
@@ -16,12 +19,18 @@ use Rattle.fish_rule.specs.ClosedLog.{IsClosed}
 use Rattle.fish_rule.specs.declared.close.Remains.{Remains}
 use Rattle.fish_rule.specs.declared.table.Shape.{Shape}
 use Rattle.fish_rule.specs.declared.view.View.{View}
+use Rattle.fish_rule.proofs.laws.Lists.{among_left}
+use Rattle.fish_run.proofs.CommitRows.{HaveLeftLast}
+use Rattle.fish_run.proofs.Lines.{line_is}
 use Rattle.fish_run.proofs.Turns.{none_full}
-use Rattle.fish_run.specs.Blocks.{Round, SaysFirst, SaysRun, after_rounds, first_registry}
+use Rattle.fish_run.specs.Blocks.{Round, SaysFirst, SaysRun, after_rounds, first_registry, with_cut}
+use Rattle.fish_run.specs.CommitRows.{KeepsDefinitions, registry_at, rows_through}
 use Rattle.fish_run.specs.Ran.{Keeps, StillKeeps, StoodFor, entries_of}
 use Rattle.fish_run.specs.within.Steps.{HasRunFirst}
+use Rattle.fish_store.proofs.CommitRows.{has_rows}
 use Rattle.fish_store.proofs.Ending.{run_lost, run_shown}
 use Rattle.fish_store.proofs.Opening.{opened_sound, stands_part}
+use Rattle.fish_store.specs.CommitRows.{HasRowsOf, HaveRowsOf}
 use Rattle.fish_store.specs.Ending.{IsLost as LosesLog, IsShown, KeepsCatalog}
 use Rattle.fish_store.specs.Opened.{first_past, opened_point}
 use Rattle.fish_store.specs.Sound.{IsImageOf, Point, Reaches, Runs, Sound}
@@ -109,13 +118,38 @@ module _
   module _ (rows : List CatRow) (same : rows ≡ o.catalog) (rounds : List Round) (fresh : Bool) (cut : Option Round) (end : ℕ)
       (h : HasRunFirst disks p q o.count (first_registry rows) rounds fresh cut end)
       (unshut : p.view.shut ≡ None) where
+    -- a crash leaves the definitions of a moment
+    keeps_rows : (c : Commit) (log : List Entry) (t : ℕ) → StoodFor disks disk q.disk o c log t
+        → KeepsDefinitions (disks.images q.disk) (disks.since q.disk t) c (with_cut rounds cut)
+    keeps_rows c log t s =
+        let at_rest = s.is.carries.rest in
+        let stood : (i : List ℕ) → Stands c i log → HasRowsOf (c.rows ∷ []) i = λ i stands.
+        record { commit = c; log = log; stands = stands; among = inl refl } in
+        let first : HaveRowsOf (disks.images p.disk) (c.rows ∷ []) =
+        subst (λ (z : Point D). HaveRowsOf (disks.images z.disk) (c.rows ∷ [])) (sym from)
+        (λ i here. stood i (rest_stands (disks.images disk) o.flusher c log at_rest i here)) in
+        let early : t ≤ disks.moment p.disk = subst (λ (z : Point D). t ≤ disks.moment z.disk) (sym from) s.early in
+        let rows_are : rows ≡ map (clamped c.count) c.rows = same ∙ s.is.catalog in
+        let h' : HaveLeftLast disks p.disk q.disk (registry_at c) (with_cut rounds cut) =
+        subst (λ (z : List CatRow). HaveLeftLast disks p.disk q.disk (first_registry z) (with_cut rounds cut)) rows_are h.rows in
+        record {
+          left = h'.now s.told (c.rows ∷ []) first;
+          were = λ i since. ⊎_elim
+              (λ (was : disks.since p.disk t i). has_rows (c.rows ∷ []) (c.rows ∷ rows_through (registry_at c) (with_cut rounds cut))
+              (λ these m. among_left these (c.rows ∷ []) (rows_through (registry_at c) (with_cut rounds cut)) m) i
+              (stood i (s.stood i (subst (λ (z : Point D). disks.since z.disk t i) from was))))
+              (λ (has : HasRowsOf ((c.rows ∷ []) ++ rows_through (registry_at c) (with_cut rounds cut)) i). has)
+              ((h'.since s.told (c.rows ∷ []) first).before t i early since);
+        }
+
     -- all that was told is so of the whole that is shown
     pub keeps_of : (remains : Remains) (ended : Bool) → IsClosed q.view remains → (ended ≡ true → HasEnd q.view q.flusher.count)
+        → (ended ≡ true → IsLineAt q.view q.flusher.count q.flusher.line)
         → (ended ≡ true → q.rows ≡ (after_rounds (first_registry rows) rounds).rows)
-        → (ended ≡ true → (i : List ℕ) → disks.images q.disk i → KeepsCatalog q.shape q.rows i)
+        → (ended ≡ true → (i : List ℕ) → disks.images q.disk i → KeepsCatalog q.shape q.rows q.flusher.line i)
         → (c : Commit) (log : List Entry) (t : ℕ) → StoodFor disks disk q.disk o c log t
         → Keeps (disks.images q.disk) (disks.since q.disk t) c log ended rounds cut remains
-    keeps_of remains ended closed all rows_are kept c log t s = record {
+    keeps_of remains ended closed all line rows_are kept c log t s = record {
       count = q.flusher.count;
       acknowledged = h.committed;
       shown = shown;
@@ -129,9 +163,11 @@ module _
             stands = k.stands;
             rows_are = k.rows_are ∙ rows_are is
                 ∙ ap (λ (z : List CatRow). (after_rounds (first_registry z) rounds).rows) (same ∙ s.is.catalog);
+            lines_are = k.lines_are ∙ line_is q.view remains closed q.flusher.count q.flusher.line (all is) (line is);
             pages = k.pages ∙ ap (λ (z : Shape). z.pages) shape ∙ sym s.is.carries.pages;
             bits = k.bits ∙ ap (λ (z : Shape). z.bucket_bits) shape ∙ sym s.is.carries.bits;
           };
+      definitions = keeps_rows c log t s;
     }
       where
         Told : Whole → Type 0
@@ -162,9 +198,10 @@ module _
 
     -- and without it a crash leaves what was committed
     pub still_keeps : (c : Commit) (log : List Entry) (t : ℕ) → StoodFor disks disk q.disk o c log t
-        → StillKeeps (disks.images q.disk) (disks.since q.disk t) log rounds cut
+        → StillKeeps (disks.images q.disk) (disks.since q.disk t) c log rounds cut
     still_keeps c log t s = record {
       count = q.flusher.count;
       acknowledged = h.committed;
       lost = lost_of (λ w. SaysFirst w o.count (first_registry rows) rounds cut end) h.runs c log t s;
+      definitions = keeps_rows c log t s;
     }

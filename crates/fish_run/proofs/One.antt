@@ -13,6 +13,7 @@ use Rattle.fish_report.specs.ReportText.{report_text}
 use Rattle.fish_report.specs.declared.item.Item.{Item}
 use Rattle.fish_rule.proofs.laws.Learning.{learns_self}
 use Rattle.fish_rule.specs.Passes.{view}
+use Rattle.fish_run.proofs.CommitRows.{rows_none}
 use Rattle.fish_run.proofs.Going.{close_of, here_self}
 use Rattle.fish_run.proofs.Tables.{renewed_any}
 use Rattle.fish_run.proofs.Turns.{rounds_end, rounds_none, runs_step}
@@ -71,7 +72,7 @@ module _
       → HasRunFirst disks p q from r rounds false None to
   first_of p q from to r t rounds h ends =
       rounds_end disks p q q from to r t rounds false h
-      (runs_on q q (here_self disks q) (later_self q.view)) (learns_self q.view) ends refl
+      (runs_on q q (here_self disks q) (later_self q.view)) (learns_self q.view) ends refl (rows_none disks q.disk _)
 
   -- ---- faults
 

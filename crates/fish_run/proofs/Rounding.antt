@@ -2,10 +2,12 @@
 use Rattle.std.proofs.Common.{◌≡◌, ℕ, suc, ◌+◌, ◌<◌, List, [], ◌∷◌, ◌++◌, Bool, true, false, length}
 use Rattle.std.proofs.Common.{refl, sym, ap, ◌∙◌, ◌⊎◌, subst, inl, arith, None, Option, Some, slice_get}
 use Rattle.std.specs.Prelude.{◌&&◌, IfSome}
+use Rattle.fish_catalog.specs.declared.row.CatRow.{CatRow}
 use Rattle.fish_disk.specs.declared.disk.Disk.{Ghosts as Disks}
 use Rattle.fish_feed.specs.Queues.{AreIdle, IsGiven, both, works_of}
 use Rattle.fish_feed.specs.Works.{Pairs, Triples}
 use Rattle.fish_lanes.specs.Blocks.{AreKept, AreLanes, EachLane, IsKept, IsNewLane}
+use Rattle.fish_lanes.specs.CommitRows.{LeavesRowsOf}
 use Rattle.fish_lanes.specs.Controlling.{bound_items}
 use Rattle.fish_lanes.specs.Ending.{HasEnd}
 use Rattle.fish_lanes.specs.Outcome.{IsFullIn, LeaveNone, Stops}
@@ -21,6 +23,7 @@ use Rattle.fish_rule.specs.declared.table.Log.{Log}
 use Rattle.fish_rule.specs.declared.view.Key.{Key}
 use Rattle.fish_rule.specs.declared.view.View.{View}
 use Rattle.fish_run.proofs.Blocks.{left, left_cut, left_whole}
+use Rattle.fish_run.proofs.CommitRows.{rows_none}
 use Rattle.fish_run.proofs.Faults.{commit_well, first_no_input, lane_whole}
 use Rattle.fish_run.proofs.Giving.{both_length, given_next, idle_first, none_next, nones, nones_left, nones_length, nones_right}
 use Rattle.fish_run.proofs.Giving.{works_length}
@@ -29,7 +32,7 @@ use Rattle.fish_feed.proofs.Lists.{pairs_length, pairs_map}
 use Rattle.fish_run.proofs.Stepping.{goes_next, kept_pairs, ran_numbered}
 use Rattle.fish_run.proofs.Tables.{renewed_push, renewed_true}
 use Rattle.fish_run.proofs.Turns.{behind_next, rounds_cut, rounds_end, rounds_more, rounds_none, rounds_rolled, runs_step}
-use Rattle.fish_run.specs.Blocks.{Round}
+use Rattle.fish_run.specs.Blocks.{Round, after_rounds, first_items}
 use Rattle.fish_run.specs.Faults.{IsFirstFault, IsUndamaged}
 use Rattle.fish_run.specs.within.Going.{EndsRounds, GoesIn, HasNext, HasStepped, IsReady, StopsBlock, WereGiven}
 use Rattle.fish_run.specs.within.Turning.{IsRenewed}
@@ -48,6 +51,7 @@ use Rattle.fish_run.specs.declared.lasting.Stopped.{Stopped}
 use Rattle.fish_run.specs.declared.rounds.RoundStart.{RoundStart}
 use Rattle.fish_run.specs.declared.saying.Said.{Said}
 use Rattle.fish_script.specs.declared.script.Statement.{Statement}
+use Rattle.fish_store.specs.CommitRows.{LeavesRows}
 use Rattle.fish_store.specs.Points.{point_at}
 use Rattle.fish_store.specs.Sound.{GoesOnHere, Point, Runs}
 use Rattle.fish_store.specs.declared.store.Store.{Store}
@@ -236,7 +240,7 @@ module _
         cut_by = tt;
         ran = rounds_end disks p (point_at disk a.store) (point_at disk a.store) from a.from r
             (registry_of (view a.store.pass) a.store.registrar) g.rounds a.fresh g.ran (runs_self (point_at disk a.store))
-            (learns_self (view a.store.pass)) go.end refl;
+            (learns_self (view a.store.pass)) go.end refl (rows_none disks disk _);
         whole = λ past sound. well;
       };
       renewed = renewed_true g.rounds a.fresh g.renewed;
@@ -262,7 +266,7 @@ module _
       end = from;
       cut_by = tt;
       ran = rounds_end disks p p p from from r r [] false none_ran (runs_self p)
-          (learns_self (view s.pass)) go.end refl;
+          (learns_self (view s.pass)) go.end refl (rows_none disks d _);
       whole = λ past sound. well;
     };
     input = λ is. refl;
@@ -288,6 +292,7 @@ module _
       (log : m.log ≡ a.store.log)
       (goes : GoesOnHere disks (point_at disk a.store) (point_at disk' m))
       (later : Later (view a.store.pass) (view m.pass)) (ends : HasEnd (view m.pass) end.to)
+      (rows : LeavesRowsOf disks disk disk' (registry_of (view a.store.pass) a.store.registrar) (first_items ran))
       (leaves : Leaves (Behind disks disk a.store disk') m.file.flusher.count (view a.store.pass) (view m.pass)
       a.store.registrar m.registrar a.from ran end) where
     abbrev pub before : Point D
@@ -347,7 +352,7 @@ module _
         fresh = a.fresh;
         end = end.to;
         cut_by = f;
-        ran = rounds_cut disks p before at from a.from end.to r known then g.rounds a.fresh b g.ran goes later shape
+        ran = rounds_cut disks p before at from a.from end.to r known then g.rounds a.fresh b g.ran goes later shape rows
             (left_cut Past m.file.flusher.count (view a.store.pass) (view m.pass) a.store.registrar m.registrar a.from ran end leaves
             a.fresh given_now) ends;
         whole = λ past sound.
@@ -359,9 +364,13 @@ module _
 
     module _ (whole : AreWhole ran) (close : CanClose m) where
       all : HasRounds disks p at from r (g.rounds ++ b ∷ []) false end.to then
-      all = rounds_more disks p before at from a.from end.to r known then g.rounds a.fresh b g.ran goes later shape
+      all = rounds_more disks p before at from a.from end.to r known then g.rounds a.fresh b g.ran goes later shape rows
           (left_whole Past m.file.flusher.count (view a.store.pass) (view m.pass) a.store.registrar m.registrar a.from ran end leaves
           a.fresh given_now whole)
+
+      -- the rows are those that the rounds tell
+      rows_are : m.registrar.catalog ≡ (after_rounds r (g.rounds ++ b ∷ [])).rows
+      rows_are = ap (λ (z : Registry). z.rows) all.after
 
       -- no new table could be begun
       pub stops_roll : (disk'' : D) (e : Stopped) → StopsRoll disks disk' m end.to disk'' e
@@ -381,7 +390,10 @@ module _
           end = end.to;
           cut_by = tt;
           ran = rounds_end disks p at k.at from end.to r then (g.rounds ++ b ∷ []) false all k.runs k.learns k.end
-              k.shape;
+              k.shape
+              (subst (λ (z : D). LeavesRows disks disk' z (λ was. was ++ (after_rounds r (g.rounds ++ b ∷ [])).rows ∷ [])
+              ((after_rounds r (g.rounds ++ b ∷ [])).rows ∷ [])) (sym k.disk_is)
+              (subst (λ (z : List CatRow). LeavesRows disks disk' disk'' (λ was. was ++ z ∷ []) (z ∷ [])) rows_are k.rows));
           whole = λ past sound. commit_well e.why k.named;
         };
         input = λ is. refl;
@@ -409,6 +421,7 @@ module _
                 (registry_of (view z.pass) z.registrar)) (sym k.1) all)
             by true less k = rounds_rolled disks p at q from end.to r then (g.rounds ++ b ∷ [])
                 (registry_of (view t.pass) t.registrar) all k.runs k.registry k.unshut k.shape (higher (less refl) k)
+                (subst (λ (z : List CatRow). LeavesRows disks disk' disk'' (λ was. z ∷ []) (z ∷ [])) rows_are k.rows)
 
         -- memory ran out after it
         pub stops_then : (e : Stopped) → e.store ≡ Some t → e.why ≡ fault.Memory → CanGoOn disks.images disk'' t end.to
@@ -429,7 +442,7 @@ module _
             end = end.to;
             cut_by = tt;
             ran = rounds_end disks p q q from end.to r (registry_of (view t.pass) t.registrar) (g.rounds ++ b ∷ [])
-                fresh now (runs_self q) (learns_self (view t.pass)) go.end refl;
+                fresh now (runs_self q) (learns_self (view t.pass)) go.end refl (rows_none disks disk'' _);
             whole = λ past sound. subst IsUndamaged (sym why) tt;
           };
           input = λ is. refl;

@@ -3,6 +3,7 @@ use Rattle.std.proofs.Common.{◌≡◌, ℕ, ◌<◌, ◌≤◌, List, [], ◌�
 use Rattle.std.proofs.Common.{Bool, None, Option, Some, false, true, append_assoc}
 use Rattle.std.specs.Prelude.{IsSome}
 use Rattle.fish_disk.specs.declared.disk.Disk.{Ghosts as Disks}
+use Rattle.fish_lanes.specs.CommitRows.{LeavesRowsOf}
 use Rattle.fish_lanes.specs.Ending.{HasEnd}
 use Rattle.fish_lanes.specs.Outcome.{IsFullIn}
 use Rattle.fish_lanes.specs.Registering.{Registry}
@@ -12,6 +13,8 @@ use Rattle.fish_rule.specs.Views.{Among}
 use Rattle.fish_rule.specs.declared.view.Shut.{Shut}
 use Rattle.fish_rule.specs.declared.view.View.{View}
 use Rattle.fish_run.proofs.Blocks.{committed_later, committed_more, marked_later, marks_more}
+use Rattle.fish_run.proofs.CommitRows.{HaveLeftLast, HaveLeftRounds, left_both, left_ended, left_first, left_on, left_rolled, left_round}
+use Rattle.fish_run.proofs.CommitRows.{left_start, rows_none}
 use Rattle.fish_run.proofs.Tables.{table_both, table_cut, table_more, table_on, table_rolled, table_self}
 use Rattle.fish_run.specs.Blocks.{AreAcknowledged, AreFullSince, HasFoundFull, IsFullOf, Round, SaysCut, SaysFirst, SaysOne}
 use Rattle.fish_run.specs.within.Blocks.{AreMarked}
@@ -19,6 +22,7 @@ use Rattle.fish_run.specs.Blocks.{SaysRest, SaysRounds, after_round, after_round
 use Rattle.fish_run.specs.Blocks.{left_table, with_cut}
 use Rattle.fish_run.specs.within.Steps.{HasCutOne, HasRounds, HasRunFirst, HasRunOne, IsTableAfter}
 use Rattle.fish_store.proofs.Running.{runs_both}
+use Rattle.fish_store.specs.CommitRows.{LeavesRows}
 use Rattle.fish_store.specs.Sound.{GoesOnHere, IsSoundBehind, Point, Runs}
 use Rattle.fish_whole.proofs.Parts.{goes_later}
 use Rattle.fish_whole.specs.Whole.{Later, Whole, WillHold}
@@ -165,17 +169,23 @@ module _
     fulls = λ before full. tt;
     full = λ before full. full;
     marks = λ before marked. marked;
+    rows = left_start disks p.disk r;
     shape = refl;
     table = table_self p.view;
   }
 
   module _ (p m q : Point D) (from mid to : ℕ) (r s t : Registry) (rounds : List Round) (fresh : Bool) (b : Round)
       (h : HasRounds disks p m from r rounds fresh mid s) (goes : GoesOnHere disks m q)
-      (later : Later m.view q.view) (shape : q.shape ≡ m.shape) where
+      (later : Later m.view q.view) (shape : q.shape ≡ m.shape) (rows : LeavesRowsOf disks m.disk q.disk s (first_items b.lanes)) where
     -- one more tells of what it began with
     began : b.fresh ≡ fresh → b.span.from ≡ mid → s ≡ begun_for b (after_rounds r rounds)
     began fresh_is begins = h.after ∙ ap (λ (z : Bool). begun z mid (after_rounds r rounds)) (sym fresh_is)
         ∙ ap (λ (z : ℕ). begun b.fresh z (after_rounds r rounds)) (sym begins)
+
+    left_more : b.fresh ≡ fresh → b.span.from ≡ mid → HaveLeftRounds disks p.disk q.disk r (rounds ++ b ∷ []) false
+    left_more fresh_is begins = left_round disks p.disk m.disk q.disk r rounds b
+        (subst (λ (z : Bool). HaveLeftRounds disks p.disk m.disk r rounds z) (sym fresh_is) h.rows)
+        (subst (λ (z : Registry). LeavesRowsOf disks m.disk q.disk z (first_items b.lanes)) (began fresh_is begins) rows)
 
     acknowledged : AreAcknowledged q.flusher.count rounds
     acknowledged = acknowledged_later m.flusher.count q.flusher.count rounds goes.rises h.committed
@@ -201,6 +211,7 @@ module _
           (marked_later m.view q.view (in_table b.fresh (last_table before rounds)) goes.learns
           (subst (λ (z : Bool). AreMarked m.view (in_table z (last_table before rounds))) (sym one.fresh_is) (h.marks before marked)))
           one.marks);
+      rows = left_more one.fresh_is one.begins;
       shape = shape ∙ h.shape;
       table = table_more p.view m.view q.view rounds fresh b h.table one.fresh_is goes.learns.about;
     }
@@ -236,6 +247,8 @@ module _
           (marked_later m.view q.view (in_table b.fresh (last_table before rounds)) goes.learns
           (subst (λ (z : Bool). AreMarked m.view (in_table z (last_table before rounds))) (sym one.fresh_is) (h.marks before marked)))
           one.marks);
+      rows = left_ended disks p.disk q.disk q.disk r (rounds ++ b ∷ []) false (left_more one.fresh_is one.begins)
+          (rows_none disks q.disk (after_rounds r (rounds ++ b ∷ [])).rows);
       ends = ends;
       shape = shape ∙ h.shape;
       table = table_cut p.view m.view q.view rounds fresh b h.table one.fresh_is goes.learns.about;
@@ -246,8 +259,9 @@ module _
     pub rounds_rolled : (t : Registry) → HasRounds disks p m from r rounds false mid s
         → Runs disks m q (λ w. Unit {0}) → t ≡ begun true mid s → q.view.shut ≡ None
         → q.shape ≡ m.shape → m.view.about.number < q.view.about.number
+        → LeavesRows disks m.disk q.disk (λ was. (after_rounds r rounds).rows ∷ []) ((after_rounds r rounds).rows ∷ [])
         → HasRounds disks p q from r rounds true mid t
-    rounds_rolled t h runs is unshut shape higher = record {
+    rounds_rolled t h runs is unshut shape higher rows = record {
       runs = runs_both disks p m q (λ w. SaysRounds w from r rounds mid) (λ w. Unit {0})
           (λ w. SaysRounds w from r rounds mid) (λ w before now. before) h.runs runs;
       after = is ∙ ap (begun true mid) h.after;
@@ -255,6 +269,7 @@ module _
       fulls = h.fulls;
       full = λ before full. none_full q.view.shut unshut;
       marks = λ before marked b among. elim among [ ];
+      rows = left_rolled disks p.disk m.disk q.disk r rounds h.rows rows;
       shape = shape ∙ h.shape;
       table = table_rolled p.view m.view q.view rounds h.table higher;
     }
@@ -262,13 +277,15 @@ module _
     -- they ended the run, which goes on in the same table at most
     pub rounds_end : (fresh : Bool) → HasRounds disks p m from r rounds fresh mid s
         → Runs disks m q (λ w. Unit {0}) → Learns m.view q.view → HasEnd q.view mid → q.shape ≡ m.shape
+        → LeavesRows disks m.disk q.disk (λ was. was ++ (after_rounds r rounds).rows ∷ []) ((after_rounds r rounds).rows ∷ [])
         → HasRunFirst disks p q from r rounds fresh None mid
-    rounds_end fresh h runs learns ends shape = record {
+    rounds_end fresh h runs learns ends shape rows = record {
       runs = runs_both disks p m q (λ w. SaysRounds w from r rounds mid) (λ w. Unit {0})
           (λ w. SaysFirst w from r rounds None mid) (λ w before now. record { to = mid; whole = before; rest = refl }) h.runs runs;
       committed = acknowledged_later m.flusher.count q.flusher.count rounds runs.rises h.committed;
       fulls = h.fulls;
       marks = λ before marked. marked_later m.view q.view (in_table fresh (last_table before rounds)) learns (h.marks before marked);
+      rows = left_ended disks p.disk m.disk q.disk r rounds fresh h.rows rows;
       ends = ends;
       shape = shape ∙ h.shape;
       table = table_on p.view m.view q.view rounds fresh h.table learns.about;
@@ -278,13 +295,15 @@ module _
   pub first_on : (p m q : Point D) (from to : ℕ) (r : Registry) (rounds : List Round) (fresh : Bool) (cut : Option Round)
       → HasRunFirst disks p m from r rounds fresh cut to → Runs disks m q (λ w. Unit {0})
       → Learns m.view q.view → HasEnd q.view to → q.shape ≡ m.shape
-      → HasRunFirst disks p q from r rounds fresh cut to
-  first_on p m q from to r rounds fresh cut h runs learns ends shape = record {
+      → LeavesRows disks m.disk q.disk (λ was. was ++ (after_rounds r (with_cut rounds cut)).rows ∷ [])
+      ((after_rounds r (with_cut rounds cut)).rows ∷ []) → HasRunFirst disks p q from r rounds fresh cut to
+  first_on p m q from to r rounds fresh cut h runs learns ends shape rows = record {
     runs = runs_both disks p m q (λ w. SaysFirst w from r rounds cut to) (λ w. Unit {0})
         (λ w. SaysFirst w from r rounds cut to) (λ w before now. before) h.runs runs;
     committed = acknowledged_later m.flusher.count q.flusher.count (with_cut rounds cut) runs.rises h.committed;
     fulls = h.fulls;
     marks = λ before marked. marked_later m.view q.view (left_table fresh before rounds cut) learns (h.marks before marked);
+    rows = left_on disks p.disk m.disk q.disk r (with_cut rounds cut) h.rows rows;
     ends = ends;
     shape = shape ∙ h.shape;
     table = table_on p.view m.view q.view (with_cut rounds cut) fresh h.table learns.about;
@@ -308,6 +327,8 @@ module _
           (k.full (last_table before rounds) (h.full before full));
       marks = λ before marked. subst (λ (z : List Round). AreMarked q.view (in_table fresh z)) (sym (last_join before rounds more))
           (k.marks (last_table before rounds) (h.marks before marked));
+      rows = left_both disks p.disk m.disk q.disk r rounds more h.rows fresh
+          (subst (λ (z : Registry). HaveLeftRounds disks m.disk q.disk z more fresh) h.after k.rows);
       shape = k.shape ∙ h.shape;
       table = table_both p.view m.view q.view rounds more fresh h.table k.table;
     }
@@ -332,6 +353,9 @@ module _
           (since_join before rounds (with_cut more cut) (h.fulls before full) (k.fulls (last_table before rounds) (h.full before full)));
       marks = λ before marked. subst (AreMarked q.view) (sym (left_join fresh before rounds more cut))
           (k.marks (last_table before rounds) (h.marks before marked));
+      rows = subst (HaveLeftLast disks p.disk q.disk r) (sym (cut_join rounds more cut))
+          (left_first disks p.disk m.disk q.disk r rounds (with_cut more cut) h.rows
+          (subst (λ (z : Registry). HaveLeftLast disks m.disk q.disk z (with_cut more cut)) h.after k.rows));
       ends = k.ends;
       shape = k.shape ∙ h.shape;
       table = subst (λ (z : List Round). IsTableAfter p.view q.view z fresh) (sym (cut_join rounds more cut))

@@ -1,11 +1,11 @@
 -- What a run tells of the whole log, by the rounds of its blocks.
-use Rattle.std.specs.Prelude.{ℕ, ◌≡◌, ◌<◌, ◌≤◌, ◌+◌, List, [], ◌∷◌, ◌++◌, length, map, slice_get, Bool, true, false}
+use Rattle.std.specs.Prelude.{ℕ, ◌≡◌, ◌≢◌, ◌≤◌, ◌+◌, List, [], ◌∷◌, ◌++◌, length, map, slice_get, Bool, true, false}
 use Rattle.std.specs.Prelude.{Option, Some, None, ⊤}
 use Rattle.fish_catalog.specs.Clamps.{clamped}
 use Rattle.fish_catalog.specs.declared.row.CatRow.{CatRow}
 use Rattle.fish_lanes.specs.Blocks.{AreEnded, EachLane, SaysBlock, control_items}
 use Rattle.fish_lanes.specs.Controlling.{IsCommitted}
-use Rattle.fish_lanes.specs.Full.{AreFullLast}
+use Rattle.fish_lanes.specs.Full.{AreFullLast, EndsFull}
 use Rattle.fish_lanes.specs.Outcome.{IsFullIn, LanesSayPlans}
 use Rattle.fish_lanes.specs.Plans.{RowsAre}
 use Rattle.fish_lanes.specs.Registering.{ItemsFit, HasEach, Registry, after_all}
@@ -119,7 +119,8 @@ pub record SaysOneLane (rows : List CatRow) (full : Option Shut) (from : ℕ) (x
 -- what a round tells that begins where the log has so many numbers and the registry is this, even one in which a lane
 -- stopped at a fault: its lanes' items are so of the log, and those of its first lane of the definitions; where a
 -- statement has no item, neither have those after it; of the items of a lane that a full log refused all name one
--- claim, that of before the round if there was one; and where there was none, that is its last item
+-- claim, that of before the round if there was one; and where there was none, that is its last item, and no other lane
+-- hands statements back; and where there was one, nothing is stored
 pub record SaysPart (w : Whole) (from : ℕ) (r : Registry) (b : Round) : Type 0 where
   pub begins : b.span.from ≡ from
   pub ends : b.end.to ≡ b.span.to
@@ -132,6 +133,8 @@ pub record SaysPart (w : Whole) (from : ℕ) (r : Registry) (b : Round) : Type 0
   pub ended : AreEnded b.lanes
   pub fulls : EachLane (λ i x. NamesOneClaim b.span.full x.items) b.lanes
   pub last_full : b.span.full ≡ None → EachLane (λ i x. AreFullLast x.items) b.lanes
+  pub left : EachLane (λ i x. x.left ≢ [] → (x.fault ≡ cause.None) × EndsFull x.items × (b.span.full ≡ None)) b.lanes
+  pub stays : (c : Shut) → b.span.full ≡ Some c → b.span.to ≡ b.span.from
   pub alone : (x : Lane) → b.lanes ≡ x ∷ [] → SaysOneLane r.rows b.span.full from x
 
 -- what one tells in which a lane did: by the definitions after it, which are those that its first lane's items tell

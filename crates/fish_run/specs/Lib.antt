@@ -1,4 +1,5 @@
 pub mod Blocks
+pub mod CommitRows
 pub mod Faults
 pub mod Joins
 pub mod Ran

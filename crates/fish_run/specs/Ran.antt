@@ -19,6 +19,7 @@ use Rattle.fish_run.specs.Blocks.{AreAcknowledged, Block, Round, SaysRun}
 use Rattle.fish_run.specs.Blocks.{rounds_of, with_cut}
 use Rattle.fish_run.specs.Rounds.{AreAll, AreRounds, FollowOn, given_in}
 use Rattle.fish_run.specs.Reports.{are_refused, first_item, report_of, whole_report}
+use Rattle.fish_run.specs.CommitRows.{KeepsDefinitions}
 use Rattle.fish_run.specs.Tables.{AreRenewed, LastTable, rows_over, shape_of}
 use Rattle.fish_run.specs.declared.fault.RunFault.{RunFault}
 use Rattle.fish_run.specs.declared.fault.RunFault.TheVariants as fault
@@ -57,24 +58,26 @@ pub record StoodFor {D : Type 0} (disks : Disks D) (disk disk' : D) (o : Opened)
 
 -- all that is told is so of a whole log that begins with the one for which the disk stood, and ends with what is left;
 -- what a crash leaves now is a part of it that has the last commit's entries, and no checkpoint that was told has more,
--- and all of it where the run had come to its end, with the definitions that its report tells, in a store of the same
--- shape; what one may have left since the store was opened is a part of it that has the old log
+-- and all of it where the run had come to its end, with its lines and the definitions that its report tells, in a store
+-- of the same shape; what one may have left since the store was opened is a part of it that has the old log; and each
+-- has the definitions of a moment
 pub record Keeps (now since : List ℕ → Type 0) (c : Commit) (log : List Entry) (ended : Bool) (rounds : List Round)
-    (cut : Option Round)
-    (remains : Remains) : Type 0 where
+    (cut : Option Round) (remains : Remains) : Type 0 where
   pub count : ℕ
   pub acknowledged : AreAcknowledged count (with_cut rounds cut)
   pub shown : IsShown now since log count
       (λ w. SaysRun w (length log) (map (clamped c.count) c.rows) rounds cut (length w.log)) remains
   pub all : ended ≡ true → count ≡ length shown.whole.log
-  pub catalog : ended ≡ true → (i : List ℕ) → now i → KeepsCatalog (shape_of c) (rows_over c rounds) i
+  pub catalog : ended ≡ true → (i : List ℕ) → now i → KeepsCatalog (shape_of c) (rows_over c rounds) remains.lines i
+  pub definitions : KeepsDefinitions now since c (with_cut rounds cut)
 
 -- the same of crashes where the log couldn't be shown
-pub record StillKeeps (now since : List ℕ → Type 0) (log : List Entry) (rounds : List Round) (cut : Option Round)
-    : Type 0 where
+pub record StillKeeps (now since : List ℕ → Type 0) (c : Commit) (log : List Entry) (rounds : List Round)
+    (cut : Option Round) : Type 0 where
   pub count : ℕ
   pub acknowledged : AreAcknowledged count (with_cut rounds cut)
   pub lost : LosesLog now since log count
+  pub definitions : KeepsDefinitions now since c (with_cut rounds cut)
 
 -- ---- the end of a run
 
@@ -144,4 +147,4 @@ pub record IsLost {D : Type 0} (disks : Disks D) (disk disk' : D) (o : Opened) (
   pub written : GainedPart old new (report_text (report_of (opened_item o) blocks))
   pub refused_is : refused ≡ are_refused blocks
   pub keeps : (c : Commit) (log : List Entry) (t : ℕ) → StoodFor disks disk disk' o c log t
-      → StillKeeps (disks.images disk') (disks.since disk' t) log (rounds_of blocks ++ part) cut
+      → StillKeeps (disks.images disk') (disks.since disk' t) c log (rounds_of blocks ++ part) cut

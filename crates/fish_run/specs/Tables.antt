@@ -11,7 +11,8 @@ use Rattle.fish_rule.specs.Start.{table_lines}
 use Rattle.fish_rule.specs.declared.close.Remains.{Remains}
 use Rattle.fish_rule.specs.declared.table.Shape.{Shape}
 use Rattle.fish_rule.specs.declared.view.View.{View}
-use Rattle.fish_run.specs.Blocks.{AreInOne, FullsAgree, Round, after_rounds, first_registry, left_table, with_cut}
+use Rattle.fish_run.specs.Blocks.{AreInOne, FullsAgree, IsFullOf, Round, after_rounds, first_registry, left_table}
+use Rattle.fish_run.specs.Blocks.{with_cut}
 
 -- the log has over 268,416,000 entries, or its table ends at the last line that a log may have
 abbrev pub IsNearLimits : ℕ → ℕ → Type 0
@@ -32,14 +33,15 @@ AreRenewed (b ∷ rounds) fresh =
     × AreRenewed rounds fresh
 
 -- what is left is that of a closed log, with the buckets of the table with which the run began; refusals of a full log
--- in the rounds of the table that is left agree, by the end that such a table has; and where it begins where the first
--- one did, it is the first one, and no other was begun
+-- in the rounds of the table that is left agree, by the end that such a table has, and are of lines past what is left;
+-- and where it begins where the first one did, it is the first one, and no other was begun
 pub record LastTable (o : Opened) (remains : Remains) (fresh : Bool) (rounds : List Round)
     (cut : Option Round) : Type 0 where
   pub view : View
   pub closed : IsClosed view remains
   pub heads : length remains.heads ≡ o.log.key.buckets
   pub fulls : FullsAgree (left_table fresh [] rounds cut) view.about.end
+  pub past : (line lines e : ℕ) → IsFullOf (left_table fresh [] rounds cut) line lines e → remains.lines ≤ line
   pub end : view.about.end ≡ view.about.line + table_lines o.log.shape.pages view.about.number view.about.line
   pub same : remains.base ≡ o.log.key.number → (view.about ≡ o.log.key) × AreInOne (with_cut rounds cut)
       × (fresh ≡ false)

@@ -1,14 +1,14 @@
 //! What makes a log last: it is committed, and where its table is full a new one is begun after it.
 
-ghost use Rattle.std.specs.Prelude.{◌≡◌, ◌≤◌, ℕ, List, IfErr, IfOk, IsErrOf, OnOk};
+ghost use Rattle.std.specs.Prelude.{◌≡◌, ◌≤◌, ℕ, [], ◌∷◌, IfErr, IfOk, IsErrOf, OnOk};
 ghost use Rattle.fish_flush.specs.Carrying.{Reads};
 ghost use Rattle.fish_lanes.specs.Ending.{HasEnd};
 ghost use Rattle.fish_outside.specs.Causes.{Rose};
 ghost use Rattle.fish_rule.specs.Passes.{view};
 ghost use Rattle.fish_run.specs.within.Faults.{IsCommitFault};
 ghost use Rattle.fish_run.specs.within.Rolls.{RollsOn, StopsRoll};
-ghost use Rattle.fish_run.specs.within.Runs.{CanClose, CanGoOn};
-ghost use Rattle.fish_store.specs.Ending.{KeepsCatalog};
+ghost use Rattle.fish_run.specs.within.Runs.{CanClose, CanGoOn, IsAllKept};
+ghost use Rattle.fish_store.specs.CommitRows.{LeavesRows, by_checkpoint};
 ghost use Rattle.fish_store.specs.Points.{point_at};
 ghost use Rattle.fish_store.specs.Sound.{GoesOnHere, MayGoOn};
 ghost use Rattle.fish_whole.specs.Whole.{Later};
@@ -40,8 +40,9 @@ pub(crate) fn commit<D: Disk>(
     ensures later { Later (view store.old.pass) (view store.new.pass) }
     ensures goes { GoesOnHere D.Disk (point_at disk.old store.old) (point_at disk.new store.new) }
     ensures end { (to : ℕ) → HasEnd (view store.old.pass) to → HasEnd (view store.new.pass) to }
-    ensures all { OnOk result (HasEnd (view store.new.pass) store.new.file.flusher.count × ((image : List ℕ)
-        → D.images disk.new image → KeepsCatalog store.new.log.shape store.new.registrar.catalog image)) }
+    ensures all { OnOk result (IsAllKept D.images disk.new store.new) }
+    ensures rows { LeavesRows D.Disk disk.old disk.new (by_checkpoint result store.old.registrar.catalog)
+        (store.old.registrar.catalog ∷ []) }
     ensures reads { Reads (view store.old.pass) (view store.new.pass) }
     ensures again { OnOk result (MayGoOn D.images (point_at disk.new store.new)) }
 

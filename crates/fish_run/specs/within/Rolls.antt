@@ -1,5 +1,5 @@
 -- What a run leaves as it begins a new table. Private clauses speak of it.
-use Rattle.std.specs.Prelude.{ℕ, ◌≡◌, true, IfSome, None, ⊤}
+use Rattle.std.specs.Prelude.{ℕ, ◌≡◌, ◌++◌, [], ◌∷◌, true, IfSome, None, ⊤}
 use Rattle.fish_disk.specs.declared.disk.Disk.{Ghosts as Disks}
 use Rattle.fish_lanes.specs.Ending.{HasEnd}
 use Rattle.fish_lanes.specs.Registering.{registry_of}
@@ -10,6 +10,7 @@ use Rattle.fish_run.specs.within.Faults.{IsCommitFault}
 use Rattle.fish_run.specs.within.Runs.{CanClose, CanGoOn}
 use Rattle.fish_run.specs.declared.fault.RunFault.TheVariants as fault
 use Rattle.fish_run.specs.declared.lasting.Stopped.{Stopped}
+use Rattle.fish_store.specs.CommitRows.{LeavesRows}
 use Rattle.fish_store.specs.Points.{point_at}
 use Rattle.fish_store.specs.Sound.{Point, Runs}
 use Rattle.fish_store.specs.declared.store.Store.{Store}
@@ -23,6 +24,7 @@ pub record RollsOn {D : Type 0} (disks : Disks D) (disk : D) (s : Store) (from :
   pub unshut : (view t.pass).shut ≡ None
   pub registry : registry_of (view t.pass) t.registrar ≡ begun true from (registry_of (view s.pass) s.registrar)
   pub number : t.log.key.number ≡ from
+  pub rows : LeavesRows disks disk disk' (λ was. s.registrar.catalog ∷ []) (s.registrar.catalog ∷ [])
   pub shape : t.log.shape ≡ s.log.shape
 
 -- the commit failed, and the table stays as it is; or memory ran out for the new one
@@ -34,6 +36,7 @@ pub record StopsRoll {D : Type 0} (disks : Disks D) (disk : D) (s : Store) (from
   pub lost : e.store ≡ None → e.why ≡ fault.Memory
   pub named : IsCommitFault e.why
   pub runs : Runs disks (point_at disk s) at (λ w. ⊤)
+  pub rows : LeavesRows disks disk disk' (λ was. was ++ s.registrar.catalog ∷ []) (s.registrar.catalog ∷ [])
   pub end : HasEnd at.view from
   pub learns : Learns (view s.pass) at.view
   pub shut : at.view.shut ≡ (view s.pass).shut

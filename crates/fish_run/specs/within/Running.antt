@@ -1,7 +1,6 @@
 -- What the blocks of a run leave, from its first moment on. Private clauses speak of it.
 use Rattle.std.specs.Prelude.{ℕ, ◌≡◌, ◌||◌, List, [], ◌∷◌, ◌⊎◌, Bool, false, true, Option, None, Some, Result, Ok, Err}
 use Rattle.fish_disk.specs.declared.disk.Disk.{Ghosts as Disks}
-use Rattle.fish_lanes.specs.Ending.{HasEnd}
 use Rattle.fish_lanes.specs.Registering.{registry_of}
 use Rattle.fish_outside.specs.Content.{Files, Gained, GainedPart}
 use Rattle.fish_report.specs.ReportText.{report_text}
@@ -13,7 +12,7 @@ use Rattle.fish_run.specs.Ran.{IsBlockOf}
 use Rattle.fish_run.specs.Reports.{block_items, said_refused}
 use Rattle.fish_run.specs.Joins.{block_said}
 use Rattle.fish_run.specs.Rounds.{AreRounds}
-use Rattle.fish_run.specs.within.Runs.{CanClose, CanGoOn}
+use Rattle.fish_run.specs.within.Runs.{CanClose, CanGoOn, IsAllKept}
 use Rattle.fish_run.specs.within.Steps.{HasRounds, RunsAll, RunsSome, StopsRounds}
 use Rattle.fish_run.specs.within.Counting.{Counts}
 use Rattle.fish_run.specs.within.Faults.{IsWriteFault}
@@ -23,7 +22,6 @@ use Rattle.fish_run.specs.declared.fault.RunFault.TheVariants as fault
 use Rattle.fish_run.specs.declared.lasting.Stopped.{Stopped}
 use Rattle.fish_run.specs.declared.running.Lasts.{Lasts}
 use Rattle.fish_script.specs.declared.script.Block as script
-use Rattle.fish_store.specs.Ending.{KeepsCatalog}
 use Rattle.fish_store.specs.Points.{point_at}
 use Rattle.fish_store.specs.declared.store.Store.{Store}
 
@@ -77,9 +75,7 @@ pub record EndsRun {D : Type 0} (disks : Disks D) (disk disk' : D) (s : Store) (
   pub go : (lasts ≡ true → ⊥) → CanGoOn disks.images disk' b.store b.count
   pub runs : RunsAll disks (point_at disk s) (point_at disk' b.store) first (first_registry s.registrar.catalog)
       begin told text old new refused b.count
-  pub committed : lasts ≡ true → HasEnd (view b.store.pass) b.store.file.flusher.count
-  pub catalog : lasts ≡ true → (i : List ℕ) → disks.images disk' i
-      → KeepsCatalog b.store.log.shape b.store.registrar.catalog i
+  pub committed : lasts ≡ true → IsAllKept disks.images disk' b.store
 
 -- a fault stopped it
 abbrev pub StopsRun : {D : Type 0} → Disks D → D → D → Store → ℕ → Item → Option Files → List script.Block

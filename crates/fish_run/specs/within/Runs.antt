@@ -1,6 +1,7 @@
 -- What a run of a script asks for and leaves between two blocks.
 use Rattle.std.specs.Prelude.{ℕ, ◌≡◌, ◌+◌, ◌^◌, List, None}
 use Rattle.fish_disk.specs.declared.disk.Disk.{Ghosts as Disks}
+use Rattle.fish_flush.specs.Reading.{IsLineAt}
 use Rattle.fish_lanes.specs.Controlling.{CanControl}
 use Rattle.fish_lanes.specs.Ending.{HasEnd}
 use Rattle.fish_lanes.specs.Registering.{KnowsRegistry, registry_of}
@@ -9,6 +10,7 @@ use Rattle.fish_rule.specs.Passes.{IsPassOf, view}
 use Rattle.fish_rule.specs.Start.{table_lines}
 use Rattle.fish_rule.specs.declared.table.Log.{Log}
 use Rattle.fish_scan.specs.Colder.{IsBelow}
+use Rattle.fish_store.specs.Ending.{KeepsCatalog}
 use Rattle.fish_store.specs.Points.{point_at}
 use Rattle.fish_store.specs.Sound.{IsSoundBehind, MayGoOn}
 use Rattle.fish_store.specs.declared.store.Store.{Store}
@@ -41,6 +43,14 @@ pub record IsNewStore {D : Type 0} (images : D → List ℕ → Type 0) (disk : 
   pub go : CanGoOn images disk s s.log.key.number
   pub version : (view s.pass).learned.version ≡ 0
   pub unshut : (view s.pass).shut ≡ None
+
+-- all of the log is committed, as the control pass knows its end and its last line; and every image has that line, and
+-- the registrar's definitions
+pub record IsAllKept {D : Type 0} (images : D → List ℕ → Type 0) (disk : D) (s : Store) : Type 0 where
+  pub end : HasEnd (view s.pass) s.file.flusher.count
+  pub line : IsLineAt (view s.pass) s.file.flusher.count s.file.flusher.line
+  pub catalog : (i : List ℕ) → images disk i
+      → KeepsCatalog s.log.shape s.registrar.catalog s.file.flusher.line i
 
 -- ---- pasts
 

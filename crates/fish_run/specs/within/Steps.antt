@@ -5,7 +5,7 @@ use Rattle.fish_disk.specs.declared.disk.Disk.{Ghosts as Disks}
 use Rattle.fish_feed.specs.Works.{Pairs}
 use Rattle.fish_lanes.specs.Blocks.{AreEnded, HasRegistered, IsBlockSpan, NameMarks, SaysBlock}
 use Rattle.fish_lanes.specs.Controlling.{IsCommitted}
-use Rattle.fish_lanes.specs.Outcome.{IsFullIn, LanesSayPlans, SayFullLast, SaysShutBy}
+use Rattle.fish_lanes.specs.Outcome.{HandsBack, IsFullIn, LanesSayPlans, SayFullLast, SaysShutBy}
 use Rattle.fish_lanes.specs.Ending.{HasEnd}
 use Rattle.fish_lanes.specs.Gains.{WasShut}
 use Rattle.fish_lanes.specs.Plans.{KnowsRows}
@@ -26,6 +26,7 @@ use Rattle.fish_run.specs.Blocks.{SaysCut, SaysFirst}
 use Rattle.fish_run.specs.within.Blocks.{AreMarked}
 use Rattle.fish_run.specs.Blocks.{SaysOne, SaysOneLane, SaysRounds, after_round, after_rounds, begun, first_items}
 use Rattle.fish_run.specs.Blocks.{in_table, last_table, left_table, rounds_of, with_cut}
+use Rattle.fish_run.specs.CommitRows.{by_roll, last_rows, recent_rows, rows_through}
 use Rattle.fish_run.specs.Faults.{IsFirstFault, IsUndamaged}
 use Rattle.fish_run.specs.Ran.{AreFirst, AreNextOf, IsBlockOf}
 use Rattle.fish_run.specs.Reports.{are_refused, report_of}
@@ -34,6 +35,7 @@ use Rattle.fish_run.specs.Tables.{AreRenewed}
 use Rattle.fish_run.specs.declared.fault.RunFault.TheVariants as fault
 use Rattle.fish_run.specs.declared.lasting.Stopped.{Stopped}
 use Rattle.fish_script.specs.declared.script.Block as script
+use Rattle.fish_store.specs.CommitRows.{LeavesRows}
 use Rattle.fish_store.specs.Points.{point_at}
 use Rattle.fish_store.specs.Sound.{IsSoundBehind, Point, Runs}
 use Rattle.fish_whole.specs.Whole.{Whole, WillHold}
@@ -87,6 +89,8 @@ pub record Leaves (Past : Whole → Type 0) (count : ℕ) (v u : View) (r s : Re
   pub last : SayFullLast v lanes
   pub plans : LanesSayPlans (KnowsRows u) (registry_of v r) s.catalog from lanes
   pub committed : AllOf (IsCommitted count) (first_items lanes)
+  pub left : HandsBack v u lanes
+  pub stays : WasShut v → end.to ≤ from
 
 -- no lane stopped at a fault
 abbrev pub AreWhole : List Lane → Type 0
@@ -112,6 +116,8 @@ pub record HasRounds {D : Type 0} (disks : Disks D) (p q : Point D) (from : ℕ)
       → HasFoundFull (in_table fresh (last_table before rounds)) q.view.shut
   pub marks : (before : List Round) → AreMarked p.view before
       → AreMarked q.view (in_table fresh (last_table before rounds))
+  pub rows : LeavesRows disks p.disk q.disk (λ was. by_roll fresh (after_rounds r rounds) (recent_rows r rounds was))
+      (rows_through r rounds)
   pub shape : q.shape ≡ p.shape
   pub table : IsTableAfter p.view q.view rounds fresh
 
@@ -122,6 +128,7 @@ pub record HasRunFirst {D : Type 0} (disks : Disks D) (p q : Point D) (from : �
   pub committed : AreAcknowledged q.flusher.count (with_cut rounds cut)
   pub fulls : (before : List Round) → HasFoundFull before p.view.shut → AreFullSince before (with_cut rounds cut)
   pub marks : (before : List Round) → AreMarked p.view before → AreMarked q.view (left_table fresh before rounds cut)
+  pub rows : LeavesRows disks p.disk q.disk (last_rows r (with_cut rounds cut)) (rows_through r (with_cut rounds cut))
   pub ends : HasEnd q.view end
   pub shape : q.shape ≡ p.shape
   pub table : IsTableAfter p.view q.view (with_cut rounds cut) fresh

@@ -1,7 +1,8 @@
 -- The log is committed, and a new table begins where it ends.
-use Rattle.std.proofs.Common.{◌∙◌, ap, refl, true}
+use Rattle.std.proofs.Common.{◌∙◌, Result, [], ◌∷◌, ap, refl, subst, true}
 use Rattle.fish_rule.specs.Passes.{view}
 use Rattle.fish_run.proofs.Going.{may_roll, one_end, registry_reads, rolled_go, rolled_registry}
+use Rattle.fish_run.proofs.CommitRows.{rows_or}
 use Rattle.fish_run.proofs.Turns.{runs_step}
 use Rattle.fish_store.proofs.Running.{runs_both}
 use Rattle.fish_run.specs.Blocks.{begun}
@@ -9,6 +10,8 @@ use Rattle.fish_lanes.specs.Registering.{Registry}
 use Rattle.fish_rule.specs.declared.table.Log.{Log}
 use Rattle.fish_rule.specs.declared.view.View.{View}
 use Rattle.fish_flush.specs.declared.refusal.FlushRefusal.TheVariants as flush
+use Rattle.fish_run.specs.declared.fault.RunFault.{RunFault}
+use Rattle.fish_store.specs.CommitRows.{LeavesRows, by_checkpoint}
 use Rattle.fish_store.specs.Points.{point_at}
 use Rattle.fish_run.proofs.lasting.roll_on.Goals as goal
 
@@ -17,7 +20,7 @@ roll-requires g c =
     let e = c.in-Ok.ensures in
     record {
       may = may_roll g.D.Disk.images c.commit.new.disk c.args.store c.commit.new.store c.args.from c.requires.go.can e.log e.registrar
-          e.close e.reads e.again e.all.0;
+          e.close e.reads e.again e.all.end;
     }
 
 pub returns-in-Ok-roll-clause-rolled : goal.returns-in-Ok-roll-clause-rolled
@@ -31,7 +34,7 @@ returns-in-Ok-roll-clause-rolled g c =
     let p = point_at c.args.disk.now s in
     let at = point_at c.commit.new.disk m in
     let q = point_at c.commit.new.disk t in
-    let same = one_end (view m.pass) m.file.flusher.count c.args.from e.close.of.stands e.all.0 (e.end c.args.from c.requires.go.end) in
+    let same = one_end (view m.pass) m.file.flusher.count c.args.from e.close.of.stands e.all.end (e.end c.args.from c.requires.go.end) in
     record {
       runs = runs_both disk p at q (λ w. Unit {0}) (λ w. Unit {0}) (λ w. Unit {0})
           (λ w a b. tt)
@@ -44,6 +47,9 @@ returns-in-Ok-roll-clause-rolled g c =
           ∙ ap (λ (z : Registry). begun true c.args.from z)
           (registry_reads s m e.registrar c.requires.go.can.of.stands e.close.of.stands c.requires.go.end.alone e.reads);
       number = h.number ∙ same;
+      rows = subst (λ (z : Result (Unit {0}) RunFault).
+          LeavesRows disk c.args.disk.now c.commit.new.disk (by_checkpoint z s.registrar.catalog) (s.registrar.catalog ∷ []))
+          c.in-Ok.is c.commit.ensures.rows;
       shape = h.shape ∙ ap (λ (l : Log). l.shape) e.log;
     }
 
@@ -62,6 +68,10 @@ returns-in-Err-roll-clause-stopped g c =
       lost = λ none. refl;
       named = (flush.OutOfMemory, refl);
       runs = runs_step disk p at (λ w. Unit {0}) e.goes e.later (λ past sound w may. tt);
+      rows = rows_or disk c.args.disk.now c.commit.new.disk s.registrar.catalog
+          (subst (λ (z : Result (Unit {0}) RunFault).
+          LeavesRows disk c.args.disk.now c.commit.new.disk (by_checkpoint z s.registrar.catalog) (s.registrar.catalog ∷ []))
+          c.in-Ok.is c.commit.ensures.rows);
       end = e.end c.args.from c.requires.go.end;
       learns = e.later.learns;
       shut = ap (λ (z : View). z.shut) e.reads.frame;
@@ -83,6 +93,9 @@ returns-in-Err-clause-stopped g c =
       lost = λ none. absurd cc;
       named = e.named;
       runs = runs_step disk p at (λ w. Unit {0}) e.goes e.later (λ past sound w may. tt);
+      rows = subst (λ (z : Result (Unit {0}) RunFault).
+          LeavesRows disk c.args.disk.now c.commit.new.disk (by_checkpoint z s.registrar.catalog) (s.registrar.catalog ∷ []))
+          c.in-Err.is c.commit.ensures.rows;
       end = e.end c.args.from c.requires.go.end;
       learns = e.later.learns;
       shut = ap (λ (z : View). z.shut) e.reads.frame;

@@ -4,6 +4,7 @@ use Rattle.fish_lanes.specs.declared.lane.Lane.{Lane}
 use Rattle.fish_rule.specs.Passes.{view}
 use Rattle.fish_run.proofs.Blocks.{leaves_of}
 use Rattle.fish_run.proofs.Going.{first_there, go_whole, table_same}
+use Rattle.fish_run.proofs.Lines.{end_stays}
 use Rattle.fish_run.specs.within.Runs.{Behind}
 use Rattle.fish_whole.specs.Whole.{Whole}
 use Rattle.fish_run.proofs.rounds.run_round.Goals as goal
@@ -18,7 +19,9 @@ returns-clause-leaves g c =
     (λ past p k span many. b.ensures.items.sound past p k span (omega (many, b.auto.lanes, arith)))
     b.ensures.items.registered b.ensures.lanes.ended b.ensures.lanes.marks b.ensures.lanes.shuts b.ensures.lanes.last
     (b.ensures.items.plans c.args.from c.requires.go.end)
-    c.requires.go.settled b.ensures.items.alone b.ensures.store.committed
+    c.requires.go.settled b.ensures.items.alone b.ensures.store.committed b.ensures.lanes.left
+    (λ shut. end_stays (view c.args.store.now.pass) (view b.new.store.pass) c.args.from b.result.to shut.0 c.requires.go.can.of.stands
+    b.ensures.store.can.of.stands b.ensures.store.later.learns c.requires.go.end b.ensures.store.ends shut.1)
 
 pub returns-clause-go : goal.returns-clause-go
 returns-clause-go g c = λ whole.

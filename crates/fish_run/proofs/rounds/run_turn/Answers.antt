@@ -5,6 +5,7 @@ use Rattle.fish_lanes.specs.Outcome.{IsFullIn}
 use Rattle.fish_lanes.specs.declared.lane.Lane.{Lane}
 use Rattle.fish_outside.specs.Causes.{Rose}
 use Rattle.fish_rule.specs.declared.view.Key.{Key}
+use Rattle.fish_run.proofs.Blocks.{block_rows}
 use Rattle.fish_run.proofs.Faults.{commit_no_output, commit_other, first_no_input, first_no_output, lane_rose}
 use Rattle.fish_run.proofs.Going.{err_known}
 use Rattle.fish_run.proofs.Room.{near_limits}
@@ -29,7 +30,8 @@ returns-in-Err-clause-stopped g c = λ d s from now given ready.
     stops_cut disk d s from a.disk.now a.start a.lanes.now a.said.now now
     given ready
     c.requires.lanes b.new.disk b.new.store b.new.lanes b.result b.auto.lanes
-    e.lanes.kept e.store.log e.store.goes e.store.later e.store.ends e.leaves
+    e.lanes.kept e.store.log e.store.goes e.store.later e.store.ends
+    (block_rows disk a.disk.now a.start.store b.new.disk b.new.store b.new.lanes b.result e.store e.leaves.some) e.leaves
     c.in-Err.why c.in-Err.ensures.first (disk.faults a.disk.now) (disk.faults b.new.disk) e.lanes.stops e.close
 
 pub returns-in-Err-clause-disk : goal.returns-in-Err-clause-disk
@@ -63,7 +65,8 @@ returns-in_err-next-clause-stopped g c =
     stops_roll disk d s from a.disk.now a.start a.lanes.now a.said.now now
     given ready
     c.requires.lanes b.new.disk b.new.store b.new.lanes b.result b.auto.lanes
-    e.lanes.kept e.store.log e.store.goes e.store.later e.store.ends e.leaves whole e.close
+    e.lanes.kept e.store.log e.store.goes e.store.later e.store.ends
+    (block_rows disk a.disk.now a.start.store b.new.disk b.new.store b.new.lanes b.result e.store e.leaves.some) e.leaves whole e.close
     c.renew.new.disk why c.in_err-next.ensures.stopped)
 
 pub returns-in_err-next-clause-disk : goal.returns-in_err-next-clause-disk
@@ -125,13 +128,15 @@ returns-in-Ok-step_all-clause-on g c =
           goes_more disk d s from a.disk.now a.start a.lanes.now a.said.now now
           given ready
           c.requires.lanes b.new.disk b.new.store b.new.lanes b.result b.auto.lanes
-          e.lanes.kept e.store.log e.store.goes e.store.later e.store.ends e.leaves whole e.close
+          e.lanes.kept e.store.log e.store.goes e.store.later e.store.ends
+    (block_rows disk a.disk.now a.start.store b.new.disk b.new.store b.new.lanes b.result e.store e.leaves.some) e.leaves whole e.close
           fresh c.renew.new.disk c.in_ok-next.next c.in_ok-next.ensures.next above c.step_all.new.lanes c.step_all.new.said h asked;
       ends = λ last d s from now given ready.
           ends_rounds disk d s from a.disk.now a.start a.lanes.now a.said.now now
           given ready
           c.requires.lanes b.new.disk b.new.store b.new.lanes b.result b.auto.lanes
-          e.lanes.kept e.store.log e.store.goes e.store.later e.store.ends e.leaves whole e.close
+          e.lanes.kept e.store.log e.store.goes e.store.later e.store.ends
+    (block_rows disk a.disk.now a.start.store b.new.disk b.new.store b.new.lanes b.result e.store e.leaves.some) e.leaves whole e.close
           fresh c.renew.new.disk c.in_ok-next.next c.in_ok-next.ensures.next above c.step_all.new.lanes c.step_all.new.said h asked
           (and_false more (nat_lt c.base.result.number b.result.to) last) (c.go_on-more.ensures.done last) go;
     }
@@ -147,7 +152,8 @@ returns-in-Err-step_all-clause-stopped g c = λ d s from now given ready.
     stops_then disk d s from a.disk.now a.start a.lanes.now a.said.now now
     given ready
     c.requires.lanes b.new.disk b.new.store b.new.lanes b.result b.auto.lanes
-    e.lanes.kept e.store.log e.store.goes e.store.later e.store.ends e.leaves whole e.close
+    e.lanes.kept e.store.log e.store.goes e.store.later e.store.ends
+    (block_rows disk a.disk.now a.start.store b.new.disk b.new.store b.new.lanes b.result e.store e.leaves.some) e.leaves whole e.close
     fresh c.renew.new.disk c.in_ok-next.next c.in_ok-next.ensures.next
     (above_base c.base.result.number b.result.to b.new.store.log.key.number c.go_on-more.result c.base.ensures.0)
     c.out_of_memory.result c.out_of_memory.ensures.store c.out_of_memory.ensures.why

@@ -189,5 +189,4 @@ returns-clause-all g c =
           (λ (rounds : List Round) h. first_of disk p q c.args.count b.count first t rounds h
           inv.go.end);
       committed = λ is. absurd cc;
-      catalog = λ is. absurd cc;
     }

@@ -53,7 +53,7 @@ returns-in-Ok-clause-whole g c none =
     (point_opened first s o e.log e.pass e.rows e.flusher e.cold) s.registrar.catalog e.rows new.unshut
     (subst (λ (z : Log). z.key.buckets ≡ 2 ^ z.shape.bucket_bits) e.log new.go.table.buckets)
     (new.go.can.of.about ∙ ap (λ (z : Log). z.key) e.log) b.new.disk told text old mid
-    now l.store h.close r f.0 b.new.refused l.count k.result.fault none h.runs (h.committed refl) (h.catalog refl) f.1))
+    now l.store h.close r f.0 b.new.refused l.count k.result.fault none h.runs (h.committed refl) f.1))
 
 pub returns-in-Ok-clause-stopped : goal.returns-in-Ok-clause-stopped
 returns-in-Ok-clause-stopped g c why fault_is r is =
@@ -84,7 +84,7 @@ returns-in-Ok-clause-stopped g c why fault_is r is =
     (point_opened first s o e.log e.pass e.rows e.flusher e.cold) s.registrar.catalog e.rows new.unshut
     (subst (λ (z : Log). z.key.buckets ≡ 2 ^ z.shape.bucket_bits) e.log new.go.table.buckets)
     (new.go.can.of.about ∙ ap (λ (z : Log). z.key) e.log) b.new.disk told text old mid
-    now l.store h.close r f.0 b.new.refused l.count why k.result.fault fault_is h.runs (h.committed refl) (h.catalog refl) f.1))
+    now l.store h.close r f.0 b.new.refused l.count why k.result.fault fault_is h.runs (h.committed refl) f.1))
 
 pub returns-in-Ok-clause-lost : goal.returns-in-Ok-clause-lost
 returns-in-Ok-clause-lost g c none =

@@ -1,8 +1,9 @@
 -- The blocks, and after them the last checkpoint.
-use Rattle.std.proofs.Common.{ap, refl, Err, Some}
+use Rattle.std.proofs.Common.{ap, refl, subst, Err, Some, Result, [], ◌∷◌}
 use Rattle.fish_registry.specs.declared.registrar.Registrar.{Registrar}
 use Rattle.fish_rule.specs.declared.table.Log.{Log}
 use Rattle.fish_run.proofs.Caused.{caused_inner, caused_since}
+use Rattle.fish_run.proofs.CommitRows.{rows_or}
 use Rattle.fish_run.proofs.Ends.{all_later, all_stopped}
 use Rattle.fish_run.proofs.Faults.{commit_no_output, commit_other, commit_well}
 use Rattle.fish_run.proofs.One.{runs_on, stops_with}
@@ -10,7 +11,9 @@ use Rattle.fish_run.specs.Blocks.{first_registry, rounds_of}
 use Rattle.fish_run.specs.Reports.{first_item}
 use Rattle.fish_run.specs.within.Running.{counts_of}
 use Rattle.fish_run.specs.within.Counting.{Counts}
+use Rattle.fish_run.specs.declared.fault.RunFault.{RunFault}
 use Rattle.fish_run.specs.declared.lasting.Stopped.{Stopped}
+use Rattle.fish_store.specs.CommitRows.{LeavesRows, by_checkpoint}
 use Rattle.fish_store.specs.Points.{point_at}
 use Rattle.fish_run.proofs.running.run_store.Goals as goal
 
@@ -40,7 +43,9 @@ returns-in-Err-clause-some g c =
     c.run_blocks.new.refused l.count h.runs
     (runs_on disk m q c.commit.ensures.goes c.commit.ensures.later)
     c.commit.ensures.goes.learns (c.commit.ensures.end l.count (h.go (λ is. absurd cc)).end)
-    (ap (λ (z : Log). z.shape) c.commit.ensures.log) (ap (λ (z : Registrar). z.catalog) c.commit.ensures.registrar) in
+    (ap (λ (z : Log). z.shape) c.commit.ensures.log) (ap (λ (z : Registrar). z.catalog) c.commit.ensures.registrar)
+    (subst (λ (z : Result (Unit {0}) RunFault). LeavesRows disk m.disk q.disk (by_checkpoint z m.rows) (m.rows ∷ [])) c.in-Err.is
+    c.commit.ensures.rows) in
     all_stopped disk c.args.count first begin p q c.commit.new.disk told c.args.script.now old
     new c.run_blocks.new.refused l.count e all
     (stops_with disk p c.commit.new.disk last c.args.count l.count first
@@ -77,7 +82,8 @@ returns-in-Ok-clause-all g c =
           (g.W.Sink.written c.args.out.now) (g.W.Sink.written c.run_blocks.new.out) c.run_blocks.new.refused l.count h.runs
           (runs_on disk m q c.commit.ensures.goes c.commit.ensures.later)
           c.commit.ensures.goes.learns (c.commit.ensures.end l.count (h.go (λ is. absurd cc)).end)
-          (ap (λ (z : Log). z.shape) c.commit.ensures.log) (ap (λ (z : Registrar). z.catalog) c.commit.ensures.registrar);
-      committed = λ is. c.in-Ok.ensures.all.0;
-      catalog = λ is. c.in-Ok.ensures.all.1;
+          (ap (λ (z : Log). z.shape) c.commit.ensures.log) (ap (λ (z : Registrar). z.catalog) c.commit.ensures.registrar)
+          (rows_or disk m.disk q.disk m.rows (subst (λ (z : Result (Unit {0}) RunFault).
+          LeavesRows disk m.disk q.disk (by_checkpoint z m.rows) (m.rows ∷ [])) c.in-Ok.is c.commit.ensures.rows));
+      committed = λ is. c.in-Ok.ensures.all;
     }
