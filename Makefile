@@ -6,6 +6,8 @@ PROGRAM = crates/fishstore/out/fishstore
 BENCHMARKS = crates/bench/out/bench
 TESTS := $(shell sed -n 's/^\(tests_[a-z]*\).*:.*/\1/p' crates.txt)
 CRATES := $(shell sed -n 's/^\(fish[a-z_]*\).*:.*/\1/p' crates.txt)
+# A variable as one word of the shell, with no name in it expanded: `take $2` stays so.
+WORD = '$(subst ','\'',$(value $(1)))'
 FILES = $(shell find $(1) -name out -prune -o \( -path '*/src/*' -o -path '*/specs/*' -o -path '*/proofs/*' \) -type f -print)
 SOURCES := crates.txt $(call FILES,crates/fish*)
 
@@ -15,9 +17,9 @@ SOURCES := crates.txt $(call FILES,crates/fish*)
 # own (and FORM=csv), with SCRIPT a `run` of a script of one's own.
 demo:
 ifdef SCRIPT
-	@tools/demo run '$(SCRIPT)'
+	@tools/demo run $(call WORD,SCRIPT)
 else ifdef FILE
-	@tools/demo select '$(DEF)' '$(VALUE)' '$(FILE)' $(if $(FORM),--form $(FORM))
+	@tools/demo select $(call WORD,DEF) $(call WORD,VALUE) $(call WORD,FILE) $(if $(FORM),--form $(call WORD,FORM))
 else
 	@tools/demo
 endif
