@@ -176,25 +176,25 @@ pub leaves_of : (Past : Whole → Type 0) (count : ℕ) (v u : View) (r s : Regi
     → HandsBack v u lanes → (WasShut v → end.to ≤ from) → Leaves Past count v u r s from lanes end
 leaves_of Past count v u r s from items lanes end are many begins tells has ended marks shuts last plans settled alone committed left stays
     = record {
-  some = (let some_ = are.some in omega arith);
-  begins = begins;
-  tells = tells;
-  has = has;
-  ended = ended;
-  marks = marks;
-  alone = λ x one.
-      let a = alone x one in
-      record {
-        none = a.closed;
-        whole = λ w only. singles_whole Past v u r.catalog from w (answers x.items) (a.only from begins settled w only);
-      };
-  shuts = shuts;
-  last = last;
-  plans = plans;
-  committed = first_committed count lanes committed;
-  left = left;
-  stays = stays;
-}
+      some = (let some_ = are.some in omega arith);
+      begins = begins;
+      tells = tells;
+      has = has;
+      ended = ended;
+      marks = marks;
+      alone = λ x one.
+          let a = alone x one in
+          record {
+            none = a.closed;
+            whole = λ w only. singles_whole Past v u r.catalog from w (answers x.items) (a.only from begins settled w only);
+          };
+      shuts = shuts;
+      last = last;
+      plans = plans;
+      committed = first_committed count lanes committed;
+      left = left;
+      stays = stays;
+    }
 
 module _ (Past : Whole → Type 0) (count : ℕ) (v u : View) (r s : Registrar) (from : ℕ)
     (lanes : List Lane) (end : BlockEnd) (h : Leaves Past count v u r s from lanes end) (fresh : Bool)

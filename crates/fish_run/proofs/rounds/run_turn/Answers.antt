@@ -129,14 +129,14 @@ returns-in-Ok-step_all-clause-on g c =
           given ready
           c.requires.lanes b.new.disk b.new.store b.new.lanes b.result b.auto.lanes
           e.lanes.kept e.store.log e.store.goes e.store.later e.store.ends
-    (block_rows disk a.disk.now a.start.store b.new.disk b.new.store b.new.lanes b.result e.store e.leaves.some) e.leaves whole e.close
+          (block_rows disk a.disk.now a.start.store b.new.disk b.new.store b.new.lanes b.result e.store e.leaves.some) e.leaves whole e.close
           fresh c.renew.new.disk c.in_ok-next.next c.in_ok-next.ensures.next above c.step_all.new.lanes c.step_all.new.said h asked;
       ends = λ last d s from now given ready.
           ends_rounds disk d s from a.disk.now a.start a.lanes.now a.said.now now
           given ready
           c.requires.lanes b.new.disk b.new.store b.new.lanes b.result b.auto.lanes
           e.lanes.kept e.store.log e.store.goes e.store.later e.store.ends
-    (block_rows disk a.disk.now a.start.store b.new.disk b.new.store b.new.lanes b.result e.store e.leaves.some) e.leaves whole e.close
+          (block_rows disk a.disk.now a.start.store b.new.disk b.new.store b.new.lanes b.result e.store e.leaves.some) e.leaves whole e.close
           fresh c.renew.new.disk c.in_ok-next.next c.in_ok-next.ensures.next above c.step_all.new.lanes c.step_all.new.said h asked
           (and_false more (nat_lt c.base.result.number b.result.to) last) (c.go_on-more.ensures.done last) go;
     }
