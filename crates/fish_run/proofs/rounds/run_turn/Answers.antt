@@ -66,7 +66,8 @@ returns-in_err-next-clause-stopped g c =
     given ready
     c.requires.lanes b.new.disk b.new.store b.new.lanes b.result b.auto.lanes
     e.lanes.kept e.store.log e.store.goes e.store.later e.store.ends
-    (block_rows disk a.disk.now a.start.store b.new.disk b.new.store b.new.lanes b.result e.store e.leaves.some) e.leaves whole e.close
+    (block_rows disk a.disk.now a.start.store b.new.disk b.new.store b.new.lanes b.result e.store e.leaves.some)
+    e.leaves whole e.close
     c.renew.new.disk why c.in_err-next.ensures.stopped)
 
 pub returns-in_err-next-clause-disk : goal.returns-in_err-next-clause-disk
@@ -129,14 +130,16 @@ returns-in-Ok-step_all-clause-on g c =
           given ready
           c.requires.lanes b.new.disk b.new.store b.new.lanes b.result b.auto.lanes
           e.lanes.kept e.store.log e.store.goes e.store.later e.store.ends
-          (block_rows disk a.disk.now a.start.store b.new.disk b.new.store b.new.lanes b.result e.store e.leaves.some) e.leaves whole e.close
+          (block_rows disk a.disk.now a.start.store b.new.disk b.new.store b.new.lanes b.result e.store e.leaves.some)
+          e.leaves whole e.close
           fresh c.renew.new.disk c.in_ok-next.next c.in_ok-next.ensures.next above c.step_all.new.lanes c.step_all.new.said h asked;
       ends = λ last d s from now given ready.
           ends_rounds disk d s from a.disk.now a.start a.lanes.now a.said.now now
           given ready
           c.requires.lanes b.new.disk b.new.store b.new.lanes b.result b.auto.lanes
           e.lanes.kept e.store.log e.store.goes e.store.later e.store.ends
-          (block_rows disk a.disk.now a.start.store b.new.disk b.new.store b.new.lanes b.result e.store e.leaves.some) e.leaves whole e.close
+          (block_rows disk a.disk.now a.start.store b.new.disk b.new.store b.new.lanes b.result e.store e.leaves.some)
+          e.leaves whole e.close
           fresh c.renew.new.disk c.in_ok-next.next c.in_ok-next.ensures.next above c.step_all.new.lanes c.step_all.new.said h asked
           (and_false more (nat_lt c.base.result.number b.result.to) last) (c.go_on-more.ensures.done last) go;
     }
@@ -153,7 +156,8 @@ returns-in-Err-step_all-clause-stopped g c = λ d s from now given ready.
     given ready
     c.requires.lanes b.new.disk b.new.store b.new.lanes b.result b.auto.lanes
     e.lanes.kept e.store.log e.store.goes e.store.later e.store.ends
-    (block_rows disk a.disk.now a.start.store b.new.disk b.new.store b.new.lanes b.result e.store e.leaves.some) e.leaves whole e.close
+    (block_rows disk a.disk.now a.start.store b.new.disk b.new.store b.new.lanes b.result e.store e.leaves.some)
+    e.leaves whole e.close
     fresh c.renew.new.disk c.in_ok-next.next c.in_ok-next.ensures.next
     (above_base c.base.result.number b.result.to b.new.store.log.key.number c.go_on-more.result c.base.ensures.0)
     c.out_of_memory.result c.out_of_memory.ensures.store c.out_of_memory.ensures.why
