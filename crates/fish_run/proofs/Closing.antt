@@ -6,7 +6,6 @@ use Rattle.fish_catalog.specs.declared.commit.Commit.{Commit}
 use Rattle.fish_catalog.specs.declared.entry.Entry.{Entry}
 use Rattle.fish_catalog.specs.declared.row.CatRow.{CatRow}
 use Rattle.fish_disk.specs.declared.disk.Disk.{Ghosts as Disks}
-use Rattle.fish_lanes.specs.Ending.{HasEnd}
 use Rattle.fish_outside.specs.Content.{Files, Gained, GainedPart}
 use Rattle.fish_recover.specs.Stores.{IsOpened}
 use Rattle.fish_recover.specs.declared.opened.Opened.{Opened}
@@ -25,9 +24,9 @@ use Rattle.fish_run.proofs.Keeping.{entries_end, keeps_of, sound_first, still_ke
 use Rattle.fish_run.proofs.Lines.{fulls_past}
 use Rattle.fish_run.proofs.Shown.{store_is}
 use Rattle.fish_run.proofs.Written.{gained_none, part_still, part_then, part_whole, written_both}
-use Rattle.fish_run.proofs.Tables.{renewed_any}
+use Rattle.fish_run.proofs.Tables.{renewed_may}
 use Rattle.fish_run.specs.within.Running.{Finishes}
-use Rattle.fish_run.specs.Blocks.{Round, after_rounds, first_registry, left_table, rounds_of}
+use Rattle.fish_run.specs.Blocks.{Round, after_rounds, first_registry, left_table, rounds_of, with_cut}
 use Rattle.fish_run.specs.Faults.{IsUndamaged}
 use Rattle.fish_run.specs.Ran.{IsLost, IsStopped, IsWhole, StillKeeps, StoodFor, opened_item}
 use Rattle.fish_run.specs.Tables.{LastTable}
@@ -63,10 +62,19 @@ module _
   abbrev pub Kept : Store → Type 0
   Kept x = IsAllKept disks.images disk' x
 
+  -- tables begin where the first one does
+  first_is : p.view.about.number ≡ o.log.key.number
+  first_is = ap (λ (k : Key). k.number) about
+
+  renewed_of : (rounds : List Round) (may : Bool) → AreRenewed p.view.about.number rounds may false
+      → AreRenewed o.log.key.number rounds may false
+  renewed_of rounds may h = subst (λ (z : ℕ). AreRenewed z rounds may false) first_is h
+
   -- after all blocks no new one has to be begun
-  renewed_all : (rounds : List Round) → AreRenewed rounds false → AreRenewed (rounds ++ []) true
-  renewed_all rounds h = subst (λ (z : List Round). AreRenewed z true) (sym (append-nil rounds))
-      (renewed_any rounds true h)
+  renewed_all : (rounds : List Round) → AreRenewed p.view.about.number rounds false false
+      → AreRenewed o.log.key.number (rounds ++ []) true false
+  renewed_all rounds h = subst (λ (z : List Round). AreRenewed o.log.key.number z true false) (sym (append-nil rounds))
+      (renewed_of rounds true (renewed_may p.view.about.number rounds false false h))
 
   module _ (x : Store) (close : CanClose x) (remains : Remains) (closed : IsClosed (view x.pass) remains) where
     -- what is left is that of the last table
@@ -101,7 +109,7 @@ module _
     whole_of refused end h kept last = record {
       blocks = h.blocks;
       are = h.all;
-      renewed = h.renewed;
+      renewed = renewed_of (rounds_of h.blocks) false h.renewed;
       last = last_of (rounds_of h.blocks) false None end h.ran;
       written = subst (λ (z : ℕ). Gained old new (report_text (whole_report (opened_item o) h.blocks z)))
           (sym (entries_end (view x.pass) end remains h.ran.ends closed))
@@ -177,7 +185,7 @@ module _
     are = h.are;
     next = h.next;
     named = h.stops.cut_by;
-    renewed = h.renewed;
+    renewed = renewed_of (with_cut (rounds_of h.blocks ++ h.part) h.cut) true h.renewed;
     last = last_of x (close_is e x is h).1 remains closed (rounds_of h.blocks ++ h.part) h.stops.fresh h.cut h.stops.end ran;
     ended = false;
     written = part_still old mid new (report_text (report_of (opened_item o) h.blocks)) h.written none;

@@ -18,7 +18,7 @@ use Rattle.fish_report.specs.declared.item.Item.{Item}
 use Rattle.fish_rule.specs.Logs.{Learns}
 use Rattle.fish_feed.proofs.Lists.{get_at, pairs_length, pairs_map, pairs_push, take_length}
 use Rattle.fish_run.proofs.Faults.{write_loud}
-use Rattle.fish_run.proofs.Tables.{renewed_any, renewed_join}
+use Rattle.fish_run.proofs.Tables.{follow_old, renewed_join, renewed_may, rounds_old}
 use Rattle.fish_run.proofs.Turns.{behind_next, cut_join, first_on, rounds_both, rounds_first}
 use Rattle.fish_run.proofs.Works.{done_later}
 use Rattle.fish_run.proofs.Written.{gained_none, part_then, part_whole, written_both}
@@ -30,7 +30,7 @@ use Rattle.fish_run.specs.Rounds.{AreRounds, given_in}
 use Rattle.fish_run.specs.within.Faults.{IsWriteFault}
 use Rattle.fish_run.specs.within.Running.{HowStopped}
 use Rattle.fish_run.specs.within.Steps.{HasRounds, HasRunFirst, RunsAll, RunsSome, StopsRounds, WritesBlocks}
-use Rattle.fish_run.specs.Tables.{AreRenewed}
+use Rattle.fish_run.specs.Tables.{AreRenewed, is_next_new}
 use Rattle.fish_run.specs.declared.fault.RunFault.TheVariants as fault
 use Rattle.fish_run.specs.declared.lasting.Stopped.{Stopped}
 use Rattle.fish_script.specs.declared.script.Block as script
@@ -107,7 +107,7 @@ module _
     -- one more ran, and was written
     pub writes_more : (text : List script.Block) (x : script.Block) (to : ℕ) (t : Registry) (before now : Bool) (y : Block)
         → WritesBlocks disks p m from r begin old text mid s a b before → IsBlockOf new x y
-        → HasRounds disks m q mid s y.rounds false to t → AreRenewed y.rounds false
+        → HasRounds disks m q mid s y.rounds false to t → AreRenewed m.view.about.number y.rounds false false
         → Gained b c (report_text (block_items y)) → now ≡ before || said_refused (block_said y.rounds)
         → WritesBlocks disks p q from r begin new (text ++ x ∷ []) to t a c now
     writes_more text x to t before now y h is ran renewed written refused = record {
@@ -115,9 +115,9 @@ module _
       are = pairs_push (IsBlockOf new) text h.blocks x y (blocks_later old new still text h.blocks h.are) is;
       ran = subst (λ (z : List Round). HasRounds disks p q from r z false to t) (sym (rounds_push h.blocks y))
           (rounds_both disks p m q from mid to r s t (rounds_of h.blocks) y.rounds h.ran false ran);
-      renewed = subst (λ (z : List Round). AreRenewed z false) (sym (rounds_push h.blocks y))
-          (renewed_join (rounds_of h.blocks) y.rounds false h.renewed
-          renewed);
+      renewed = subst (λ (z : List Round). AreRenewed p.view.about.number z false false) (sym (rounds_push h.blocks y))
+          (renewed_join p.view.about.number (rounds_of h.blocks) y.rounds false (follow_old y.rounds is.follow) h.renewed
+          (subst (λ (z : ℕ). AreRenewed z y.rounds false false) h.ran.begins renewed));
       written = subst (λ (z : List Item). Gained a c (report_text z)) (sym (report_more begin h.blocks y))
           (written_both a b c (report_of begin h.blocks) (block_items y) h.written written);
       refused_is = refused ∙ ap (λ z. z || said_refused (block_said y.rounds)) h.refused_is ∙ sym (refused_more h.blocks y);
@@ -148,7 +148,7 @@ module _
         (cut : Option Round) (e : Stopped) → i < length text → x ≡ get_or text i x
         → WritesBlocks disks p m from r begin old (take i text) mid s a b refused
         → StopsRounds disks m disk mid s rounds cut e
-        → AreRenewed (with_cut rounds cut) true → HowStopped new x b c refused now rounds cut e
+        → AreRenewed m.view.about.number (with_cut rounds cut) true false → HowStopped new x b c refused now rounds cut e
         → RunsSome disks p disk from r begin new text a c now e
     stops_more text i x refused now disk rounds cut e less is h stop renewed how = ⊎_elim not_done was_done how
       where
@@ -167,10 +167,12 @@ module _
         stopped : StopsRounds disks p disk from r (rounds_of blocks ++ rounds) cut e
         stopped = stops_after disk (rounds_of blocks) rounds cut e h.ran stop
 
-        all_renewed : AreRenewed (with_cut (rounds_of blocks ++ rounds) cut) true
-        all_renewed = subst (λ (z : List Round). AreRenewed z true) (sym (cut_join (rounds_of blocks) rounds cut))
-            (renewed_join (rounds_of blocks) (with_cut rounds cut) true h.renewed
-            renewed)
+        all_renewed : is_next_new (with_cut rounds cut) false ≡ false
+            → AreRenewed p.view.about.number (with_cut (rounds_of blocks ++ rounds) cut) true false
+        all_renewed old = subst (λ (z : List Round). AreRenewed p.view.about.number z true false)
+            (sym (cut_join (rounds_of blocks) rounds cut))
+            (renewed_join p.view.about.number (rounds_of blocks) (with_cut rounds cut) true old h.renewed
+            (subst (λ (z : ℕ). AreRenewed z (with_cut rounds cut) true false) h.ran.begins renewed))
 
         Begun : Type 0
         Begun = AreRounds new x.lanes (with_cut rounds cut) × Gained b c [] × (e.why ≡ fault.Input → cut ≡ None)
@@ -188,7 +190,7 @@ module _
           are = are_first new text i (omega (less, arith)) blocks are;
           next = next_of new text i (omega (less, arith)) blocks are x at (with_cut rounds cut) m.0;
           stops = stopped;
-          renewed = all_renewed;
+          renewed = all_renewed (rounds_old new x.lanes (with_cut rounds cut) m.0);
           written = part_whole a c (report_text (report_of begin blocks))
               (gained_none a b c (report_text (report_of begin blocks)) h.written m.1);
           refused_is = m.3 ∙ h.refused_is;
@@ -215,9 +217,10 @@ module _
               stops = subst (λ (z : List Round). StopsRounds disks p disk from r z None e) same
                   (subst (λ (z : Option Round). StopsRounds disks p disk from r (rounds_of blocks ++ rounds) z e)
                   m.3 stopped);
-              renewed = subst (λ (z : List Round). AreRenewed z true) same
-                  (subst (λ (z : Option Round). AreRenewed (with_cut (rounds_of blocks ++ rounds) z) true) m.3
-                  all_renewed);
+              renewed = subst (λ (z : List Round). AreRenewed p.view.about.number z true false) same
+                  (subst (λ (z : Option Round). AreRenewed p.view.about.number (with_cut (rounds_of blocks ++ rounds) z) true false) m.3
+                  (all_renewed (subst (λ (z : Option Round). is_next_new (with_cut rounds z) false ≡ false) (sym m.3)
+                  (subst (λ (z : List Round). is_next_new z false ≡ false) m.2 (follow_old m.0.rounds m.1.follow)))));
               written = subst (λ (z : List Item). GainedPart a c (report_text z)) (sym (report_more begin blocks m.0))
                   (part_then a b c (report_of begin blocks) (block_items m.0) h.written m.4);
               refused_is = m.6 ∙ ap (λ z. z || said_refused (block_said m.0.rounds)) h.refused_is ∙ sym (refused_more blocks m.0);
@@ -274,8 +277,8 @@ module _
     next = tt;
     stops = subst (λ (z : List Round). StopsRounds disks p disk from r z None e)
         (sym (append-nil (rounds_of h.blocks))) stop;
-    renewed = subst (λ (z : List Round). AreRenewed z true) (sym (append-nil (rounds_of h.blocks)))
-        (renewed_any (rounds_of h.blocks) true h.renewed);
+    renewed = subst (λ (z : List Round). AreRenewed p.view.about.number z true false) (sym (append-nil (rounds_of h.blocks)))
+        (renewed_may p.view.about.number (rounds_of h.blocks) false false h.renewed);
     written = part_whole a b (report_text (report_of begin h.blocks)) h.written;
     refused_is = h.refused_is;
     exact = λ output memory. h.written;

@@ -1,5 +1,5 @@
 -- One block: what its rounds did, and where a fault stops the run.
-use Rattle.std.proofs.Common.{◌≡◌, ℕ, List, [], ◌∷◌, refl, sym, ap, ◌∙◌, subst, inl, inr, false, true}
+use Rattle.std.proofs.Common.{◌≡◌, ℕ, List, [], ◌∷◌, refl, sym, ap, ◌∙◌, subst, inl, inr, false}
 use Rattle.std.proofs.Common.{Bool, Option, Some, None}
 use Rattle.std.specs.Prelude.{IfSome, ◌||◌}
 use Rattle.fish_disk.specs.declared.disk.Disk.{Ghosts as Disks}
@@ -15,7 +15,7 @@ use Rattle.fish_rule.proofs.laws.Learning.{learns_self}
 use Rattle.fish_rule.specs.Passes.{view}
 use Rattle.fish_run.proofs.CommitRows.{rows_none}
 use Rattle.fish_run.proofs.Going.{close_of, here_self}
-use Rattle.fish_run.proofs.Tables.{renewed_any}
+use Rattle.fish_run.proofs.Tables.{renewed_may}
 use Rattle.fish_run.proofs.Turns.{rounds_end, rounds_none, runs_step}
 use Rattle.fish_run.specs.Blocks.{Block, Round, with_cut}
 use Rattle.fish_run.specs.Faults.{IsUndamaged}
@@ -160,7 +160,7 @@ module _
             stops = stops_with p disk' d.store a.count d.end.to r h.rounds e named_is
                 (close_of disks.images disk' d.store d.end.to h.go) well
                 (first_of p q a.count d.end.to r t h.rounds h.ran h.go.end);
-            renewed = renewed_any h.rounds true h.renewed;
+            renewed = renewed_may (view a.store.pass).about.number h.rounds false false h.renewed;
             how = inr (
               block,
               block_is,

@@ -30,7 +30,7 @@ use Rattle.fish_run.proofs.Giving.{works_length}
 use Rattle.fish_run.proofs.Going.{close_of, here_self}
 use Rattle.fish_feed.proofs.Lists.{pairs_length, pairs_map}
 use Rattle.fish_run.proofs.Stepping.{goes_next, kept_pairs, ran_numbered}
-use Rattle.fish_run.proofs.Tables.{renewed_push, renewed_true}
+use Rattle.fish_run.proofs.Tables.{IsSomeFull, renewed_free, renewed_may, renewed_push}
 use Rattle.fish_run.proofs.Turns.{behind_next, rounds_cut, rounds_end, rounds_more, rounds_none, rounds_rolled, runs_step}
 use Rattle.fish_run.specs.Blocks.{Round, after_rounds, first_items}
 use Rattle.fish_run.specs.Faults.{IsFirstFault, IsUndamaged}
@@ -43,7 +43,8 @@ use Rattle.fish_run.specs.Joins.{block_said, lanes_after, nothing_said, said_ove
 use Rattle.fish_run.specs.Rounds.{AreAll, FollowOn, GoOn, GoesOnWith, IsNext, given_after, given_in}
 use Rattle.fish_run.specs.within.Runs.{Behind, CanClose, CanGoOn}
 use Rattle.fish_run.specs.within.Steps.{AreWhole, HasRounds, Leaves}
-use Rattle.fish_run.specs.Tables.{AreRenewed, IsNearLimits}
+use Rattle.fish_run.specs.Tables.{AreRenewed, IsNearLimits, IsRenewedBy, table_of}
+use Rattle.fish_run.specs.within.Tables.{table_after}
 use Rattle.fish_run.specs.Works.{AreNumbered, to_do}
 use Rattle.fish_run.specs.declared.fault.RunFault.{RunFault}
 use Rattle.fish_run.specs.declared.fault.RunFault.TheVariants as fault
@@ -243,7 +244,7 @@ module _
             (learns_self (view a.store.pass)) go.end refl (rows_none disks disk _);
         whole = λ past sound. well;
       };
-      renewed = renewed_true g.rounds a.fresh g.renewed;
+      renewed = renewed_may (view s.pass).about.number g.rounds a.fresh a.fresh g.renewed;
       input = λ is. refl;
     }
 
@@ -314,6 +315,9 @@ module _
     b = left Past m.file.flusher.count (view a.store.pass) (view m.pass) a.store.registrar m.registrar a.from ran end leaves a.fresh
         given_now
 
+    abbrev pub first : ℕ
+    first = (view s.pass).about.number
+
     pairs : Pairs IsKept lanes ran
     pairs = kept_pairs lanes ran many kept
 
@@ -343,7 +347,7 @@ module _
       cut = Some b;
       follow = done;
       were = were;
-      renewed = renewed_push g.rounds b true g.renewed (λ line lines end f. inl refl);
+      renewed = renewed_push first g.rounds b true false g.renewed (renewed_free (table_of (table_after first g.rounds) b) b);
       stops = record {
         at = at;
         disk_is = refl;
@@ -380,7 +384,7 @@ module _
         cut = None;
         follow = done;
         were = were;
-        renewed = renewed_push g.rounds b true g.renewed (λ line lines end f. inl refl);
+        renewed = renewed_push first g.rounds b true false g.renewed (renewed_free (table_of (table_after first g.rounds) b) b);
         stops = record {
           at = k.at;
           disk_is = k.disk_is;
@@ -422,6 +426,7 @@ module _
             by true less k = rounds_rolled disks p at q from end.to r then (g.rounds ++ b ∷ [])
                 (registry_of (view t.pass) t.registrar) all k.runs k.registry k.unshut k.shape (higher (less refl) k)
                 (subst (λ (z : List CatRow). LeavesRows disks disk' disk'' (λ was. z ∷ []) (z ∷ [])) rows_are k.rows)
+                (ap (λ (z : Key). z.number) k.go.can.of.about ∙ k.number)
 
         -- memory ran out after it
         pub stops_then : (e : Stopped) → e.store ≡ Some t → e.why ≡ fault.Memory → CanGoOn disks.images disk'' t end.to
@@ -431,7 +436,7 @@ module _
           cut = None;
           follow = done;
           were = were;
-          renewed = renewed_push g.rounds b true g.renewed (λ line lines end f. inl refl);
+          renewed = renewed_push first g.rounds b true false g.renewed (renewed_free (table_of (table_after first g.rounds) b) b);
           stops = record {
             at = q;
             disk_is = refl;
@@ -450,10 +455,13 @@ module _
 
         module _ (lanes' : List Lane) (said' : List Said)
             (h : HasStepped fresh a.fresh a.bound said said' ran lanes')
-            (asked : (line lines e : ℕ) → IsFullIn ran line lines e → (fresh ≡ true) ⊎ IsNearLimits end.to e) where
+            (asked : (line lines e : ℕ) → IsFullIn ran line lines e
+            → (fresh ≡ true) ⊎ ((end.to ≡ (view a.store.pass).about.number) × IsNearLimits end.to e))
+            (needed : fresh ≡ true → ((view a.store.pass).about.number < end.to) × IsSomeFull ran) where
           -- where the round found the table full, a new one was begun, or the log is near its limits
-          renews : AreRenewed (g.rounds ++ b ∷ []) fresh
-          renews = renewed_push g.rounds b fresh g.renewed asked
+          renews : AreRenewed first (g.rounds ++ b ∷ []) fresh fresh
+          renews = renewed_push first g.rounds b fresh fresh g.renewed
+              (subst (λ (z : ℕ). IsRenewedBy z b fresh fresh) g.ran.begins (record { full = asked; needed = needed }))
 
           -- the lanes go on
           pub goes_more : GoesIn disks d s from disk''
@@ -480,7 +488,7 @@ module _
           ends_rounds old none go = record {
             go = go;
             rounds = g.rounds ++ b ∷ [];
-            renewed = subst (AreRenewed (g.rounds ++ b ∷ [])) old (renews);
+            renewed = subst (λ (z : Bool). AreRenewed first (g.rounds ++ b ∷ []) z z) old renews;
             follow = done;
             were = were;
             all = all_push g.rounds b none;

@@ -232,6 +232,11 @@ module _
   fewer_tables false left k is = absurd cc
   fewer_tables true left k is = fewer_by (nat_lt from to) refl (left refl) k
 
+-- one that is begun was asked for
+pub and_true : (a b : Bool) → (a && b) ≡ true → a ≡ true
+and_true true b is = refl
+and_true false b is = absurd cc
+
 -- where a new table is begun, the log ends above the number at which the old one begins
 pub above_base : (from to n : ℕ) (more : Bool) → from ≡ n → (more && nat_lt from to) ≡ true → n < to
 above_base from to n false same is = absurd cc

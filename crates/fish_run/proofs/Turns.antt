@@ -11,15 +11,18 @@ use Rattle.fish_rule.proofs.laws.Lists.{among_either, among_left, among_right}
 use Rattle.fish_rule.specs.Logs.{Learns}
 use Rattle.fish_rule.specs.Views.{Among}
 use Rattle.fish_rule.specs.declared.view.Shut.{Shut}
+use Rattle.fish_rule.specs.declared.view.Key.{Key}
 use Rattle.fish_rule.specs.declared.view.View.{View}
 use Rattle.fish_run.proofs.Blocks.{committed_later, committed_more, marked_later, marks_more}
 use Rattle.fish_run.proofs.CommitRows.{HaveLeftLast, HaveLeftRounds, left_both, left_ended, left_first, left_on, left_rolled, left_round}
 use Rattle.fish_run.proofs.CommitRows.{left_start, rows_none}
-use Rattle.fish_run.proofs.Tables.{table_both, table_cut, table_more, table_on, table_rolled, table_self}
+use Rattle.fish_run.proofs.Tables.{table_both, table_cut, table_join, table_more, table_on, table_push, table_rolled, table_self}
 use Rattle.fish_run.specs.Blocks.{AreAcknowledged, AreFullSince, HasFoundFull, IsFullOf, Round, SaysCut, SaysFirst, SaysOne}
 use Rattle.fish_run.specs.within.Blocks.{AreMarked}
 use Rattle.fish_run.specs.Blocks.{SaysRest, SaysRounds, after_round, after_rounds, begun, begun_for, first_items, in_table, last_table}
 use Rattle.fish_run.specs.Blocks.{left_table, with_cut}
+use Rattle.fish_run.specs.Tables.{table_by}
+use Rattle.fish_run.specs.within.Tables.{table_after}
 use Rattle.fish_run.specs.within.Steps.{HasCutOne, HasRounds, HasRunFirst, HasRunOne, IsTableAfter}
 use Rattle.fish_store.proofs.Running.{runs_both}
 use Rattle.fish_store.specs.CommitRows.{LeavesRows}
@@ -170,6 +173,7 @@ module _
     full = λ before full. full;
     marks = λ before marked. marked;
     rows = left_start disks p.disk r;
+    begins = refl;
     shape = refl;
     table = table_self p.view;
   }
@@ -212,6 +216,9 @@ module _
           (subst (λ (z : Bool). AreMarked m.view (in_table z (last_table before rounds))) (sym one.fresh_is) (h.marks before marked)))
           one.marks);
       rows = left_more one.fresh_is one.begins;
+      begins = ap (λ (z : Key). z.number) goes.learns.about ∙ h.begins
+          ∙ (λ i. table_by (sym one.fresh_is i) (sym one.begins i) (table_after p.view.about.number rounds))
+          ∙ sym (table_push p.view.about.number rounds b);
       shape = shape ∙ h.shape;
       table = table_more p.view m.view q.view rounds fresh b h.table one.fresh_is goes.learns.about;
     }
@@ -260,8 +267,8 @@ module _
         → Runs disks m q (λ w. Unit {0}) → t ≡ begun true mid s → q.view.shut ≡ None
         → q.shape ≡ m.shape → m.view.about.number < q.view.about.number
         → LeavesRows disks m.disk q.disk (λ was. (after_rounds r rounds).rows ∷ []) ((after_rounds r rounds).rows ∷ [])
-        → HasRounds disks p q from r rounds true mid t
-    rounds_rolled t h runs is unshut shape higher rows = record {
+        → q.view.about.number ≡ mid → HasRounds disks p q from r rounds true mid t
+    rounds_rolled t h runs is unshut shape higher rows number = record {
       runs = runs_both disks p m q (λ w. SaysRounds w from r rounds mid) (λ w. Unit {0})
           (λ w. SaysRounds w from r rounds mid) (λ w before now. before) h.runs runs;
       after = is ∙ ap (begun true mid) h.after;
@@ -270,6 +277,7 @@ module _
       full = λ before full. none_full q.view.shut unshut;
       marks = λ before marked b among. elim among [ ];
       rows = left_rolled disks p.disk m.disk q.disk r rounds h.rows rows;
+      begins = number;
       shape = shape ∙ h.shape;
       table = table_rolled p.view m.view q.view rounds h.table higher;
     }
@@ -329,6 +337,8 @@ module _
           (k.marks (last_table before rounds) (h.marks before marked));
       rows = left_both disks p.disk m.disk q.disk r rounds more h.rows fresh
           (subst (λ (z : Registry). HaveLeftRounds disks m.disk q.disk z more fresh) h.after k.rows);
+      begins = k.begins ∙ ap (λ (z : ℕ). table_by fresh to (table_after z more)) h.begins
+          ∙ ap (table_by fresh to) (sym (table_join p.view.about.number rounds more));
       shape = k.shape ∙ h.shape;
       table = table_both p.view m.view q.view rounds more fresh h.table k.table;
     }

@@ -96,7 +96,7 @@ pub record IsWhole {D : Type 0} (disks : Disks D) (disk disk' : D) (o : Opened) 
     (text : List script.Block) (remains : Remains) (old new : Option (List ℕ)) (refused : Bool) : Type 0 where
   pub blocks : List Block
   pub are : Pairs (IsBlockOf told) text blocks
-  pub renewed : AreRenewed (rounds_of blocks) false
+  pub renewed : AreRenewed o.log.key.number (rounds_of blocks) false false
   pub last : LastTable o remains false (rounds_of blocks) None
   pub written : Gained old new (report_text (whole_report (opened_item o) blocks (entries_of remains)))
   pub refused_is : refused ≡ are_refused blocks
@@ -125,7 +125,7 @@ pub record IsStopped {D : Type 0} (disks : Disks D) (disk disk' : D) (o : Opened
   pub are : AreFirst told text blocks
   pub next : AreNextOf told text (length blocks) (with_cut part cut)
   pub named : IfSome cut (λ b. IsFirstFault b.lanes why)
-  pub renewed : AreRenewed (with_cut (rounds_of blocks ++ part) cut) true
+  pub renewed : AreRenewed o.log.key.number (with_cut (rounds_of blocks ++ part) cut) true false
   pub last : LastTable o remains fresh (rounds_of blocks ++ part) cut
   pub ended : Bool
   pub written : WritesPart ended (opened_item o) told text (entries_of remains) old new blocks

@@ -23,14 +23,28 @@ abbrev pub is_next_new : List Round → Bool → Bool
 is_next_new [] fresh = fresh
 is_next_new (b ∷ rounds) fresh = b.fresh
 
--- where an item of a round tells that the table is full, a new one was begun after the round, or the log is near its
--- limits
-abbrev pub AreRenewed : List Round → Bool → Type 0
-AreRenewed [] fresh = ⊤
-AreRenewed (b ∷ rounds) fresh =
-    ((line lines end : ℕ) → IsFullIn b.lanes line lines end → (is_next_new rounds fresh ≡ true) ⊎ IsNearLimits b.span.to
-    end)
-    × AreRenewed rounds fresh
+-- the number at which the table of a round begins, where that of before it begins at this one
+abbrev pub table_by : Bool → ℕ → ℕ → ℕ
+table_by false from first = first
+table_by true from first = from
+
+abbrev pub table_of : ℕ → Round → ℕ
+table_of first b = table_by b.fresh b.span.from first
+
+-- a round in a table that begins at a number. Where an item tells that it is full, a new one may be begun, or it has no
+-- entry and the log is near its limits; and a new one is begun only where an item tells so, and it has an entry
+pub record IsRenewedBy (first : ℕ) (b : Round) (may new : Bool) : Type 0 where
+  pub full : (line lines end : ℕ) → IsFullIn b.lanes line lines end
+      → (may ≡ true) ⊎ ((b.span.to ≡ first) × IsNearLimits b.span.to end)
+  pub needed : new ≡ true
+      → (first < b.span.to) × ((line : ℕ) × (lines : ℕ) × (end : ℕ) × IsFullIn b.lanes line lines end)
+
+-- so it is of rounds, of which the first begins in such a table; after the last one a new one may be begun, and is
+abbrev pub AreRenewed : ℕ → List Round → Bool → Bool → Type 0
+AreRenewed first [] may new = ⊤
+AreRenewed first (b ∷ rounds) may new =
+    IsRenewedBy (table_of first b) b (is_next_new rounds may) (is_next_new rounds new)
+    × AreRenewed (table_of first b) rounds may new
 
 -- what is left is that of a closed log, with the buckets of the table with which the run began; refusals of a full log
 -- in the rounds of the table that is left agree, by the end that such a table has, and are of lines past what is left;

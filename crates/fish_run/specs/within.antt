@@ -9,4 +9,5 @@ pub mod Running
 pub mod Runs
 pub mod Saying
 pub mod Steps
+pub mod Tables
 pub mod Turning

@@ -13,7 +13,8 @@ ghost use Rattle.fish_rule.specs.Passes.{view};
 ghost use Rattle.fish_lanes.specs.Controlling.{bound_items};
 ghost use Rattle.fish_run.specs.Faults.{IsFirstFault};
 ghost use Rattle.fish_run.specs.within.Going.{HasStepped, RestOf, StepsLane};
-ghost use Rattle.fish_run.specs.within.Turning.{FindNoneFull, IsRenewed, StopsTurn, TurnsAll, TurnsOn, says_full};
+ghost use Rattle.fish_run.specs.within.Turning.{AsksMore, FindNoneFull, IsRenewed, StopsTurn, TurnsAll, TurnsOn};
+ghost use Rattle.fish_run.specs.within.Turning.{says_full};
 ghost use Rattle.fish_run.specs.Joins.{goes_on};
 ghost use Rattle.fish_run.specs.within.Rolls.{StopsRoll};
 ghost use Rattle.fish_run.specs.within.Runs.{Behind, CanClose, CanGoOn};
@@ -211,6 +212,7 @@ fn go_on(lanes: &[Lane], some: bool) -> bool
     ensures done { result ≡ false → LeaveNone lanes.now }
     ensures left { result ≡ true → some ≡ false → LeaveNone lanes.now → ⊥ }
     ensures full { result ≡ false → some ≡ true → FindNoneFull lanes.now }
+    ensures asks { result ≡ true → AsksMore lanes.now }
 {
     for lane in lanes {
         if lane.left.len() > 0 || (some && is_full(lane)) {

@@ -64,7 +64,7 @@ pub record GoesIn {D : Type 0} (disks : Disks D) (disk : D) (s : Store) (from : 
   pub rounds : List Round
   pub ran : HasRounds disks (point_at disk s) (point_at disk' a.store) from (registry_of (view s.pass) s.registrar)
       rounds a.fresh a.from (registry_of (view a.store.pass) a.store.registrar)
-  pub renewed : AreRenewed rounds a.fresh
+  pub renewed : AreRenewed (view s.pass).about.number rounds a.fresh a.fresh
   pub follow : FollowOn rounds
   pub were : WereGiven given rounds
   pub next : (b : Round) → b.fresh ≡ a.fresh → AreNumbered b.lanes → Triples HasNext lanes b.given b.lanes
@@ -81,7 +81,7 @@ pub record IsReady {D : Type 0} (disks : Disks D) (disk : D) (s : Store) (from :
   pub rounds : List Round
   pub ran : HasRounds disks (point_at disk s) (point_at disk' a.store) from (registry_of (view s.pass) s.registrar)
       rounds a.fresh a.from (registry_of (view a.store.pass) a.store.registrar)
-  pub renewed : AreRenewed rounds a.fresh
+  pub renewed : AreRenewed (view s.pass).about.number rounds a.fresh a.fresh
   pub next : (b : Round) → b.fresh ≡ a.fresh → b.given ≡ now → AreNumbered b.lanes
       → Pairs (λ x y. to_do y ≡ x.works) lanes b.lanes → FollowOn (rounds ++ b ∷ [])
   pub gives : (b : Round) → b.given ≡ now → given_in (rounds ++ b ∷ []) ≡ given
@@ -100,7 +100,7 @@ pub record EndsRounds {D : Type 0} (disks : Disks D) (disk : D) (s : Store) (fro
   pub all : AreAll rounds
   pub ran : HasRounds disks (point_at disk s) (point_at disk' t) from (registry_of (view s.pass) s.registrar)
       rounds false end.to (registry_of (view t.pass) t.registrar)
-  pub renewed : AreRenewed rounds false
+  pub renewed : AreRenewed (view s.pass).about.number rounds false false
   pub first : first_number rounds ≡ from
   pub last : end_of rounds ≡ end
   pub said_are : said ≡ block_said rounds
@@ -113,5 +113,5 @@ pub record StopsBlock {D : Type 0} (disks : Disks D) (disk : D) (s : Store) (fro
   pub follow : FollowOn (with_cut rounds cut)
   pub were : WereGiven given (with_cut rounds cut)
   pub stops : StopsRounds disks (point_at disk s) disk' from (registry_of (view s.pass) s.registrar) rounds cut e
-  pub renewed : AreRenewed (with_cut rounds cut) true
+  pub renewed : AreRenewed (view s.pass).about.number (with_cut rounds cut) true false
   pub input : e.why ≡ fault.Input → cut ≡ None

@@ -40,7 +40,7 @@ pub record EndsOne {D : Type 0} (disks : Disks D) (disk disk' : D) (a : Lasts) (
   pub ran : HasRounds disks (point_at disk a.store) (point_at disk' b.store) a.count
       (registry_of (view a.store.pass) a.store.registrar) block.rounds false b.count
       (registry_of (view b.store.pass) b.store.registrar)
-  pub renewed : AreRenewed block.rounds false
+  pub renewed : AreRenewed (view a.store.pass).about.number block.rounds false false
   pub written : Gained old new (report_text (block_items block))
   pub refused : now ≡ before || said_refused (block_said block.rounds)
 
@@ -62,7 +62,7 @@ pub record StopsOne {D : Type 0} (disks : Disks D) (disk disk' : D) (a : Lasts) 
   pub cut : Option Round
   pub stops : StopsRounds disks (point_at disk a.store) disk' a.count
       (registry_of (view a.store.pass) a.store.registrar) rounds cut s
-  pub renewed : AreRenewed (with_cut rounds cut) true
+  pub renewed : AreRenewed (view a.store.pass).about.number (with_cut rounds cut) true false
   pub how : HowStopped told text old new before now rounds cut s
 
 -- ---- a run

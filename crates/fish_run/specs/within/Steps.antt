@@ -31,7 +31,8 @@ use Rattle.fish_run.specs.Faults.{IsFirstFault, IsUndamaged}
 use Rattle.fish_run.specs.Ran.{AreFirst, AreNextOf, IsBlockOf}
 use Rattle.fish_run.specs.Reports.{are_refused, report_of}
 use Rattle.fish_run.specs.within.Runs.{CanClose}
-use Rattle.fish_run.specs.Tables.{AreRenewed}
+use Rattle.fish_run.specs.Tables.{AreRenewed, table_by}
+use Rattle.fish_run.specs.within.Tables.{table_after}
 use Rattle.fish_run.specs.declared.fault.RunFault.TheVariants as fault
 use Rattle.fish_run.specs.declared.lasting.Stopped.{Stopped}
 use Rattle.fish_script.specs.declared.script.Block as script
@@ -118,6 +119,7 @@ pub record HasRounds {D : Type 0} (disks : Disks D) (p q : Point D) (from : ℕ)
       → AreMarked q.view (in_table fresh (last_table before rounds))
   pub rows : LeavesRows disks p.disk q.disk (λ was. by_roll fresh (after_rounds r rounds) (recent_rows r rounds was))
       (rows_through r rounds)
+  pub begins : q.view.about.number ≡ table_by fresh to (table_after p.view.about.number rounds)
   pub shape : q.shape ≡ p.shape
   pub table : IsTableAfter p.view q.view rounds fresh
 
@@ -158,7 +160,7 @@ pub record WritesBlocks {D : Type 0} (disks : Disks D) (p q : Point D) (from : �
   pub blocks : List Block
   pub are : Pairs (IsBlockOf told) text blocks
   pub ran : HasRounds disks p q from r (rounds_of blocks) false to t
-  pub renewed : AreRenewed (rounds_of blocks) false
+  pub renewed : AreRenewed p.view.about.number (rounds_of blocks) false false
   pub written : Gained old new (report_text (report_of begin blocks))
   pub refused_is : refused ≡ are_refused blocks
 
@@ -170,7 +172,7 @@ pub record RunsAll {D : Type 0} (disks : Disks D) (p q : Point D) (from : ℕ) (
   pub all : Pairs (IsBlockOf told) text blocks
   pub ran : HasRunFirst disks p q from r (rounds_of blocks) false None end
   pub rows_are : q.rows ≡ (after_rounds r (rounds_of blocks)).rows
-  pub renewed : AreRenewed (rounds_of blocks) false
+  pub renewed : AreRenewed p.view.about.number (rounds_of blocks) false false
   pub written : Gained old new (report_text (report_of begin blocks))
   pub refused_is : refused ≡ are_refused blocks
 
@@ -184,7 +186,7 @@ pub record RunsSome {D : Type 0} (disks : Disks D) (p : Point D) (disk : D) (fro
   pub are : AreFirst told text blocks
   pub next : AreNextOf told text (length blocks) (with_cut part cut)
   pub stops : StopsRounds disks p disk from r (rounds_of blocks ++ part) cut s
-  pub renewed : AreRenewed (with_cut (rounds_of blocks ++ part) cut) true
+  pub renewed : AreRenewed p.view.about.number (with_cut (rounds_of blocks ++ part) cut) true false
   pub written : GainedPart old new (report_text (report_of begin blocks))
   pub refused_is : refused ≡ are_refused blocks
   pub exact : s.why ≢ fault.Output → s.why ≢ fault.Memory → Gained old new (report_text (report_of begin blocks))

@@ -1,5 +1,6 @@
 -- From a round of a block to the next one.
-use Rattle.std.specs.Prelude.{ℕ, ◌≡◌, ◌+◌, ◌-◌, ◌*◌, ◌<◌, List, Bool, true, false, Option, Some, None, length}
+use Rattle.std.specs.Prelude.{ℕ, ◌≡◌, ◌≢◌, ◌⊎◌, ◌+◌, ◌-◌, ◌*◌, ◌<◌, List, [], Bool, true, false, Option, Some, None}
+use Rattle.std.specs.Prelude.{length, slice_get}
 use Rattle.std.specs.List.{list_any}
 use Rattle.fish_disk.specs.declared.disk.Disk.{Ghosts as Disks}
 use Rattle.fish_feed.specs.Queues.{AreIdle}
@@ -30,6 +31,11 @@ says_full x = false
 -- no item of a lane does
 abbrev pub FindNoneFull : List Lane → Type 0
 FindNoneFull lanes = EachLane (λ i x. list_any says_full x.items ≡ false) lanes
+
+-- a lane hands statements back, or tells so
+abbrev pub AsksMore : List Lane → Type 0
+AsksMore lanes = (i : ℕ) × (x : Lane) × (slice_get lanes i ≡ Some x)
+    × ((x.left ≢ []) ⊎ (list_any says_full x.items ≡ true))
 
 -- ---- a round
 

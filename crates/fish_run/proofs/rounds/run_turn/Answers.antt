@@ -1,16 +1,19 @@
 -- A round ran: the lanes go on, in the same table or in a new one, or a fault stopped them.
-use Rattle.std.proofs.Common.{◌≡◌, ◌≢◌, ◌&&◌, ◌≤◌, ◌⊎◌, ℕ, List, Bool, true, inl, inr, subst, ⊎_elim, arith}
+use Rattle.std.proofs.Common.{◌≡◌, ◌≢◌, ◌&&◌, ◌<◌, ◌≤◌, ◌⊎◌, ℕ, List, Bool, true, inl, inr, sym, ap, ◌∙◌, subst, ⊎_elim, arith}
 use Rattle.std.specs.Prelude.{nat_lt}
 use Rattle.fish_lanes.specs.Outcome.{IsFullIn}
 use Rattle.fish_lanes.specs.declared.lane.Lane.{Lane}
 use Rattle.fish_outside.specs.Causes.{Rose}
+use Rattle.fish_rule.specs.Passes.{view}
+use Rattle.fish_rule.specs.declared.table.Log.{Log}
 use Rattle.fish_rule.specs.declared.view.Key.{Key}
 use Rattle.fish_run.proofs.Blocks.{block_rows}
 use Rattle.fish_run.proofs.Faults.{commit_no_output, commit_other, first_no_input, first_no_output, lane_rose}
 use Rattle.fish_run.proofs.Going.{err_known}
 use Rattle.fish_run.proofs.Room.{near_limits}
 use Rattle.fish_run.proofs.Rounding.{and_false, ends_rounds, goes_more, renewed_go, stops_cut, stops_roll, stops_then}
-use Rattle.fish_run.proofs.Stepping.{above_base, asked_for, fewer_tables, idle_next, kept_pairs, lanes_next}
+use Rattle.fish_run.proofs.Tables.{IsSomeFull, more_full}
+use Rattle.fish_run.proofs.Stepping.{above_base, and_true, asked_for, fewer_tables, idle_next, kept_pairs, lanes_next}
 use Rattle.fish_run.specs.within.Going.{HasStepped}
 use Rattle.fish_run.specs.within.Turning.{StopsTurn}
 use Rattle.fish_run.specs.within.Runs.{Behind, CanGoOn}
@@ -102,12 +105,22 @@ returns-in-Ok-step_all-clause-on g c =
     let rises = b.ensures.store.ends.above in
     let about = (e.go whole).can.of.about in
     let least : b.new.store.log.key.number ≤ b.result.to = subst (λ (k : Key). k.number ≤ b.result.to) about rises in
-    let asked : (line lines end : ℕ) → IsFullIn b.new.lanes line lines end → (fresh ≡ true) ⊎ IsNearLimits b.result.to end
+    let before : b.new.store.log.key.number ≡ (view a.start.store.pass).about.number =
+    ap (λ (l : Log). l.key.number) e.store.log ∙ ap (λ (k : Key). k.number) (sym c.requires.go.can.of.about) in
+    let asked : (line lines end : ℕ) → IsFullIn b.new.lanes line lines end
+    → (fresh ≡ true) ⊎ ((b.result.to ≡ (view a.start.store.pass).about.number) × IsNearLimits b.result.to end)
     = λ line lines end full.
-    ⊎_elim (λ (new : fresh ≡ true). inl new) (λ (same : b.new.store.log.key.number ≡ b.result.to). inr
-    (near_limits disk.images b.new.disk b.new.store b.result.to (e.go whole) b.new.lanes e.leaves.marks same line lines end full))
+    ⊎_elim (λ (new : fresh ≡ true). inl new) (λ (same : b.new.store.log.key.number ≡ b.result.to). inr (
+      sym same ∙ before,
+      near_limits disk.images b.new.disk b.new.store b.result.to (e.go whole) b.new.lanes e.leaves.marks same line lines end full,
+    ))
     (asked_for c.base.result.number b.result.to b.new.store.log.key.number more c.base.ensures.0 least b.new.lanes
     c.go_on-more.ensures.full line lines end full) in
+    let needed : fresh ≡ true → ((view a.start.store.pass).about.number < b.result.to) × IsSomeFull b.new.lanes = λ new. (
+      subst (λ (z : ℕ). z < b.result.to) before (above new),
+      more_full (view a.start.store.pass) (view b.new.store.pass) b.new.lanes e.lanes.left
+          (c.go_on-more.ensures.asks (and_true more (nat_lt c.base.result.number b.result.to) new)),
+    ) in
     record {
       go = go;
       lanes_are = lanes_next a.lanes.now b.new.lanes c.requires.lanes (kept_pairs a.lanes.now b.new.lanes b.auto.lanes e.lanes.kept) fresh
@@ -132,7 +145,7 @@ returns-in-Ok-step_all-clause-on g c =
           e.lanes.kept e.store.log e.store.goes e.store.later e.store.ends
           (block_rows disk a.disk.now a.start.store b.new.disk b.new.store b.new.lanes b.result e.store e.leaves.some)
           e.leaves whole e.close
-          fresh c.renew.new.disk c.in_ok-next.next c.in_ok-next.ensures.next above c.step_all.new.lanes c.step_all.new.said h asked;
+          fresh c.renew.new.disk c.in_ok-next.next c.in_ok-next.ensures.next above c.step_all.new.lanes c.step_all.new.said h asked needed;
       ends = λ last d s from now given ready.
           ends_rounds disk d s from a.disk.now a.start a.lanes.now a.said.now now
           given ready
@@ -140,7 +153,7 @@ returns-in-Ok-step_all-clause-on g c =
           e.lanes.kept e.store.log e.store.goes e.store.later e.store.ends
           (block_rows disk a.disk.now a.start.store b.new.disk b.new.store b.new.lanes b.result e.store e.leaves.some)
           e.leaves whole e.close
-          fresh c.renew.new.disk c.in_ok-next.next c.in_ok-next.ensures.next above c.step_all.new.lanes c.step_all.new.said h asked
+          fresh c.renew.new.disk c.in_ok-next.next c.in_ok-next.ensures.next above c.step_all.new.lanes c.step_all.new.said h asked needed
           (and_false more (nat_lt c.base.result.number b.result.to) last) (c.go_on-more.ensures.done last) go;
     }
 
