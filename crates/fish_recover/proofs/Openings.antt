@@ -1,7 +1,7 @@
 -- What is open stands for the log for which the disk stood.
 use Rattle.std.proofs.Common.{◌≡◌, ℕ, ◌≤◌, List, [], ◌∷◌, Bool, false, true, length, refl, ap, sym, subst, ◌∙◌, arith}
 use Rattle.std.proofs.lemmas.Option.{same_Some}
-use Rattle.std.specs.Prelude.{Option, Some, None, IfSome, IsSome}
+use Rattle.std.specs.Prelude.{Option, Some, None, IfErr, IfSome, IsSome, Result}
 use Rattle.fish_catalog.specs.declared.commit.Commit.{Commit}
 use Rattle.fish_catalog.specs.declared.entry.Entry.{Entry}
 use Rattle.fish_disk.proofs.Moments.{leaves_more, leaves_then}
@@ -14,12 +14,14 @@ use Rattle.fish_slots.proofs.Commits.{one_commit}
 use Rattle.fish_slots.specs.Commits.{Counts, HasCommit}
 use Rattle.fish_recover.proofs.Closings.{body_long}
 use Rattle.fish_recover.proofs.Keepings.{KeptIn, kept_stands, stands_whole}
-use Rattle.fish_recover.specs.Opening.{IsFound}
+use Rattle.fish_recover.proofs.Refusals.{err_then}
+use Rattle.fish_recover.specs.Opening.{IsFound, IsOfStore}
 use Rattle.fish_recover.specs.within.Resting.{AreStored}
 use Rattle.fish_recover.specs.Stores.{HasOpened, IsOf, IsOpened, asked_shape}
 use Rattle.fish_recover.specs.declared.finding.Found.{Found}
 use Rattle.fish_recover.specs.declared.opened.Opened.{Opened}
 use Rattle.fish_recover.specs.declared.refusal.Asked.{Asked}
+use Rattle.fish_recover.specs.declared.refusal.OpenRefusal.{OpenRefusal}
 
 -- ---- what is told
 
@@ -127,6 +129,17 @@ module _ {D : Type 0} (images : D → List ℕ → Type 0) (since : D → ℕ �
   opening_leaves x asked f old mid new all reads found synced steps =
       kept_leaves old mid new (read_leaves old mid all reads)
       (steps h.body h.lines (stands_stored x asked f (images mid) i c log h found synced (λ e here. all e (reads.now e here))))
+
+-- what a crash left over a refusal by which the file isn't a store, it left over a step before it too
+pub refusal_leaves : {T D : Type 0} (images : D → List ℕ → Type 0) (since : D → ℕ → List ℕ → Type 0) (moment : D → ℕ)
+    (old mid new : D) (r : Result T OpenRefusal) → LeavesOnly images since moment old mid (images old)
+    → IfErr r (λ e. IsOfStore e → LeavesOnly images since moment mid new (images mid))
+    → IfErr r (λ e. IsOfStore e → LeavesOnly images since moment old new (images old))
+refusal_leaves images since moment old mid new r first second =
+    err_then r (λ e. IsOfStore e → LeavesOnly images since moment mid new (images mid))
+    (λ e. IsOfStore e → LeavesOnly images since moment old new (images old)) second
+    (λ e leaves s. leaves_then images since moment old mid new (images old) first
+    (leaves_more images since moment mid new (images mid) (images old) first.now (leaves s)))
 
 -- ---- what is open
 

@@ -4,11 +4,10 @@ use Rattle.std.specs.Prelude.{Some}
 use Rattle.std.proofs.lemmas.Option.{IfSome_then}
 use Rattle.fish_disk.proofs.Moments.{leaves_each, leaves_more, leaves_then}
 use Rattle.fish_disk.specs.Content.{StillReads}
-use Rattle.fish_disk.specs.Crash.{LeavesOnly}
 use Rattle.fish_image.specs.Stands.{Stands}
 use Rattle.fish_slots.proofs.Keeping.{on_ok}
 use Rattle.fish_recover.proofs.Feeding.{any_holds}
-use Rattle.fish_recover.proofs.Openings.{earlier_opened, still_one}
+use Rattle.fish_recover.proofs.Openings.{earlier_opened, refusal_leaves, still_one}
 use Rattle.fish_recover.proofs.Refusals.{err_is, err_ok, err_on, err_then, later_cause, ok_then, outside_not, outside_store}
 use Rattle.fish_recover.proofs.Slots.{still_then}
 use Rattle.fish_recover.specs.Opening.{IsOfStore}
@@ -111,14 +110,8 @@ returns-clause-reads g c =
 pub returns-clause-leaves : goal.returns-clause-leaves
 returns-clause-leaves g c =
     let disk = g.D.Disk in
-    let old = c.args.disk.now in
-    let mid = c.sync.new.self in
-    let new = c.open_synced.new.disk in
-    err_then c.open_synced.result
-    (λ e. IsOfStore e → LeavesOnly disk.images disk.since disk.moment mid new (disk.images mid))
-    (λ e. IsOfStore e → LeavesOnly disk.images disk.since disk.moment old new (disk.images old)) c.open_synced.ensures.leaves
-    (λ e leaves. λ s. leaves_then disk.images disk.since disk.moment old mid new (disk.images old) c.sync.ensures.crash
-    (leaves_more disk.images disk.since disk.moment mid new (disk.images mid) (disk.images old) c.sync.ensures.crash.now (leaves s)))
+    refusal_leaves disk.images disk.since disk.moment c.args.disk.now c.sync.new.self c.open_synced.new.disk c.open_synced.result
+    c.sync.ensures.crash c.open_synced.ensures.leaves
 
 pub returns-clause-cause : goal.returns-clause-cause
 returns-clause-cause g c =

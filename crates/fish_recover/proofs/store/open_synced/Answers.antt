@@ -5,11 +5,11 @@ use Rattle.std.proofs.lemmas.Option.{IfSome_then}
 use Rattle.fish_disk.proofs.Moments.{leaves_more, leaves_then}
 use Rattle.fish_disk.proofs.Regions.{told_at}
 use Rattle.fish_disk.specs.Content.{StillReads}
-use Rattle.fish_disk.specs.Crash.{LeavesOnly}
 use Rattle.fish_flush.specs.Kept.{first_commit}
 use Rattle.fish_image.specs.Stands.{Stands}
 use Rattle.fish_recover.proofs.Feeding.{any_holds}
-use Rattle.fish_recover.proofs.Openings.{earlier_opened, empty_told, made_opened, not_empty, read_leaves, still_synced, told_before}
+use Rattle.fish_recover.proofs.Openings.{earlier_opened, empty_told, made_opened, not_empty, read_leaves, refusal_leaves}
+use Rattle.fish_recover.proofs.Openings.{still_synced, told_before}
 use Rattle.fish_recover.proofs.Refusals.{err_both, err_is, err_ok, err_then, later_cause, ok_both, ok_then, outside_not, outside_store}
 use Rattle.fish_recover.proofs.Refusals.{store_cause}
 use Rattle.fish_recover.proofs.Slots.{still_then}
@@ -172,14 +172,8 @@ returns-else-size-eq0-clause-reads g c =
 pub returns-else-size-eq0-clause-leaves : goal.returns-else-size-eq0-clause-leaves
 returns-else-size-eq0-clause-leaves g c =
     let disk = g.D.Disk in
-    let old = c.args.disk.now in
-    let mid = c.length.new.self in
-    let new = c.open_kept.new.disk in
-    err_then c.open_kept.result
-    (λ e. IsOfStore e → LeavesOnly disk.images disk.since disk.moment mid new (disk.images mid))
-    (λ e. IsOfStore e → LeavesOnly disk.images disk.since disk.moment old new (disk.images old)) c.open_kept.ensures.leaves
-    (λ e leaves. λ s. leaves_then disk.images disk.since disk.moment old mid new (disk.images old) c.length.ensures.crash
-    (leaves_more disk.images disk.since disk.moment mid new (disk.images mid) (disk.images old) c.length.ensures.crash.now (leaves s)))
+    refusal_leaves disk.images disk.since disk.moment c.args.disk.now c.length.new.self c.open_kept.new.disk c.open_kept.result
+    c.length.ensures.crash c.open_kept.ensures.leaves
 
 pub returns-else-size-eq0-clause-cause : goal.returns-else-size-eq0-clause-cause
 returns-else-size-eq0-clause-cause g c =
