@@ -9,7 +9,8 @@ use Rattle.fish_lanes.proofs.Gaining.{gains_reads}
 use Rattle.fish_lanes.proofs.Lists.{all_more}
 use Rattle.fish_lanes.specs.CommitRows.{is_checkpoint}
 use Rattle.fish_lanes.specs.Controlling.{CanControl, IsCommitted}
-use Rattle.fish_lanes.specs.within.Controlling.{HasPolled, IsPartControlled}
+use Rattle.fish_lanes.specs.within.Controlled.{IsPartControlled}
+use Rattle.fish_lanes.specs.within.Controlling.{HasPolled}
 use Rattle.fish_lanes.specs.within.Doing.{FitsCheckpoint, IsFit, IsItem}
 use Rattle.fish_lanes.specs.within.Pasts.{anywhere}
 use Rattle.fish_lanes.specs.within.Registering.{KeepsRegistry}

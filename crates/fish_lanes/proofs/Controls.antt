@@ -14,7 +14,8 @@ use Rattle.fish_lanes.proofs.Registrations.{after_more, registry_later}
 use Rattle.fish_lanes.proofs.Showing.{fit_answer}
 use Rattle.fish_lanes.proofs.Gaining.{alone_gains}
 use Rattle.fish_lanes.proofs.Single.{fit_closed, fit_single, none_there, only_fewer, only_last, only_later, some_there}
-use Rattle.fish_lanes.specs.within.Controlling.{Does, HasControlled, HasPolled, IsControlled, IsPartControlled, RollsBy, SaysTail}
+use Rattle.fish_lanes.specs.within.Controlled.{HasControlled, IsControlled, IsPartControlled}
+use Rattle.fish_lanes.specs.within.Controlling.{Does, HasPolled, RollsBy, SaysTail, TellsStep}
 use Rattle.fish_lanes.specs.within.Doing.{GainsFirst, IsFit, IsItem, IsPart}
 use Rattle.fish_lanes.specs.Ending.{HasEnd}
 use Rattle.fish_lanes.specs.within.Gains.{Gains}
@@ -217,12 +218,12 @@ pub held_done : {Past : Whole → Type 0} (v : View) (r : Registrar) (u : View) 
     → IsControlled Past u s t q w x → Held Past v r t q (works ++ w ∷ []) (items ++ x ∷ [])
 held_done {Past} v r u s t q works items w x stood stands began known knows now h c =
     let made : t.learned.version ≡ u.learned.version + made_by x =
-    ap (λ (z : Registry). z.version) c.does.is ∙ after_load_version (registry_of u s) x in
-    held_item v r u s t q works (works ++ w ∷ []) items x h h.told.gains.on.learns c.gains.on.learns c.does
+    ap (λ (z : Registry). z.version) c.tells.does.is ∙ after_load_version (registry_of u s) x in
+    held_item v r u s t q works (works ++ w ∷ []) items x h h.told.gains.on.learns c.gains.on.learns c.tells.does
     (subst (HasAnswered Past v t (works ++ w ∷ [])) (sym (answers_more items x (fit_answer Past u t w x c.fit)))
-    (told_more v u t works (answers items) w x c.rows h.told c.gains c.first c.fit (inr (registry_of u s, c.does.so)) c.shuts
+    (told_more v u t works (answers items) w x c.rows h.told c.gains c.first c.fit (inr (registry_of u s, c.tells.does.so)) c.shuts
     (omega arith)))
-    (λ alone. c.none (alone_gains v u h.told.rows h.told.gains alone))
+    (λ alone. c.tells.closed (alone_gains v u h.told.rows h.told.gains alone))
     (λ none wait. absurd (some_there works w [] none))
     (λ end e wait one is.
     let first = only_last works w [] one is in
@@ -232,12 +233,12 @@ held_done {Past} v r u s t q works items w x stood stands began known knows now 
     (bounds_read v r began) known
     (λ free.
     let registry : registry_of t q ≡ start =
-    c.does.is ∙ free_after Past u t w x (registry_of u s) (subst IsFree (sym first.1) free) c.fit ∙ h.is
+    c.tells.does.is ∙ free_after Past u t w x (registry_of u s) (subst IsFree (sym first.1) free) c.fit ∙ h.is
     ∙ ap (after_all start) (h.still first.0 wait).2 in (
       subst (λ (z : Registry). AreBoundsIn t z.rows) registry (bounds_in t q stands now),
       ap (λ (z : Registry). z.version) registry,
     ))
-    (subst (λ (z : View). SaysTail z x) same (c.tail (subst IsAlone (sym same) e.alone)))
+    (subst (λ (z : View). SaysTail z x) same (c.tells.tail (subst IsAlone (sym same) e.alone)))
     (subst (λ (z : View × Work). IsFit Past z.0 t z.1 x) (λ i. (same i, first.1 i)) c.fit) in
     subst (AllOf (SaysSingle Past v t r.catalog end one)) (sym (answers_more items x (fit_answer Past u t w x c.fit)
     ∙ ap (λ (z : List Item). z ++ x ∷ []) (none_there (answers items) works h.told.size first.0))) (told, tt))
@@ -376,20 +377,17 @@ take_nothing_first w = refl
 
 -- one on definitions
 pub control_done : (Past : Whole → Type 0) {E : Type 0} (v : View) (s : Registrar) (t : View) (q : Registrar) (w : Work) (r : Result Item E)
-    → content_of w ≡ [] → Gains v t [] → t.shut ≡ v.shut → (IsAlone v → IfOk r NamesNone) → (IsAlone v → IfOk r (SaysTail v))
-    → IfOk r (RollsBy v t) → IfOk r (IsFit Past v t w) → IfOk r (Does v s t q) → IfOk r (IsControlled Past v s t q w)
-control_done Past v s t q w (Ok x) none g same names tail rolls fit does = record {
+    → content_of w ≡ [] → Gains v t [] → t.shut ≡ v.shut → IfOk r (TellsStep v s t q) → IfOk r (IsFit Past v t w)
+    → IfOk r (IsControlled Past v s t q w)
+control_done Past v s t q w (Ok x) none g same tells fit = record {
   rows = [];
   gains = g;
   first = take_nothing (count_of x) w none;
   fit = fit;
   shuts = λ c e. inl (sym same ∙ e);
-  none = names;
-  tail = tail;
-  rolls = rolls;
-  does = does;
+  tells = tells;
 }
-control_done Past v s t q w (Err e) none g same names tail rolls fit does = tt
+control_done Past v s t q w (Err e) none g same tells fit = tt
 
 pub control_part : {E : Type 0} (v t : View) (w : Work) (r : Result Item E) → content_of w ≡ [] → Gains v t []
     → IfErr r (λ _. IsPartControlled v t w)
@@ -406,10 +404,12 @@ free_done Past v s t w (Ok x) free learns same item = record {
   first = item.gained.first;
   fit = item.fit;
   shuts = item.shuts;
-  none = λ alone. fit_closed Past v t w x free alone item.fit;
-  tail = λ alone. free_tail Past v t w x free item.fit;
-  rolls = free_rolls Past v t w x free item.fit;
-  does = free_does Past v t s w x free item.fit learns same;
+  tells = record {
+    closed = λ alone. fit_closed Past v t w x free alone item.fit;
+    tail = λ alone. free_tail Past v t w x free item.fit;
+    rolls = free_rolls Past v t w x free item.fit;
+    does = free_does Past v t s w x free item.fit learns same;
+  };
 }
 free_done Past v s t w (Err e) free learns same item = tt
 

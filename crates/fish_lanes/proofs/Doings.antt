@@ -1,7 +1,7 @@
 -- What a registration, the end of one and a refusal do, as their items tell it.
 use Rattle.std.proofs.Common.{◌≡◌, ◌↔◌, ℕ, ◌<◌, ◌≤◌, List, length, sym, ap, ◌∙◌, subst, inl, inr, arith}
 use Rattle.std.proofs.Common.{Some, None, Result, Ok, Err, count_by}
-use Rattle.std.specs.Prelude.{IfOk}
+use Rattle.std.specs.Prelude.{IfErr, IfOk}
 use Rattle.std.proofs.lemmas.Option.{same_Some}
 use Rattle.std.proofs.Math.Decide.{dec_lt}
 use Rattle.fish_catalog.specs.Limits.{most_active}
@@ -33,6 +33,11 @@ use Rattle.fish_rule.specs.declared.view.View.{View}
 pub ok_then : {A E : Type 0} {P Q : A → Type 0} (r : Result A E) → ((a : A) → P a → Q a) → IfOk r P → IfOk r Q
 ok_then (Ok a) f p = f a p
 ok_then (Err e) f p = tt
+
+-- and so it does of an error
+pub err_then : {A E : Type 0} {P Q : E → Type 0} (r : Result A E) → ((e : E) → P e → Q e) → IfErr r P → IfErr r Q
+err_then (Ok a) f p = tt
+err_then (Err e) f p = f e p
 
 -- a result isn't both
 ok_or_err : {A E : Type 0} (r : Result A E) (a : A) (e : E) → r ≡ Ok a → r ≡ Err e → ⊥

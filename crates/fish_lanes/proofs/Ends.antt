@@ -11,7 +11,8 @@ use Rattle.fish_lanes.proofs.Pending.{found_within}
 use Rattle.fish_lanes.proofs.Registrations.{after_more, knows_kept, registry_later, registry_same}
 use Rattle.fish_lanes.specs.Blocks.{HasRegistered, IsBlockSpan}
 use Rattle.fish_lanes.specs.within.Blocks.{HasGiven, HasTakenAll}
-use Rattle.fish_lanes.specs.within.Controlling.{HasControlled, IsFound}
+use Rattle.fish_lanes.specs.within.Controlled.{HasControlled}
+use Rattle.fish_lanes.specs.within.Controlling.{IsFound}
 use Rattle.fish_lanes.specs.within.Course.{HasFoundEnd, HasRunLanes}
 use Rattle.fish_lanes.specs.Pending.{AreFound}
 use Rattle.fish_lanes.specs.Registering.{ItemsFit, ItemFits, KnowsEach, KnowsRegistry, Registry, after, after_all, registry_of, waiting_id}

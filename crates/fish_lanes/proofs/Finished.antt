@@ -117,38 +117,33 @@ cause_before first before now fault.Disk le h = (let rose = h in omega arith)
 cause_before first before now (fault.Damaged n) le h = tt
 
 -- so a lane that stopped stops
-pub stops_later : (P Q : Whole → Type 0) (before now then : ℕ) (x : Lane) → now ≤ then → ((past : Whole) → Q past → P past)
-    → Stops P before now x → Stops Q before then x
-stops_later P Q before now then x le fewer h = record {
+pub stops_later : (P Q : Whole → Type 0) (before now then : ℕ) (why : LaneFault) → now ≤ then → ((past : Whole) → Q past → P past)
+    → Stops P before now why → Stops Q before then why
+stops_later P Q before now then why le fewer h = record {
   later = (let first = h.later in omega arith);
-  cause = cause_later before now then x.fault le h.cause;
+  cause = cause_later before now then why le h.cause;
   whole = λ past behind. h.whole past (fewer past behind);
 }
 
 -- since an earlier moment too
-pub stops_before : (Past : Whole → Type 0) (first before now : ℕ) (x : Lane) → first ≤ before → Stops Past before now x
-    → Stops Past first now x
-stops_before Past first before now x le h = record {
+pub stops_before : (Past : Whole → Type 0) (first before now : ℕ) (why : LaneFault) → first ≤ before → Stops Past before now why
+    → Stops Past first now why
+stops_before Past first before now why le h = record {
   later = (let later = h.later in omega arith);
-  cause = cause_before first before now x.fault le h.cause;
+  cause = cause_before first before now why le h.cause;
   whole = h.whole;
 }
 
 -- a lane stops where its fault is that of one that does
-pub stops_fault : (Past : Whole → Type 0) (before now : ℕ) (x y : Lane) → y.fault ≡ x.fault → Stops Past before now x
-    → Stops Past before now y
-stops_fault Past before now x y same h = record {
-  later = h.later;
-  cause = subst (HasCause before now) (sym same) h.cause;
-  whole = λ past behind. subst IsUndamaged (sym same) (h.whole past behind);
-}
+pub stops_fault : (Past : Whole → Type 0) (before now : ℕ) (a b : LaneFault) → b ≡ a → Stops Past before now a → Stops Past before now b
+stops_fault Past before now a b same h = subst (Stops Past before now) (sym same) h
 
 -- without its disk a lane stops for no cause of it
-pub short_stops : (Past : Whole → Type 0) (before now : ℕ) (x : Lane) → before ≤ now → IsShort x.fault → Stops Past before now x
-short_stops Past before now x le short = record {
+pub short_stops : (Past : Whole → Type 0) (before now : ℕ) (why : LaneFault) → before ≤ now → IsShort why → Stops Past before now why
+short_stops Past before now why le short = record {
   later = le;
-  cause = ⊎_elim (λ (none : x.fault ≡ fault.None). subst (HasCause before now) (sym none) tt)
-      (λ (memory : x.fault ≡ fault.Memory). subst (HasCause before now) (sym memory) tt) short;
-  whole = λ past behind. ⊎_elim (λ (none : x.fault ≡ fault.None). subst IsUndamaged (sym none) tt)
-      (λ (memory : x.fault ≡ fault.Memory). subst IsUndamaged (sym memory) tt) short;
+  cause = ⊎_elim (λ (none : why ≡ fault.None). subst (HasCause before now) (sym none) tt)
+      (λ (memory : why ≡ fault.Memory). subst (HasCause before now) (sym memory) tt) short;
+  whole = λ past behind. ⊎_elim (λ (none : why ≡ fault.None). subst IsUndamaged (sym none) tt)
+      (λ (memory : why ≡ fault.Memory). subst IsUndamaged (sym memory) tt) short;
 }

@@ -33,6 +33,7 @@ use Rattle.fish_scan.specs.declared.ask.Explained.{Explained}
 use Rattle.fish_scan.specs.declared.refusal.ScanRefusal.{ScanRefusal}
 use Rattle.fish_scan.specs.declared.refusal.ScanRefusal.TheVariants as refusal
 use Rattle.fish_whole.specs.Whole.{Whole}
+use Rattle.fish_rule.specs.Views.{Among}
 
 -- ---- refusals
 
@@ -172,6 +173,13 @@ planned_fits v u known ask explained version (Ok x) h at made = inl (record {
   is = made;
   fits = record { known = known; version_is = at; opens = h.0; explained = h.1 };
 })
+
+-- a range was planned, and no number below the table is open
+pub explained_ok : {E : Type 0} (v u : View) (known : Known) (ask : Ask) (r : Result Answer E)
+    → IfOk r (λ a. IsExplained v u known ask a.from a.to a.opens a.plan)
+    → IfOk r (λ a. (n : ℕ) → Among n a.opens → u.about.number ≤ n) → IfOk r (IsExplainedAnswer v u known ask)
+explained_ok v u known ask (Err e) explained opened = tt
+explained_ok v u known ask (Ok a) explained opened = record { explained = explained; opened = opened }
 
 -- a scan on both sides of the base answered after what the disk has before the table
 pub here_ok : {E : Type 0} (content : Option (List ℕ)) (k : Key) (cold : Cold) (v u : View) (known : Known) (ask : Ask)

@@ -1,10 +1,9 @@
 -- How the rows of the catalogue go on from a commit, over steps on the definitions.
-use Rattle.std.proofs.Common.{◌≡◌, ℕ, ◌≤◌, List, arith, subst, sym}
+use Rattle.std.proofs.Common.{◌≡◌, ℕ, ◌≤◌, List, arith}
 use Rattle.fish_catalog.specs.Closing.{with_to}
 use Rattle.fish_catalog.specs.Rows.{IsActiveNamed}
 use Rattle.fish_catalog.specs.declared.row.CatRow.{CatRow}
 use Rattle.fish_flush.proofs.Lasting.{grown_begins, grown_ends, grown_polls}
-use Rattle.fish_flush.specs.Rows.{HaveGrown}
 use Rattle.fish_lang.specs.declared.definition.Def.{Def}
 use Rattle.fish_registry.specs.Changing.{Changes}
 use Rattle.fish_registry.specs.Refusing.{HasBegun, PollSays}
@@ -32,7 +31,3 @@ rows_ended v r s name id to active is n old le grown = grown_ends n old r s name
 pub rows_both : (v u : View) (a b c : List CatRow) → v.learned.count ≤ u.learned.count → RowsGoOn v a b → RowsGoOn u b c
     → RowsGoOn v a c
 rows_both v u a b c more h g n old le grown = g n old (omega arith) (h n old le grown)
-
--- a refusal
-pub rows_same : (v : View) (a b : List CatRow) → b ≡ a → RowsGoOn v a b
-rows_same v a b same n old le grown = subst (HaveGrown n old) (sym same) grown

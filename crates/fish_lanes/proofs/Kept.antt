@@ -11,7 +11,7 @@ use Rattle.fish_lanes.proofs.Saying.{said_cut}
 use Rattle.fish_lanes.proofs.Single.{none_there, only_last}
 use Rattle.fish_lanes.specs.within.Advancing.{IsOn, IsSoFar}
 use Rattle.fish_lanes.specs.Causes.{HasCause, IsUndamaged}
-use Rattle.fish_lanes.specs.within.Controlling.{HasControlled}
+use Rattle.fish_lanes.specs.within.Controlled.{HasControlled}
 use Rattle.fish_lanes.specs.within.Full.{IsHandedBack, StopsFull, SaysLast, done_of}
 use Rattle.fish_lanes.specs.Gains.{WasShut}
 use Rattle.fish_lanes.specs.Plans.{KnowsRows}

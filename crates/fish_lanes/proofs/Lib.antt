@@ -27,12 +27,13 @@ pub mod Kept
 pub mod Lanes
 pub mod Leaving
 pub mod Lists
+pub mod Looking
 pub mod Moments
 pub mod Pages
+pub mod Parts
 pub mod Pending
 pub mod Plans
 pub mod Publishing
-pub mod Parts
 pub mod Registrations
 pub mod RowLists
 pub mod Saying
@@ -40,6 +41,8 @@ pub mod Showing
 pub mod Single
 pub mod SoFar
 pub mod Stepping
+pub mod Steps
 pub mod Storing
 pub mod Surely
+pub mod Turn
 pub mod Versions

@@ -1,15 +1,18 @@
 -- Reading pages of a file, and what it had before the table.
-use Rattle.std.proofs.Common.{◌≡◌, ℕ, List, Option, Some, None, sym, ap, ◌∙◌, subst}
+use Rattle.std.proofs.Common.{◌≡◌, ℕ, List, Option, Some, None, refl, sym, ap, ◌∙◌, subst}
 use Rattle.std.specs.Prelude.{IsSome}
 use Rattle.fish_cold.specs.declared.cold.Cold.{Cold}
 use Rattle.fish_disk.specs.Content.{StillReads}
 use Rattle.fish_disk.specs.declared.disk.Disk.{Ghosts as Disks}
 use Rattle.fish_image.specs.Reached.{Reached}
-use Rattle.fish_lanes.specs.within.Pasts.{IsHere}
+use Rattle.fish_lanes.specs.within.Parts.{OnlyReads}
+use Rattle.fish_lanes.specs.within.Pasts.{IsHere, WasHere}
 use Rattle.fish_rule.specs.declared.view.Key.{Key}
 use Rattle.fish_scan.proofs.Carrying.{carried_last, stays_both, stays_none}
+use Rattle.fish_scan.specs.Colder.{IsBelow}
 use Rattle.fish_store.proofs.Running.{on_table, told_still}
 use Rattle.fish_store.specs.Sound.{ReadsPages}
+use Rattle.fish_store.specs.declared.file.StoreFile.{StoreFile}
 use Rattle.fish_whole.specs.Whole.{Whole}
 
 -- what is still read is the same
@@ -48,3 +51,30 @@ module _ {D : Type 0} (disks : Disks D) (k : Key) where
   here_on a b d e past h some was =
       let t = on_table (disks.content d) (disks.content e) k a b was.table h.cold.content_is some (h.kept was.table) in
       record { table = t.0; entries = ap (λ (z : Reached). z.entries) t.1 ∙ was.entries }
+
+  -- ---- with what is kept of the last commit
+
+  -- nothing was read
+  pub reads_none : (disk : D) (file : StoreFile) → IsBelow k file.cold → OnlyReads disks k disk file disk file
+  reads_none disk file below = record { below = below; flusher = refl; pages = pages_none file.cold disk }
+
+  -- something was, and then something else
+  module _ {first mid now : D} {file read after : StoreFile} (a : OnlyReads disks k first file mid read)
+      (b : OnlyReads disks k mid read now after) where
+    pub reads_both : OnlyReads disks k first file now after
+    reads_both = record {
+      below = b.below;
+      flusher = b.flusher ∙ a.flusher;
+      pages = pages_both file.cold read.cold after.cold first mid now a.pages b.pages;
+    }
+
+    -- what is told at the end was told in between
+    pub reads_told : IsSome (disks.content now) → IsSome (disks.content mid)
+    reads_told = pages_told read.cold after.cold mid now b.pages
+
+    -- what the disk had before the table at the start, it has there at the end, as far as it is told then
+    pub reads_here : (later : Option (List ℕ)) → (IsSome later → IsSome (disks.content now)) → (past : Whole)
+        → WasHere (disks.content first) k file.cold later past → IsHere (disks.content now) k read.cold past
+    reads_here later still past was =
+        here_same (disks.content mid) (disks.content now) k read.cold past b.pages.cold.content_is (still was.told)
+        (here_on file.cold read.cold first mid past a.pages (reads_told (still was.told)) was.here)

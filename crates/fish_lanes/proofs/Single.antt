@@ -10,12 +10,12 @@ use Rattle.fish_epoch.proofs.Reading.{knows_later}
 use Rattle.fish_epoch.specs.Definitions.{rows_of, version_of}
 use Rattle.fish_epoch.specs.declared.definitions.Known.{Known}
 use Rattle.fish_lanes.proofs.Covering.{cover_by}
-use Rattle.fish_lanes.specs.within.Controlling.{RollsBy, SaysTail}
+use Rattle.fish_lanes.specs.within.Controlling.{SaysTail}
 use Rattle.fish_lanes.specs.within.Doing.{FitsExplained, FitsRefused, FitsScanned, IsFit, IsRefusedAt}
 use Rattle.fish_lanes.specs.Ending.{HasEnd}
 use Rattle.fish_lanes.specs.Loading.{LoadsAcross, LoadsInTable, LoadsWithin}
 use Rattle.fish_lanes.specs.within.Plans.{AreBoundsIn, AreReadBounds}
-use Rattle.fish_lanes.specs.Registering.{IsDeregisterItem, KnowsRegistry, Registry}
+use Rattle.fish_lanes.specs.Registering.{KnowsRegistry, Registry}
 use Rattle.fish_lanes.specs.within.Running.{IsFree}
 use Rattle.fish_lanes.specs.Single.{IsBoundaryAt, IsCauseAt, IsCauseSaid, IsCoverOf, IsPlanFor, IsPlanSaid, IsReadBy, IsScanWork}
 use Rattle.fish_lanes.specs.Single.{IsWhole, NamesNone, SaysOnly, SaysSingle, SaysWhole}
@@ -375,18 +375,6 @@ fit_closed Past v u (work.Scan ask) x free a (inr f) = subst NamesNone (sym f.is
 fit_closed Past v u (work.Explain ask) x free a (inl f) = subst NamesNone (sym f.is) tt
 fit_closed Past v u (work.Explain ask) x free a (inr f) = subst NamesNone (sym f.is) tt
 fit_closed Past v u work.Checkpoint x free a f = subst NamesNone (sym f.is) tt
-
--- nor does the item of the end of a definition
-pub end_closed : {E : Type 0} (name : List ℕ) (r : Result Item E) → IfOk r (IsDeregisterItem name) → IfOk r NamesNone
-end_closed name (Ok x) (inl f) = subst NamesNone (sym f.2) tt
-end_closed name (Ok x) (inr f) = subst NamesNone (sym f.1) tt
-end_closed name (Err e) f = tt
-
--- nor of a registration that waits
-pub end_rolls : {E : Type 0} (v t : View) (name : List ℕ) (r : Result Item E) → IfOk r (IsDeregisterItem name) → IfOk r (RollsBy v t)
-end_rolls v t name (Ok x) (inl f) = subst (RollsBy v t) (sym f.2) tt
-end_rolls v t name (Ok x) (inr f) = subst (RollsBy v t) (sym f.1) tt
-end_rolls v t name (Err e) f = tt
 
 -- ---- lists of one statement
 

@@ -14,7 +14,7 @@ use Rattle.fish_lanes.proofs.Saying.{said_cut, said_more, said_self}
 use Rattle.fish_lanes.proofs.Showing.{fit_answer, free_made}
 use Rattle.fish_lanes.specs.within.Advancing.{HasNext, HasSaid, HasAnswered, IsOn, IsShort, IsSoFar}
 use Rattle.fish_lanes.specs.within.Causes.{fault_at}
-use Rattle.fish_lanes.specs.within.Controlling.{IsControlled}
+use Rattle.fish_lanes.specs.within.Controlled.{IsControlled}
 use Rattle.fish_lanes.specs.within.Doing.{IsFit, IsItem, IsPart}
 use Rattle.fish_lanes.specs.within.Gains.{Gains}
 use Rattle.fish_lanes.specs.Loading.{LoadsWithin}
@@ -51,7 +51,7 @@ loads_fewer P Q u t value answer fewer (inl one) = inl one
 loads_fewer P Q u t value answer fewer (inr each) = inr (λ past behind. each past (fewer past behind))
 
 -- what fits after some pasts fits after each of these
-fit_fewer : (P Q : Whole → Type 0) (u t : View) (w : Work) (x : Item) → ((past : Whole) → Q past → P past) → IsFit P u t w x
+pub fit_fewer : (P Q : Whole → Type 0) (u t : View) (w : Work) (x : Item) → ((past : Whole) → Q past → P past) → IsFit P u t w x
     → IsFit Q u t w x
 fit_fewer P Q u t (work.Register name def) x fewer f = f
 fit_fewer P Q u t (work.Deregister name) x fewer f = f
@@ -101,10 +101,7 @@ controlled_fewer P Q u r t s w x fewer h = record {
   first = h.first;
   fit = fit_fewer P Q u t w x fewer h.fit;
   shuts = h.shuts;
-  none = h.none;
-  tail = h.tail;
-  rolls = h.rolls;
-  does = h.does;
+  tells = h.tells;
 }
 
 -- ---- steps

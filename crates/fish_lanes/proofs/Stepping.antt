@@ -1,5 +1,5 @@
 -- How an open store goes on over a step that leaves its file.
-use Rattle.std.proofs.Common.{List, refl}
+use Rattle.std.proofs.Common.{◌≡◌, List, refl, subst, sym}
 use Rattle.fish_catalog.specs.declared.row.CatRow.{CatRow}
 use Rattle.fish_disk.proofs.Moments.{leaves_none}
 use Rattle.fish_disk.specs.declared.disk.Disk.{Ghosts as Disks}
@@ -18,6 +18,10 @@ use Rattle.fish_store.specs.declared.file.StoreFile.{StoreFile}
 -- the same rows go on
 pub rows_self : (v : View) (rows : List CatRow) → RowsGoOn v rows rows
 rows_self v rows n old le grown = grown
+
+-- so do those of a registrar that stays
+pub rows_kept : (v : View) (r s : Registrar) → s ≡ r → RowsGoOn v r.catalog s.catalog
+rows_kept v r s same = subst (λ (z : Registrar). RowsGoOn v r.catalog z.catalog) (sym same) (rows_self v r.catalog)
 
 -- a pass that learns, and rows that go on
 pub stays_pass : {D : Type 0} (disks : Disks D) (p : Point D) (rows : List CatRow) (u : View) → Learns p.view u

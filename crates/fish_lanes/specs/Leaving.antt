@@ -48,7 +48,7 @@ pub record LeavesLanes (Past : Whole → Type 0) (low high : ℕ) (v u : View) (
   pub kept : AreKept old new
   pub vacant : AreVacant old → AreVacant new
   pub ended : AreEnded new
-  pub stops : EachLane (λ i x. Stops Past low high x) new
+  pub stops : EachLane (λ i x. Stops Past low high x.fault) new
   pub left : HandsBack v u new
   pub last : SayFullLast v new
   pub goes_on : WasShut v → LeaveNone new

@@ -7,6 +7,7 @@ use Rattle.fish_lanes.specs.Causes.{HasCause, IsUndamaged}
 use Rattle.fish_lanes.specs.Ending.{HasEnd}
 use Rattle.fish_lanes.specs.Full.{AreFullLast, EndsFull}
 use Rattle.fish_lanes.specs.Gains.{WasShut, KeepsShut}
+use Rattle.fish_lanes.specs.declared.work.LaneFault.{LaneFault}
 use Rattle.fish_lanes.specs.declared.work.LaneFault.TheVariants as cause
 use Rattle.fish_registry.specs.declared.registrar.Registrar.{Registrar}
 use Rattle.fish_lanes.specs.Plans.{PlansHold}
@@ -91,9 +92,9 @@ AreVacant lanes = EachLane (λ i x. x.seat ≡ None) lanes
 
 -- ---- faults
 
--- a lane stops at a fault of the disk only where the disk's count of faults rose, which never falls, and at damage of
--- no past that a disk has whole
-pub record Stops (Past : Whole → Type 0) (before now : ℕ) (x : Lane) : Type 0 where
+-- a lane stops at this fault: at one of the disk only where the disk's count of faults rose, which never falls, and at
+-- damage of no past that a disk has whole
+pub record Stops (Past : Whole → Type 0) (before now : ℕ) (fault : LaneFault) : Type 0 where
   pub later : before ≤ now
-  pub cause : HasCause before now x.fault
-  pub whole : (past : Whole) → Past past → IsUndamaged x.fault
+  pub cause : HasCause before now fault
+  pub whole : (past : Whole) → Past past → IsUndamaged fault

@@ -3,12 +3,14 @@ pub mod Advancing
 pub mod Blocks
 pub mod Causes
 pub mod CommitRows
+pub mod Controlled
 pub mod Controlling
 pub mod Course
 pub mod Doing
 pub mod Full
 pub mod Gains
-pub mod Outcome
+pub mod Older
+pub mod Parts
 pub mod Pasts
 pub mod Plans
 pub mod Published
@@ -18,3 +20,4 @@ pub mod Running
 pub mod Sizes
 pub mod Spans
 pub mod Storing
+pub mod Works

@@ -1,33 +1,22 @@
 //! A block: its lanes run at once, each by a pass of its own.
 
-ghost use Rattle.std.specs.Prelude.{◌≡◌, ◌≤◌, ◌<◌, ◌+◌, ◌∷◌, ℕ, length, slice_get, Some, [], All};
+ghost use Rattle.std.specs.Prelude.{◌≤◌, ◌<◌, ◌∷◌, ℕ, length};
 ghost use Rattle.std.specs.Thread.{IsSync};
-ghost use Rattle.fish_lanes.specs.Blocks.{EachLane, AreEnded, AreKept, AreLanes, HasRegistered, IsBlockSpan, IsKept};
-ghost use Rattle.fish_lanes.specs.Blocks.{IsNewLane};
-ghost use Rattle.fish_lanes.specs.Blocks.{NameMarks, SaysBlock};
-ghost use Rattle.fish_lanes.specs.CommitRows.{LeavesRowsOf};
-ghost use Rattle.fish_lanes.specs.Controlling.{CanControl, IsCommitted};
+ghost use Rattle.fish_lanes.specs.Blocks.{AreLanes};
+ghost use Rattle.fish_lanes.specs.Controlling.{CanControl};
 ghost use Rattle.fish_lanes.specs.Ending.{HasEnd};
-ghost use Rattle.fish_lanes.specs.Gains.{WasShut};
 ghost use Rattle.fish_lanes.specs.Leaving.{ItemsHold, LeavesLanes, LeavesStore};
-ghost use Rattle.fish_lanes.specs.Outcome.{AreVacant, HandsBack, LanesSayPlans, LeaveNone, Stops, SayFullLast};
-ghost use Rattle.fish_lanes.specs.Outcome.{SaysAlone, SaysAloneBy, SaysShutBy};
-ghost use Rattle.fish_lanes.specs.Plans.{KnowsRows};
-ghost use Rattle.fish_lanes.specs.Registering.{IsAcceptable, KnowsRegistry, registry_of};
-ghost use Rattle.fish_lanes.specs.Spans.{Span};
-ghost use Rattle.fish_lanes.specs.declared.work.LaneFault.TheVariants as cause;
+ghost use Rattle.fish_lanes.specs.Registering.{KnowsRegistry, registry_of};
 ghost use Rattle.fish_lanes.specs.within.Advancing.{HasGone};
-ghost use Rattle.fish_lanes.specs.within.Blocks.{AreGone, AreReady, CanGive, HasRunFirst, IsFirst};
-ghost use Rattle.fish_lanes.specs.within.Course.{HasFoundEnd, HasRunLanes};
-ghost use Rattle.fish_lanes.specs.within.Outcome.{GoesAgain};
+ghost use Rattle.fish_lanes.specs.within.Blocks.{AreGone, AreReady, CanGive, IsFirst};
+ghost use Rattle.fish_lanes.specs.within.Course.{HasFoundEnd};
+ghost use Rattle.fish_lanes.specs.within.Parts.{CanRun, RunsFirst, RunsLanes, store_of};
 ghost use Rattle.fish_lanes.specs.within.Running.{IsReady};
 ghost use Rattle.fish_rule.specs.LoadSteps.{IsAlone};
 ghost use Rattle.fish_rule.specs.Passes.{view};
-ghost use Rattle.fish_rule.specs.Views.{AllOf};
 ghost use Rattle.fish_scan.specs.Colder.{IsBelow};
-ghost use Rattle.fish_store.specs.Points.{point_at, point_of};
-ghost use Rattle.fish_store.specs.Sound.{GoesOnHere, IsSoundBehind, MayGoOn, RowsGoOn};
-ghost use Rattle.fish_whole.specs.Whole.{Later, Whole, WillHold};
+ghost use Rattle.fish_store.specs.Points.{Behind, point_at};
+ghost use Rattle.fish_store.specs.Sound.{MayGoOn, RowsGoOn};
 
 use crate::control::run_control;
 use crate::finishing::finish_others;
@@ -119,21 +108,10 @@ fn run_first<D: Disk, G: Gate>(
     lane: &mut Lane,
     gate: &G,
 )
-    requires can { CanControl log.now control.old registrar.old }
-    requires commit { MayGoOn D.images (point_of disk.old file.old log.now control.old registrar.old) }
-    requires below { IsBelow log.now.key file.old.cold }
+    requires run { CanRun D.images disk.old (store_of file.old log.now control.old registrar.old) }
     requires first { IsFirst (view control.old) registrar.old lane.old }
-    ensures can { CanControl log.now control.new registrar.new }
-    ensures below { IsBelow log.now.key file.new.cold }
-    ensures goes { GoesOnHere D.Disk (point_of disk.old file.old log.now control.old registrar.old)
-        (point_of disk.new file.new log.now control.new registrar.new) }
-    ensures again { GoesAgain D.images (point_of disk.new file.new log.now control.new registrar.new) lane.new }
-    ensures run { HasRunFirst (IsSoundBehind D.Disk (point_of disk.old file.old log.now control.old registrar.old)
-        (D.content disk.new)) (view control.old) (view control.new) registrar.old registrar.new lane.old lane.new }
-    ensures stops { Stops (IsSoundBehind D.Disk (point_of disk.old file.old log.now control.old registrar.old)
-        (D.content disk.new)) (D.faults disk.old) (D.faults disk.new) lane.new }
-    ensures committed { AllOf (IsCommitted file.new.flusher.count) lane.new.items }
-    ensures rows { LeavesRowsOf D.Disk disk.old disk.new (registry_of (view control.old) registrar.old) lane.new.items }
+    ensures did { RunsFirst D.Disk disk.old (store_of file.old log.now control.old registrar.old) lane.old disk.new
+        (store_of file.new log.now control.new registrar.new) lane.new }
 {
     let fault = run_control(
         alloc,
@@ -163,23 +141,11 @@ fn run_all<R: Threads + Sync, D: Disk + Send, G: Gate + Sync>(
     others: &mut [Lane],
     gate: &G,
 )
-    requires can { CanControl log.now control.old registrar.old }
-    requires commit { MayGoOn D.images (point_of disk.old file.old log.now control.old registrar.old) }
-    requires below { IsBelow log.now.key file.old.cold }
+    requires run { CanRun D.images disk.old (store_of file.old log.now control.old registrar.old) }
     requires first { IsFirst (view control.old) registrar.old first.old }
     requires ready { AreReady log.now others.old }
-    ensures can { CanControl log.now control.new registrar.new }
-    ensures below { IsBelow log.now.key file.new.cold }
-    ensures goes { GoesOnHere D.Disk (point_of disk.old file.old log.now control.old registrar.old)
-        (point_of disk.new file.new log.now control.new registrar.new) }
-    ensures again { GoesAgain D.images (point_of disk.new file.new log.now control.new registrar.new) first.new }
-    ensures run { HasRunFirst (IsSoundBehind D.Disk (point_of disk.old file.old log.now control.old registrar.old)
-        (D.content disk.new)) (view control.old) (view control.new) registrar.old registrar.new first.old first.new }
-    ensures stops { Stops (IsSoundBehind D.Disk (point_of disk.old file.old log.now control.old registrar.old)
-        (D.content disk.new)) (D.faults disk.old) (D.faults disk.new) first.new }
-    ensures committed { AllOf (IsCommitted file.new.flusher.count) first.new.items }
-    ensures rows { LeavesRowsOf D.Disk disk.old disk.new (registry_of (view control.old) registrar.old)
-        first.new.items }
+    ensures did { RunsFirst D.Disk disk.old (store_of file.old log.now control.old registrar.old) first.old disk.new
+        (store_of file.new log.now control.new registrar.new) first.new }
     ensures gone { AreGone log.now others.old others.new }
 {
     if others.is_empty() {
@@ -211,25 +177,11 @@ fn run_by_passes<R: Threads + Sync, D: Disk + Send, G: Gate + Sync>(
     others: &mut [Lane],
     gate: &G,
 )
-    requires can { CanControl log.now control.old registrar.old }
-    requires commit { MayGoOn D.images (point_of disk.old file.old log.now control.old registrar.old) }
-    requires below { IsBelow log.now.key file.old.cold }
+    requires run { CanRun D.images disk.old (store_of file.old log.now control.old registrar.old) }
     requires first { IsFirst (view control.old) registrar.old first.old }
     requires others { CanGive (view control.old) others.old }
-    ensures can { CanControl log.now control.new registrar.new }
-    ensures below { IsBelow log.now.key file.new.cold }
-    ensures goes { GoesOnHere D.Disk (point_of disk.old file.old log.now control.old registrar.old)
-        (point_of disk.new file.new log.now control.new registrar.new) }
-    ensures again { (first.new.fault ≡ cause.Disk → ⊥)
-        → MayGoOn D.images (point_of disk.new file.new log.now control.new registrar.new) }
-    ensures course { HasRunLanes (IsSoundBehind D.Disk (point_of disk.old file.old log.now control.old registrar.old)
-        (D.content disk.new)) log.now (view control.old) (view control.new) registrar.old registrar.new first.old
-        first.new others.old others.new }
-    ensures stops { EachLane (λ i x. Stops (IsSoundBehind D.Disk (point_of disk.old file.old log.now control.old
-        registrar.old) (D.content disk.new)) (D.faults disk.old) (D.faults disk.new) x) (first.new ∷ others.new) }
-    ensures committed { AllOf (IsCommitted file.new.flusher.count) first.new.items }
-    ensures rows { LeavesRowsOf D.Disk disk.old disk.new (registry_of (view control.old) registrar.old)
-        first.new.items }
+    ensures did { RunsLanes D.Disk disk.old (store_of file.old log.now control.old registrar.old) first.old others.old
+        disk.new (store_of file.new log.now control.new registrar.new) first.new others.new }
 {
     let full = is_full(control);
     give_all(log, control, others);
@@ -266,46 +218,18 @@ fn run_lanes<R: Threads + Sync, D: Disk + Send, G: Gate + Sync>(
     others: &mut [Lane],
     gate: &G,
 ) -> BlockEnd
-    requires can { CanControl log.now control.old registrar.old }
-    requires commit { MayGoOn D.images (point_of disk.old file.old log.now control.old registrar.old) }
-    requires below { IsBelow log.now.key file.old.cold }
+    requires run { CanRun D.images disk.old (store_of file.old log.now control.old registrar.old) }
     requires end { (from : ℕ) × HasEnd (view control.old) from }
     requires known { KnowsRegistry (view control.old) (registry_of (view control.old) registrar.old) }
-    requires first { IsNewLane 1 first.old }
-    requires acceptable { All IsAcceptable first.old.works }
-    requires others { CanGive (view control.old) others.old }
-    ensures can { CanControl log.now control.new registrar.new }
-    ensures below { IsBelow log.now.key file.new.cold }
-    ensures goes { GoesOnHere D.Disk (point_of disk.old file.old log.now control.old registrar.old)
-        (point_of disk.new file.new log.now control.new registrar.new) }
-    ensures again { (first.new.fault ≡ cause.Disk → ⊥)
-        → MayGoOn D.images (point_of disk.new file.new log.now control.new registrar.new) }
-    ensures end { HasEnd (view control.new) result.to }
-    ensures later { Later (view control.old) (view control.new) }
-    ensures first { IsKept first.old first.new }
-    ensures first_seat { first.new.seat ≡ first.old.seat }
-    ensures kept { AreKept others.old others.new }
-    ensures vacant { AreVacant others.new }
-    ensures sound { (past : Whole) → IsSoundBehind D.Disk (point_of disk.old file.old log.now control.old registrar.old)
-        (D.content disk.new) past → (s : Span) → IsBlockSpan (view control.old) (view control.new) result.to s
-        → s.lanes ≡ length others.old + 1 → (s.from ≤ s.to) × WillHold past (view control.new)
-        (λ w. SaysBlock w s (first.new ∷ others.new)) }
-    ensures registered { HasRegistered (view control.old) (view control.new) registrar.old registrar.new first.new
-        result }
-    ensures alone { others.old ≡ [] → SaysAloneBy (IsSoundBehind D.Disk (point_of disk.old file.old log.now control.old
-        registrar.old) (D.content disk.new)) (view control.old) (view control.new) registrar.old first.new }
-    ensures ended { AreEnded (first.new ∷ others.new) }
-    ensures shuts { SaysShutBy (view control.old) (view control.new) (first.new ∷ others.new) }
-    ensures left { HandsBack (view control.old) (view control.new) (first.new ∷ others.new) }
-    ensures last { SayFullLast (view control.old) (first.new ∷ others.new) }
-    ensures plans { (from : ℕ) → HasEnd (view control.old) from → LanesSayPlans (KnowsRows (view control.new))
-        (registry_of (view control.old) registrar.old) registrar.new.catalog from (first.new ∷ others.new) }
-    ensures marks { NameMarks (view control.new) (first.new ∷ others.new) }
-    ensures stops { EachLane (λ i x. Stops (IsSoundBehind D.Disk (point_of disk.old file.old log.now control.old
-        registrar.old) (D.content disk.new)) (D.faults disk.old) (D.faults disk.new) x) (first.new ∷ others.new) }
-    ensures committed { AllOf (IsCommitted file.new.flusher.count) first.new.items }
-    ensures rows { LeavesRowsOf D.Disk disk.old disk.new (registry_of (view control.old) registrar.old)
-        first.new.items }
+    requires lanes { AreLanes (first.old ∷ others.old) }
+    ensures store { LeavesStore D.Disk disk.old (store_of file.old log.now control.old registrar.old) disk.new
+        (store_of file.new log.now control.new registrar.new) (first.new ∷ others.new) result }
+    ensures lanes { LeavesLanes (Behind D.Disk disk.old (store_of file.old log.now control.old registrar.old) disk.new)
+        (D.faults disk.old) (D.faults disk.new) (view control.old) (view control.new) (first.old ∷ others.old)
+        (first.new ∷ others.new) }
+    ensures items { ItemsHold (Behind D.Disk disk.old (store_of file.old log.now control.old registrar.old) disk.new)
+        (view control.old) (view control.new) registrar.old registrar.new (first.old ∷ others.old)
+        (first.new ∷ others.new) result }
 {
     run_by_passes(
         rt, alloc, log, control, registrar, file, disk, first, others, gate,
@@ -352,9 +276,9 @@ pub fn run_block<R: Threads + Sync, D: Disk + Send, G: Gate + Sync>(
     requires known { KnowsRegistry (view store.old.pass) (registry_of (view store.old.pass) store.old.registrar) }
     requires lanes { AreLanes lanes.old }
     ensures store { LeavesStore D.Disk disk.old store.old disk.new store.new lanes.new result }
-    ensures lanes { LeavesLanes (IsSoundBehind D.Disk (point_at disk.old store.old) (D.content disk.new))
+    ensures lanes { LeavesLanes (Behind D.Disk disk.old store.old disk.new)
         (D.faults disk.old) (D.faults disk.new) (view store.old.pass) (view store.new.pass) lanes.old lanes.new }
-    ensures items { ItemsHold (IsSoundBehind D.Disk (point_at disk.old store.old) (D.content disk.new))
+    ensures items { ItemsHold (Behind D.Disk disk.old store.old disk.new)
         (view store.old.pass) (view store.new.pass) store.old.registrar store.new.registrar lanes.old lanes.new result }
 {
     let (first, others) = lanes.split_at_mut(1);

@@ -1,27 +1,13 @@
 //! The statements of the first lane, done by the control pass: it may register definitions and end them, commits the
 //! log, and reads older records from the store's file.
 
-ghost use Rattle.std.specs.Prelude.{◌≡◌, ◌≢◌, ◌≤◌, ◌⊎◌, [], ◌∷◌, All, IfErr, IfOk, IsErrOf, None, length};
+ghost use Rattle.std.specs.Prelude.{◌≡◌, [], All};
 ghost use Rattle.fish_epoch.specs.Definitions.{IsDefsOf};
-ghost use Rattle.fish_lanes.specs.Causes.{HasCause, IsUndamaged};
-ghost use Rattle.fish_lanes.specs.CommitRows.{LeavesRowsOf};
-ghost use Rattle.fish_lanes.specs.Controlling.{CanControl, IsCommitted};
-ghost use Rattle.fish_lanes.specs.within.CommitRows.{rows_by};
-ghost use Rattle.fish_lanes.specs.within.Controlling.{HasControlled, IsControlled, IsPartControlled};
-ghost use Rattle.fish_lanes.specs.within.Doing.{FitsCheckpoint};
-ghost use Rattle.fish_lanes.specs.within.Full.{SaysLast, done_of};
-ghost use Rattle.fish_lanes.specs.Gains.{WasShut};
-ghost use Rattle.fish_lanes.specs.Registering.{IsAcceptable, KnowsRegistry, registry_of};
-ghost use Rattle.fish_lanes.specs.Spans.{answers};
-ghost use Rattle.fish_lanes.specs.declared.work.LaneFault.TheVariants as cause;
 ghost use Rattle.fish_flush.specs.Carrying.{Reads};
+ghost use Rattle.fish_lanes.specs.Registering.{IsAcceptable, KnowsRegistry, registry_of};
+ghost use Rattle.fish_lanes.specs.declared.work.Work.TheVariants as work;
+ghost use Rattle.fish_lanes.specs.within.Parts.{CanRun, RunsStatement, RunsWorks, store_of};
 ghost use Rattle.fish_rule.specs.Passes.{view};
-ghost use Rattle.fish_rule.specs.Views.{AllOf};
-ghost use Rattle.fish_scan.specs.Colder.{IsBelow};
-ghost use Rattle.fish_store.specs.CommitRows.{LeavesRows};
-ghost use Rattle.fish_store.specs.Points.{point_of};
-ghost use Rattle.fish_store.specs.Sound.{GoesOnHere, IsSoundBehind, MayGoOn};
-ghost use Rattle.fish_whole.specs.Whole.{Whole};
 
 use crate::finishing::run_shared;
 use crate::gate::{Gate, Point};
@@ -51,31 +37,12 @@ pub(crate) fn run_control<D: Disk, G: Gate>(
     items: &mut Items,
     gate: &G,
 ) -> LaneFault
-    requires can { CanControl log.now pass.old registrar.old }
+    requires run { CanRun D.images disk.old (store_of file.old log.now pass.old registrar.old) }
     requires known { KnowsRegistry (view pass.old) (registry_of (view pass.old) registrar.old) }
-    requires commit { MayGoOn D.images (point_of disk.old file.old log.now pass.old registrar.old) }
-    requires below { IsBelow log.now.key file.old.cold }
     requires acceptable { All IsAcceptable works.now }
     requires empty { items.old ≡ [] }
-    ensures can { CanControl log.now pass.new registrar.new }
-    ensures below { IsBelow log.now.key file.new.cold }
-    ensures goes { GoesOnHere D.Disk (point_of disk.old file.old log.now pass.old registrar.old)
-        (point_of disk.new file.new log.now pass.new registrar.new) }
-    ensures again { (result ≡ cause.Disk → ⊥) → MayGoOn D.images (point_of disk.new file.new log.now pass.new
-        registrar.new) }
-    ensures run { HasControlled (IsSoundBehind D.Disk (point_of disk.old file.old log.now pass.old registrar.old)
-        (D.content disk.new)) (view pass.old) (view pass.new) registrar.old registrar.new
-        (done_of result (length (answers items.new)) works.now) items.new result }
-    ensures all { result ≡ cause.None → (length works.now ≤ length (answers items.new))
-        ⊎ (((view pass.old).shut ≡ None) × WasShut (view pass.new)) }
-    ensures last { (view pass.old).shut ≡ None → SaysLast (view pass.new) items.new result }
-    ensures committed { AllOf (IsCommitted file.new.flusher.count) items.new }
-    ensures rows { LeavesRowsOf D.Disk disk.old disk.new (registry_of (view pass.old) registrar.old) items.new }
-
-    ensures cause { HasCause (D.faults disk.old) (D.faults disk.new) result }
-    ensures later { D.faults disk.old ≤ D.faults disk.new }
-    ensures whole { (past : Whole) → IsSoundBehind D.Disk (point_of disk.old file.old log.now pass.old registrar.old)
-        (D.content disk.new) past → IsUndamaged result }
+    ensures ran { RunsWorks D.Disk disk.old (store_of file.old log.now pass.old registrar.old) disk.new
+        (store_of file.new log.now pass.new registrar.new) works.now items.new result }
 {
     let mut defs = Defs::new(alloc);
     let full = is_full(pass);
@@ -116,29 +83,12 @@ fn run_statement<D: Disk, G: Gate>(
     work: &Work,
     gate: &G,
 ) -> Result<Item, LaneFault>
-    requires can { CanControl log.now pass.old registrar.old }
+    requires run { CanRun D.images disk.old (store_of file.old log.now pass.old registrar.old) }
     requires defs { IsDefsOf (view pass.old) defs.old }
-    requires commit { MayGoOn D.images (point_of disk.old file.old log.now pass.old registrar.old) }
-    requires below { IsBelow log.now.key file.old.cold }
     requires acceptable { IsAcceptable work.now }
-    ensures can { CanControl log.now pass.new registrar.new }
     ensures defs { IsDefsOf (view pass.new) defs.new }
-    ensures below { IsBelow log.now.key file.new.cold }
-    ensures goes { GoesOnHere D.Disk (point_of disk.old file.old log.now pass.old registrar.old)
-        (point_of disk.new file.new log.now pass.new registrar.new) }
-    ensures again { (IsErrOf result cause.Disk → ⊥)
-        → MayGoOn D.images (point_of disk.new file.new log.now pass.new registrar.new) }
-    ensures done { IfOk result (IsControlled (IsSoundBehind D.Disk (point_of disk.old file.old log.now pass.old
-        registrar.old) (D.content disk.new)) (view pass.old) registrar.old (view pass.new) registrar.new work.now) }
-    ensures committed { IfOk result (IsCommitted file.new.flusher.count) }
-    ensures rows { LeavesRows D.Disk disk.old disk.new (rows_by result registrar.old.catalog) (registrar.old.catalog ∷
-        []) }
-    ensures part { IfErr result (λ _. IsPartControlled (view pass.old) (view pass.new) work.now) }
-    ensures named { IfErr result (λ e. e ≢ cause.None) }
-    ensures cause { IfErr result (HasCause (D.faults disk.old) (D.faults disk.new)) }
-    ensures later { D.faults disk.old ≤ D.faults disk.new }
-    ensures whole { (past : Whole) → IsSoundBehind D.Disk (point_of disk.old file.old log.now pass.old registrar.old)
-        (D.content disk.new) past → IfErr result IsUndamaged }
+    ensures ran { RunsStatement D.Disk disk.old (store_of file.old log.now pass.old registrar.old) disk.new
+        (store_of file.new log.now pass.new registrar.new) work.now result }
 {
     match work {
         Work::Register { name, def } => {
@@ -161,23 +111,10 @@ fn commit<D: Disk>(
     file: &mut StoreFile,
     disk: &mut D,
 ) -> Result<Item, LaneFault>
-    requires can { CanControl log.now pass.old registrar.now }
-    requires commit { MayGoOn D.images (point_of disk.old file.old log.now pass.old registrar.now) }
-    ensures can { CanControl log.now pass.new registrar.now }
+    requires run { CanRun D.images disk.old (store_of file.old log.now pass.old registrar.now) }
     ensures reads { Reads (view pass.old) (view pass.new) }
-    ensures cold { file.new.cold ≡ file.old.cold }
-    ensures goes { GoesOnHere D.Disk (point_of disk.old file.old log.now pass.old registrar.now)
-        (point_of disk.new file.new log.now pass.new registrar.now) }
-    ensures again { (IsErrOf result cause.Disk → ⊥)
-        → MayGoOn D.images (point_of disk.new file.new log.now pass.new registrar.now) }
-    ensures fits { IfOk result (FitsCheckpoint (view pass.old) (view pass.new)) }
-    ensures committed { IfOk result (IsCommitted file.new.flusher.count) }
-    ensures rows { LeavesRows D.Disk disk.old disk.new (rows_by result registrar.now.catalog) (registrar.now.catalog ∷
-        []) }
-
-    ensures named { IfErr result (λ e. (e ≢ cause.None) × IsUndamaged e) }
-    ensures cause { IfErr result (HasCause (D.faults disk.old) (D.faults disk.new)) }
-    ensures later { D.faults disk.old ≤ D.faults disk.new }
+    ensures ran { RunsStatement D.Disk disk.old (store_of file.old log.now pass.old registrar.now) disk.new
+        (store_of file.new log.now pass.new registrar.now) work.Checkpoint result }
 {
     match file.checkpoint(alloc, log, pass, registrar, disk) {
         Ok(count) => Ok(Item::Checkpointed { count }),

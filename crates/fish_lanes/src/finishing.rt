@@ -1,28 +1,20 @@
 //! Statements that any lane may have, with the store's file at hand for scans of records that are older than the table;
 //! and what is left of those of the lanes after the first, once all have ended or stay.
 
-ghost use Rattle.std.specs.Prelude.{◌≡◌, ◌≢◌, ◌≤◌, ◌⊎◌, All, IfErr, IfOk, false, length};
-ghost use Rattle.fish_cold.specs.Carries.{CarriesTable};
-ghost use Rattle.fish_epoch.specs.Definitions.{IsDefsOf};
+ghost use Rattle.std.specs.Prelude.{All, IfErr, IfOk};
 ghost use Rattle.fish_ingest.specs.Ingestion.{CanStart};
-ghost use Rattle.fish_lanes.specs.within.Advancing.{FinishesBy, HasFinished, IsShort};
 ghost use Rattle.fish_lanes.specs.Blocks.{EachLane, EachLanePair};
-ghost use Rattle.fish_lanes.specs.within.Blocks.{AreReady};
-ghost use Rattle.fish_lanes.specs.Causes.{HasCause, IsUndamaged};
-ghost use Rattle.fish_lanes.specs.within.Doing.{IsItem, IsPart};
-ghost use Rattle.fish_lanes.specs.within.Full.{HasFound, SaysLast};
-ghost use Rattle.fish_lanes.specs.Gains.{WasShut};
 ghost use Rattle.fish_lanes.specs.Outcome.{Stops};
-ghost use Rattle.fish_lanes.specs.within.Pasts.{IsHere, WasHere};
 ghost use Rattle.fish_lanes.specs.Running.{IsShared};
-ghost use Rattle.fish_lanes.specs.within.Running.{CanBegin, IsReady};
-ghost use Rattle.fish_lanes.specs.Spans.{IsAnswer};
-ghost use Rattle.fish_lanes.specs.declared.work.LaneFault.TheVariants as cause;
-ghost use Rattle.fish_rule.specs.Passes.{IsPassOf, view};
-ghost use Rattle.fish_rule.specs.Views.{AllOf};
+ghost use Rattle.fish_lanes.specs.within.Works.{FinishesWorks};
+ghost use Rattle.fish_lanes.specs.within.Advancing.{HasFinished, IsShort};
+ghost use Rattle.fish_lanes.specs.within.Blocks.{AreReady};
+ghost use Rattle.fish_lanes.specs.within.Doing.{IsItem, IsPart};
+ghost use Rattle.fish_lanes.specs.within.Parts.{OnlyReads, StopsAt};
+ghost use Rattle.fish_lanes.specs.within.Pasts.{IsHere, WasHere};
+ghost use Rattle.fish_lanes.specs.within.Running.{CanBegin, HasDefs, IsReady};
+ghost use Rattle.fish_rule.specs.Passes.{view};
 ghost use Rattle.fish_scan.specs.Colder.{IsBelow};
-ghost use Rattle.fish_store.specs.Sound.{ReadsPages};
-ghost use Rattle.fish_whole.specs.Whole.{Whole};
 
 use crate::gate::{Gate, Point};
 use crate::handing::hand_back;
@@ -50,13 +42,11 @@ fn finish_lane<D: Disk, G: Gate>(
 )
     requires ready { IsReady log.now lane.old }
     requires below { IsBelow log.now.key file.old.cold }
-    ensures below { IsBelow log.now.key file.new.cold }
-    ensures flusher { file.new.flusher ≡ file.old.flusher }
-    ensures reads { ReadsPages D.Disk log.now.key file.old.cold file.new.cold disk.old disk.new }
+    ensures reads { OnlyReads D.Disk log.now.key disk.old file.old disk.new file.new }
     ensures finished { HasFinished (WasHere (D.content disk.old) log.now.key file.old.cold (D.content disk.new)) full
         log.now lane.old lane.new }
     ensures stops { IsShort lane.old.fault → Stops (WasHere (D.content disk.old) log.now.key file.old.cold
-        (D.content disk.new)) (D.faults disk.old) (D.faults disk.new) lane.new }
+        (D.content disk.new)) (D.faults disk.old) (D.faults disk.new) lane.new.fault }
 {
     let LaneFault::None = lane.fault else {
         return;
@@ -92,14 +82,12 @@ pub(crate) fn finish_others<D: Disk, G: Gate>(
     requires ready { AreReady log.now lanes.old }
     requires below { IsBelow log.now.key file.old.cold }
     requires memory { EachLane (λ i x. IsShort x.fault) lanes.old }
-    ensures below { IsBelow log.now.key file.new.cold }
-    ensures flusher { file.new.flusher ≡ file.old.flusher }
-    ensures reads { ReadsPages D.Disk log.now.key file.old.cold file.new.cold disk.old disk.new }
+    ensures reads { OnlyReads D.Disk log.now.key disk.old file.old disk.new file.new }
     ensures finished { EachLanePair
         (λ i x y. HasFinished (WasHere (D.content disk.old) log.now.key file.old.cold (D.content disk.new)) full log.now
         x y) lanes.old lanes.new }
     ensures stops { EachLane (λ i x. Stops (WasHere (D.content disk.old) log.now.key file.old.cold (D.content disk.new))
-        (D.faults disk.old) (D.faults disk.new) x) lanes.new }
+        (D.faults disk.old) (D.faults disk.new) x.fault) lanes.new }
 {
     for i in 0..lanes.len() {
         finish_lane(alloc, log, file, disk, &mut lanes[i], full, gate);
@@ -123,19 +111,11 @@ fn finish_works<D: Disk, G: Gate>(
     requires below { IsBelow log.now.key file.old.cold }
     requires shared { All IsShared works.now }
     ensures pass { CanBegin log.now pass.new }
-    ensures below { IsBelow log.now.key file.new.cold }
-    ensures flusher { file.new.flusher ≡ file.old.flusher }
-    ensures reads { ReadsPages D.Disk log.now.key file.old.cold file.new.cold disk.old disk.new }
-    ensures goes { FinishesBy (WasHere (D.content disk.old) log.now.key file.old.cold (D.content disk.new))
+    ensures reads { OnlyReads D.Disk log.now.key disk.old file.old disk.new file.new }
+    ensures finishes { FinishesWorks (WasHere (D.content disk.old) log.now.key file.old.cold (D.content disk.new)) full
         (view pass.old) (view pass.new) works.now items.old items.new result }
-    ensures answers { AllOf IsAnswer items.old → AllOf IsAnswer items.new }
-    ensures all { result ≡ cause.None → (length works.now ≤ length items.new)
-        ⊎ ((full ≡ false) × WasShut (view pass.new)) }
-    ensures last { full ≡ false → HasFound (view pass.old) items.old → SaysLast (view pass.new) items.new result }
-
-    ensures cause { HasCause (D.faults disk.old) (D.faults disk.new) result }
-    ensures whole { (past : Whole) → WasHere (D.content disk.old) log.now.key file.old.cold (D.content disk.new) past
-        → IsUndamaged result }
+    ensures stops { Stops (WasHere (D.content disk.old) log.now.key file.old.cold (D.content disk.new))
+        (D.faults disk.old) (D.faults disk.new) result }
 {
     let mut defs = Defs::new(alloc);
     for next in items.len()..works.len() {
@@ -168,23 +148,16 @@ pub(crate) fn run_shared<D: Disk, G: Gate>(
     work: &Work,
     gate: &G,
 ) -> Result<Item, LaneFault>
-    requires pass { IsPassOf log.now pass.old }
+    requires has { HasDefs log.now pass.old defs.old }
     requires start { CanStart (view pass.old) }
-    requires defs { IsDefsOf (view pass.old) defs.old }
     requires below { IsBelow log.now.key file.old.cold }
     requires shared { IsShared work.now }
-    ensures pass { IsPassOf log.now pass.new }
-    ensures defs { IsDefsOf (view pass.new) defs.new }
-    ensures below { IsBelow log.now.key file.new.cold }
-    ensures flusher { file.new.flusher ≡ file.old.flusher }
-    ensures reads { ReadsPages D.Disk log.now.key file.old.cold file.new.cold disk.old disk.new }
+    ensures has { HasDefs log.now pass.new defs.new }
+    ensures reads { OnlyReads D.Disk log.now.key disk.old file.old disk.new file.new }
     ensures item { IfOk result (IsItem (IsHere (D.content disk.new) log.now.key file.old.cold) (view pass.old)
         (view pass.new) work.now) }
-    ensures part { IfErr result (λ _. IsPart (view pass.old) (view pass.new) work.now) }
-
-    ensures named { IfErr result (λ e. e ≢ cause.None) }
-    ensures cause { IfErr result (HasCause (D.faults disk.old) (D.faults disk.new)) }
-    ensures whole { CarriesTable (D.content disk.new) log.now.key file.old.cold → IfErr result IsUndamaged }
+    ensures stops { IfErr result (λ e. IsPart (view pass.old) (view pass.new) work.now
+        × StopsAt (IsHere (D.content disk.new) log.now.key file.old.cold) (D.faults disk.old) (D.faults disk.new) e) }
 {
     match work {
         Work::Scan { ask } => scan_older(alloc, log, pass, file, disk, defs, ask),

@@ -1,22 +1,18 @@
 //! Registrations, which the first lane makes by the control pass. Steps on shared words are those of `fish_registry`.
 
-ghost use Rattle.std.specs.Prelude.{◌≡◌, [], IfOk, None, OnErr, OnOk};
+ghost use Rattle.std.specs.Prelude.{◌≡◌, IfOk, None, OnErr, OnOk};
 ghost use Rattle.fish_catalog.specs.Rows.{IsName};
 ghost use Rattle.fish_epoch.specs.Definitions.{IsDefsOf};
 ghost use Rattle.fish_lang.specs.Canonical.{definition_text};
 ghost use Rattle.fish_lang.specs.Definition.{definition_of};
 ghost use Rattle.fish_lanes.specs.Controlling.{CanControl};
-ghost use Rattle.fish_lanes.specs.within.Controlling.{Does, HasLooked, HasPolled, IsFound};
-ghost use Rattle.fish_lanes.specs.within.Controlling.{KnowsAll, RollsBy, SaysBegun};
-ghost use Rattle.fish_lanes.specs.within.Controlling.{SaysTail, WaitsFor};
-ghost use Rattle.fish_lanes.specs.within.Controlling.{deregister_cause, register_cause};
-ghost use Rattle.fish_lanes.specs.within.Gains.{Gains};
 ghost use Rattle.fish_lanes.specs.Registering.{IsDeregisterItem, IsRegisterItem};
-ghost use Rattle.fish_lanes.specs.Single.{NamesNone};
+ghost use Rattle.fish_lanes.specs.within.Controlling.{Controls, HasPolled, IsFound, KnowsAll, Looks, TellsBegun};
+ghost use Rattle.fish_lanes.specs.within.Controlling.{TellsStep, WaitsFor, deregister_cause, register_cause};
 ghost use Rattle.fish_registry.specs.Changing.{Changes};
 ghost use Rattle.fish_registry.specs.Refusing.{IsSaid};
-ghost use Rattle.fish_rule.specs.Passes.{IsPassOf, view};
 ghost use Rattle.fish_rule.specs.LoadSteps.{IsAlone};
+ghost use Rattle.fish_rule.specs.Passes.{IsPassOf, view};
 ghost use Rattle.fish_rule.specs.declared.view.Epoch.TheVariants.{Out};
 ghost use Rattle.fish_scan.specs.Scans.{OnlyScans};
 ghost use Rattle.fish_store.specs.Sound.{RowsGoOn};
@@ -38,13 +34,7 @@ pub(crate) fn find_boundary(
     items: &mut Items,
 ) -> Result<(), AllocError>
     requires can { CanControl log.now pass.old registrar.old }
-    ensures can { CanControl log.now pass.new registrar.new }
-    ensures grows { RowsGoOn (view pass.old) registrar.old.catalog registrar.new.catalog }
-    ensures gains { Gains (view pass.old) (view pass.new) [] }
-    ensures shut { (view pass.new).shut ≡ (view pass.old).shut }
-    ensures loads { (view pass.new).clock.loads ≡ (view pass.old).clock.loads }
-    ensures idle { registrar.old.waiting ≡ None → (view pass.new ≡ view pass.old) × (registrar.new.waiting ≡ None) }
-    ensures looked { HasLooked (view pass.old) (view pass.new) registrar.new }
+    ensures looks { Looks log.now pass.old registrar.old pass.new registrar.new }
     ensures polled { OnOk result
         (HasPolled (view pass.old) registrar.old (view pass.new) registrar.new items.old items.new) }
     ensures refused { OnErr result (items.new ≡ items.old) }
@@ -87,16 +77,10 @@ pub(crate) fn register(
     requires defs { IsDefsOf (view pass.old) defs.old }
     requires name { IsName name.now }
     requires said { IsSaid def.now }
-    ensures can { CanControl log.now pass.new registrar.new }
+    ensures on { Controls log.now pass.old registrar.old pass.new registrar.new }
     ensures defs { IsDefsOf (view pass.new) defs.new }
-    ensures grows { RowsGoOn (view pass.old) registrar.old.catalog registrar.new.catalog }
-    ensures gains { Gains (view pass.old) (view pass.new) [] }
-    ensures shut { (view pass.new).shut ≡ (view pass.old).shut }
-    ensures alone { IsAlone (view pass.old) → IfOk result NamesNone }
-    ensures tail { IsAlone (view pass.old) → IfOk result (SaysTail (view pass.old)) }
-    ensures rolls { IfOk result (RollsBy (view pass.old) (view pass.new)) }
     ensures item { IfOk result (IsRegisterItem name.now (definition_text (definition_of def.now))) }
-    ensures does { IfOk result (Does (view pass.old) registrar.old (view pass.new) registrar.new) }
+    ensures tells { IfOk result (TellsStep (view pass.old) registrar.old (view pass.new) registrar.new) }
 {
     let told = name.again(alloc)?;
     let text = print_def(alloc, def)?;
@@ -124,15 +108,9 @@ fn registered(
     requires can { CanControl log.now pass.old registrar.old }
     requires defs { IsDefsOf (view pass.old) defs.old }
     requires waits { WaitsFor (view pass.old) registrar.old id }
-    ensures can { CanControl log.now pass.new registrar.new }
+    ensures on { Controls log.now pass.old registrar.old pass.new registrar.new }
     ensures defs { IsDefsOf (view pass.new) defs.new }
-    ensures grows { RowsGoOn (view pass.old) registrar.old.catalog registrar.new.catalog }
-    ensures gains { Gains (view pass.old) (view pass.new) [] }
-    ensures shut { (view pass.new).shut ≡ (view pass.old).shut }
-    ensures alone { IsAlone (view pass.old) → IfOk result NamesNone }
-    ensures tail { IsAlone (view pass.old) → IfOk result (SaysTail (view pass.old)) }
-    ensures rolls { IfOk result (RollsBy (view pass.old) (view pass.new)) }
-    ensures tells { IfOk result (SaysBegun (view pass.old) registrar.old (view pass.new) registrar.new name id def) }
+    ensures tells { IfOk result (TellsBegun (view pass.old) registrar.old (view pass.new) registrar.new name id def) }
 {
     read_definitions(log, pass, defs)?;
     match registrar.poll(log, pass) {
@@ -164,14 +142,10 @@ pub(crate) fn deregister(
 ) -> Result<Item, AllocError>
     requires can { CanControl log.now pass.old registrar.old }
     requires defs { IsDefsOf (view pass.old) defs.old }
-    ensures can { CanControl log.now pass.new registrar.new }
+    ensures on { Controls log.now pass.old registrar.old pass.new registrar.new }
     ensures defs { IsDefsOf (view pass.new) defs.new }
-    ensures grows { RowsGoOn (view pass.old) registrar.old.catalog registrar.new.catalog }
-    ensures gains { Gains (view pass.old) (view pass.new) [] }
-    ensures shut { (view pass.new).shut ≡ (view pass.old).shut }
-    ensures tail { IsAlone (view pass.old) → IfOk result (SaysTail (view pass.old)) }
     ensures item { IfOk result (IsDeregisterItem name.now) }
-    ensures does { IfOk result (Does (view pass.old) registrar.old (view pass.new) registrar.new) }
+    ensures tells { IfOk result (TellsStep (view pass.old) registrar.old (view pass.new) registrar.new) }
 {
     let told = name.again(alloc)?;
     match registrar.end(log, pass, name) {

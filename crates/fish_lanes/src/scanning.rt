@@ -1,23 +1,21 @@
 //! Scans, and how they would be answered, as items.
 
-ghost use Rattle.std.specs.Prelude.{◌≡◌, ◌≢◌, ◌<◌, IfErr, IfOk, Some};
-ghost use Rattle.fish_cold.specs.Carries.{CarriesTable};
+ghost use Rattle.std.specs.Prelude.{◌≡◌, IfErr, IfOk};
 ghost use Rattle.fish_epoch.specs.Definitions.{IsDefsOf};
-ghost use Rattle.fish_lanes.specs.Causes.{HasCause, IsUndamaged};
-ghost use Rattle.fish_lanes.specs.within.Causes.{fault_of};
 ghost use Rattle.fish_lanes.specs.Doing.{explained_item, scanned_item};
-ghost use Rattle.fish_lanes.specs.within.Doing.{IsAnswerHere, IsExplainedAnswer, IsFit, IsRefusedItem, cause_of};
 ghost use Rattle.fish_lanes.specs.Loading.{LoadsInTable};
-ghost use Rattle.fish_lanes.specs.within.Pasts.{IsHere, anywhere};
-ghost use Rattle.fish_lanes.specs.declared.work.LaneFault.TheVariants as cause;
 ghost use Rattle.fish_lanes.specs.declared.work.Work.TheVariants as work;
+ghost use Rattle.fish_lanes.specs.within.Causes.{fault_of};
+ghost use Rattle.fish_lanes.specs.within.Doing.{IsFit, IsRefusedItem, cause_of};
+ghost use Rattle.fish_lanes.specs.within.Older.{ScansOlder};
+ghost use Rattle.fish_lanes.specs.within.Parts.{OnlyReads, StopsAt};
+ghost use Rattle.fish_lanes.specs.within.Pasts.{IsHere, anywhere};
+ghost use Rattle.fish_lanes.specs.within.Running.{HasDefs};
 ghost use Rattle.fish_psf.specs.Blanks.{IsBlankOf};
 ghost use Rattle.fish_report.specs.declared.item.Item.TheVariants as item;
 ghost use Rattle.fish_rule.specs.Passes.{IsPassOf, view};
-ghost use Rattle.fish_scan.specs.Across.{IsRefusedWith, IsUndamagedScan};
-ghost use Rattle.fish_scan.specs.Colder.{IsBelow, IsScanFault};
+ghost use Rattle.fish_scan.specs.Colder.{IsBelow};
 ghost use Rattle.fish_scan.specs.Scans.{IsAnswer, IsRefused, OnlyScans};
-ghost use Rattle.fish_store.specs.Sound.{ReadsPages};
 
 use crate::statements::{Stop, or_stop};
 use crate::work::{LaneFault, or_memory};
@@ -66,21 +64,16 @@ pub(crate) fn scan_older<D: Disk>(
     defs: &mut Defs,
     ask: &Ask,
 ) -> Result<Item, LaneFault>
-    requires pass { IsPassOf log.now pass.old }
-    requires defs { IsDefsOf (view pass.old) defs.old }
+    requires has { HasDefs log.now pass.old defs.old }
     requires base { IsBelow log.now.key file.old.cold }
-    ensures pass { IsPassOf log.now pass.new }
+    ensures has { HasDefs log.now pass.new defs.new }
     ensures only { OnlyScans (view pass.old) (view pass.new) }
-    ensures defs { IsDefsOf (view pass.new) defs.new }
-    ensures base { IsBelow log.now.key file.new.cold }
-    ensures flusher { file.new.flusher ≡ file.old.flusher }
-    ensures reads { ReadsPages D.Disk log.now.key file.old.cold file.new.cold disk.old disk.new }
+    ensures reads { OnlyReads D.Disk log.now.key disk.old file.old disk.new file.new }
     ensures fits { IfOk result (IsFit (IsHere (D.content disk.new) log.now.key file.old.cold) (view pass.old)
         (view pass.new) (work.Scan ask.now)) }
 
-    ensures named { IfErr result (λ e. e ≢ cause.None) }
-    ensures cause { IfErr result (HasCause (D.faults disk.old) (D.faults disk.new)) }
-    ensures whole { CarriesTable (D.content disk.new) log.now.key file.old.cold → IfErr result IsUndamaged }
+    ensures stops { IfErr result (StopsAt (IsHere (D.content disk.new) log.now.key file.old.cold) (D.faults disk.old)
+        (D.faults disk.new)) }
 {
     let (parses, loads) = (Blank::new(1), Blank::new(1));
     match older_with::<Brand, Brand, D>(alloc, parses, loads, log, pass, file, disk, defs, ask) {
@@ -252,11 +245,9 @@ fn scan_with<P: Ledger, L: Ledger>(
 ) -> Result<Answer, ScanRefusal>
     requires parses { IsBlankOf P.name P.parts parses }
     requires loads { IsBlankOf L.name L.parts loads }
-    requires pass { IsPassOf log.now pass.old }
-    requires defs { IsDefsOf (view pass.old) defs.old }
-    ensures pass { IsPassOf log.now pass.new }
+    requires has { HasDefs log.now pass.old defs.old }
+    ensures has { HasDefs log.now pass.new defs.new }
     ensures only { OnlyScans (view pass.old) (view pass.new) }
-    ensures defs { IsDefsOf (view pass.new) defs.new }
     ensures answer { IfOk result (IsAnswer (view pass.old) (view pass.new) defs.new.known ask.now) }
     ensures loads { IfOk result (LoadsInTable (view pass.old) (view pass.new) ask.now.value) }
     ensures refused { IfErr result (IsRefused (view pass.old) (view pass.new) defs.new.known ask.now) }
@@ -280,21 +271,13 @@ fn older_with<P: Ledger, L: Ledger, D: Disk>(
 ) -> Result<Answer, ScanRefusal>
     requires parses { IsBlankOf P.name P.parts parses }
     requires loads { IsBlankOf L.name L.parts loads }
-    requires pass { IsPassOf log.now pass.old }
-    requires defs { IsDefsOf (view pass.old) defs.old }
+    requires has { HasDefs log.now pass.old defs.old }
     requires base { IsBelow log.now.key file.old.cold }
-    ensures pass { IsPassOf log.now pass.new }
+    ensures has { HasDefs log.now pass.new defs.new }
     ensures only { OnlyScans (view pass.old) (view pass.new) }
-    ensures defs { IsDefsOf (view pass.new) defs.new }
-    ensures base { IsBelow log.now.key file.new.cold }
-    ensures flusher { file.new.flusher ≡ file.old.flusher }
-    ensures reads { ReadsPages D.Disk log.now.key file.old.cold file.new.cold disk.old disk.new }
-    ensures explained { IfOk result (IsExplainedAnswer (view pass.old) (view pass.new) defs.new.known ask.now) }
-    ensures answer { IfOk result (IsAnswerHere (D.content disk.new) log.now.key file.old.cold (view pass.old)
-        (view pass.new) defs.new.known ask.now) }
-    ensures refused { IfErr result (IsRefusedWith (view pass.old) (view pass.new) defs.new.known ask.now) }
-    ensures fault { IsScanFault (D.faults disk.old) (D.faults disk.new) result }
-    ensures whole { CarriesTable (D.content disk.new) log.now.key file.old.cold → IfErr result IsUndamagedScan }
+    ensures reads { OnlyReads D.Disk log.now.key disk.old file.old disk.new file.new }
+    ensures scans { ScansOlder (D.content disk.new) log.now.key file.old.cold (D.faults disk.old) (D.faults disk.new)
+        (view pass.old) (view pass.new) defs.new.known ask.now result }
 {
     let mut parses = Steps::<P>::new(parses);
     let mut loads = Steps::<L>::new(loads);

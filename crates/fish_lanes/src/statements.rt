@@ -1,18 +1,16 @@
 //! The statements of a lane after the first, done by its pass.
 
-ghost use Rattle.std.specs.Prelude.{◌≡◌, ◌≤◌, ◌&&◌, not, is_some, None, All, IfErr, IfOk, length};
+ghost use Rattle.std.specs.Prelude.{◌≡◌, ◌&&◌, not, is_some, All, IfErr, IfOk};
 ghost use Rattle.fish_epoch.specs.Definitions.{IsDefsOf};
 ghost use Rattle.fish_ingest.specs.Ingestion.{CanStart};
-ghost use Rattle.fish_lanes.specs.within.Advancing.{GoesOnBy, HasNext, IsShort};
+ghost use Rattle.fish_lanes.specs.Running.{IsShared};
+ghost use Rattle.fish_lanes.specs.within.Works.{AdvancesWorks};
+ghost use Rattle.fish_lanes.specs.within.Advancing.{HasNext};
 ghost use Rattle.fish_lanes.specs.within.Causes.{fault_at, or_stop};
 ghost use Rattle.fish_lanes.specs.within.Doing.{IsItem, IsStopped};
-ghost use Rattle.fish_lanes.specs.Full.{IsNotFull};
-ghost use Rattle.fish_lanes.specs.within.Full.{SaysLast};
 ghost use Rattle.fish_lanes.specs.within.Pasts.{anywhere};
-ghost use Rattle.fish_lanes.specs.Running.{IsShared};
-ghost use Rattle.fish_lanes.specs.Spans.{IsAnswer};
+ghost use Rattle.fish_lanes.specs.within.Running.{CanBegin};
 ghost use Rattle.fish_rule.specs.Passes.{IsPassOf, view};
-ghost use Rattle.fish_rule.specs.Views.{AllOf};
 
 use crate::gate::{Gate, Point};
 use crate::ingesting::ingest_file;
@@ -54,17 +52,11 @@ pub(crate) fn run_works<G: Gate>(
     items: &mut Items,
     gate: &G,
 ) -> LaneFault
-    requires pass { IsPassOf log.now pass.old }
-    requires start { CanStart (view pass.old) }
+    requires can { CanBegin log.now pass.old }
     requires defs { IsDefsOf (view pass.old) defs.old }
     requires shared { All IsShared works.now }
-    ensures pass { IsPassOf log.now pass.new }
-    ensures start { CanStart (view pass.new) }
-    ensures goes { GoesOnBy (view pass.old) (view pass.new) works.now items.old items.new result }
-    ensures last { (view pass.old).shut ≡ None → AllOf IsNotFull items.old → SaysLast (view pass.new) items.new result }
-    ensures short { IsShort result }
-    ensures more { length items.old ≤ length items.new }
-    ensures answers { AllOf IsAnswer items.old → AllOf IsAnswer items.new }
+    ensures can { CanBegin log.now pass.new }
+    ensures advances { AdvancesWorks (view pass.old) (view pass.new) works.now items.old items.new result }
 {
     let full = is_full(pass);
     for next in items.len()..works.len() {

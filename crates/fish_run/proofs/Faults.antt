@@ -95,12 +95,12 @@ first_no_input lanes why h is = lane_other h.lane.fault (h.is ∙ ap Some is)
 
 -- that of a lane is the disk's only where its count rose, and no damage after a past that it has whole
 pub lane_rose : (Past : Whole → Type 0) (before now : ℕ) (lanes : List Lane) (why : RunFault)
-    → EachLane (λ i x. Stops Past before now x) lanes → IsFirstFault lanes why → why ≡ fault.Disk → Rose before now
+    → EachLane (λ i x. Stops Past before now x.fault) lanes → IsFirstFault lanes why → why ≡ fault.Disk → Rose before now
 lane_rose Past before now lanes why stops h is =
     lane_disk before now h.lane.fault (h.is ∙ ap Some is) (stops h.at h.lane h.lane_is).cause
 
 pub lane_whole : (Past : Whole → Type 0) (before now : ℕ) (lanes : List Lane) (why : RunFault)
-    → EachLane (λ i x. Stops Past before now x) lanes → IsFirstFault lanes why → (past : Whole) → Past past → IsUndamaged why
+    → EachLane (λ i x. Stops Past before now x.fault) lanes → IsFirstFault lanes why → (past : Whole) → Past past → IsUndamaged why
 lane_whole Past before now lanes why stops h past p =
     lane_well h.lane.fault why h.is ((stops h.at h.lane h.lane_is).whole past p)
 

@@ -41,7 +41,7 @@ use Rattle.fish_run.specs.Reports.{end_of, first_number, last_end}
 use Rattle.fish_run.specs.within.Rolls.{RollsOn, StopsRoll}
 use Rattle.fish_run.specs.Joins.{block_said, lanes_after, nothing_said, said_over}
 use Rattle.fish_run.specs.Rounds.{AreAll, FollowOn, GoOn, GoesOnWith, IsNext, given_after, given_in}
-use Rattle.fish_run.specs.within.Runs.{Behind, CanClose, CanGoOn}
+use Rattle.fish_run.specs.within.Runs.{CanClose, CanGoOn}
 use Rattle.fish_run.specs.within.Steps.{AreWhole, HasRounds, Leaves}
 use Rattle.fish_run.specs.Tables.{AreRenewed, IsNearLimits, IsRenewedBy, table_of}
 use Rattle.fish_run.specs.within.Tables.{table_after}
@@ -53,7 +53,7 @@ use Rattle.fish_run.specs.declared.rounds.RoundStart.{RoundStart}
 use Rattle.fish_run.specs.declared.saying.Said.{Said}
 use Rattle.fish_script.specs.declared.script.Statement.{Statement}
 use Rattle.fish_store.specs.CommitRows.{LeavesRows}
-use Rattle.fish_store.specs.Points.{point_at}
+use Rattle.fish_store.specs.Points.{Behind, point_at}
 use Rattle.fish_store.specs.Sound.{GoesOnHere, Point, Runs}
 use Rattle.fish_store.specs.declared.store.Store.{Store}
 use Rattle.fish_whole.specs.Whole.{Later, Whole}
@@ -340,8 +340,8 @@ module _
     shape = ap (λ (l : Log). l.shape) log
 
     -- a lane met a fault
-    pub stops_cut : (why : RunFault) → IsFirstFault ran why → (low high : ℕ) → EachLane (λ i x. Stops Past low high x) ran → CanClose m
-        → StopsBlock disks d s from given disk' (record { store = Some m; why = why })
+    pub stops_cut : (why : RunFault) → IsFirstFault ran why → (low high : ℕ) → EachLane (λ i x. Stops Past low high x.fault) ran
+        → CanClose m → StopsBlock disks d s from given disk' (record { store = Some m; why = why })
     stops_cut why f low high stops close = record {
       rounds = g.rounds;
       cut = Some b;

@@ -17,8 +17,9 @@ ghost use Rattle.fish_run.specs.within.Turning.{AsksMore, FindNoneFull, IsRenewe
 ghost use Rattle.fish_run.specs.within.Turning.{says_full};
 ghost use Rattle.fish_run.specs.Joins.{goes_on};
 ghost use Rattle.fish_run.specs.within.Rolls.{StopsRoll};
-ghost use Rattle.fish_run.specs.within.Runs.{Behind, CanClose, CanGoOn};
+ghost use Rattle.fish_run.specs.within.Runs.{CanClose, CanGoOn};
 ghost use Rattle.fish_run.specs.within.Steps.{AreWhole, Leaves};
+ghost use Rattle.fish_store.specs.Points.{Behind};
 
 use crate::fault::RunFault;
 use crate::lasting::{Stopped, roll_on};

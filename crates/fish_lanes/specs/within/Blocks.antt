@@ -2,7 +2,7 @@
 use Rattle.std.specs.Prelude.{ℕ, ◌≡◌, ◌⊎◌, ◌+◌, ◌++◌, ◌<◌, ◌≤◌, List, [], All, length, slice_get, slice_index_or, Some}
 use Rattle.std.specs.Prelude.{None}
 use Rattle.fish_lanes.specs.within.Advancing.{HasGone}
-use Rattle.fish_lanes.specs.within.Controlling.{HasControlled}
+use Rattle.fish_lanes.specs.within.Controlled.{HasControlled}
 use Rattle.fish_lanes.specs.within.Full.{StopsFull}
 use Rattle.fish_registry.specs.declared.registrar.Registrar.{Registrar}
 use Rattle.fish_lanes.specs.Records.{rows_of_lane}

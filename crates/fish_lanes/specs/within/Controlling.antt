@@ -1,21 +1,12 @@
 -- What one step of the control pass on the definitions tells and leaves.
-use Rattle.std.specs.Prelude.{ℕ, ◌≡◌, ◌⊎◌, ◌<◌, suc, List, [], ◌∷◌, ◌++◌, Option, Some, None, take, ⊤}
-use Rattle.fish_lanes.specs.within.Doing.{IsFit}
-use Rattle.fish_lanes.specs.Ending.{HasEnd}
+use Rattle.std.specs.Prelude.{ℕ, ◌≡◌, ◌⊎◌, ◌<◌, suc, List, [], ◌∷◌, ◌++◌, Option, Some, None, ⊤}
+use Rattle.fish_lanes.specs.Controlling.{CanControl}
 use Rattle.fish_lanes.specs.within.Gains.{Gains}
-use Rattle.fish_lanes.specs.Pending.{AreFound, HasFoundOlder}
-use Rattle.fish_lanes.specs.within.Plans.{PlansHoldFor}
-use Rattle.fish_lanes.specs.Records.{LaneRow, contents}
-use Rattle.fish_lanes.specs.Registering.{ItemsFit, IsBetween, ItemFits, KnowsEach, KnowsRegistry, after, after_all}
+use Rattle.fish_lanes.specs.Pending.{HasFoundOlder}
+use Rattle.fish_lanes.specs.Registering.{IsBetween, ItemFits, KnowsRegistry, after}
 use Rattle.fish_lanes.specs.Registering.{bound, registry_of}
-use Rattle.fish_lanes.specs.within.Running.{HasRun}
-use Rattle.fish_lanes.specs.Single.{NamesNone, SaysOnly}
-use Rattle.fish_lanes.specs.within.Sizes.{SaysShut}
-use Rattle.fish_lanes.specs.Telling.{content_of, count_of}
+use Rattle.fish_lanes.specs.Single.{NamesNone}
 use Rattle.fish_lanes.specs.declared.block.Boundary.{Boundary}
-use Rattle.fish_lanes.specs.declared.work.LaneFault.{LaneFault}
-use Rattle.fish_lanes.specs.declared.work.LaneFault.TheVariants as cause
-use Rattle.fish_lanes.specs.declared.work.Work.{Work}
 use Rattle.fish_registry.specs.Changing.{IsAtTail}
 use Rattle.fish_registry.specs.Knowing.{Knows}
 use Rattle.fish_registry.specs.declared.outcome.RegRefusal.{RegRefusal}
@@ -30,10 +21,12 @@ use Rattle.fish_report.specs.declared.item.RegisterCause.{RegisterCause}
 use Rattle.fish_report.specs.declared.item.RegisterCause.TheVariants as register
 use Rattle.fish_rule.specs.Clocks.{HasLoaded}
 use Rattle.fish_rule.specs.LoadSteps.{IsAlone}
-use Rattle.fish_rule.specs.Views.{AllOf}
+use Rattle.fish_rule.specs.Passes.{view}
+use Rattle.fish_rule.specs.declared.table.Log.{Log}
+use Rattle.fish_rule.specs.declared.table.Pass.{Pass}
 use Rattle.fish_rule.specs.declared.view.Noted.TheVariants.{Epoch}
 use Rattle.fish_rule.specs.declared.view.View.{View}
-use Rattle.fish_whole.specs.Whole.{Whole}
+use Rattle.fish_store.specs.Sound.{RowsGoOn}
 
 -- the item fits the registry where it stands, the registry is the one after it, and its definitions stay known
 pub record Does (u : View) (r : Registrar) (t : View) (s : Registrar) (x : Item) : Type 0 where
@@ -105,36 +98,33 @@ SaysTail u (item.Registered name id from def) = IsAtTail u from
 SaysTail u (item.Deregistered name id to) = IsAtTail u to
 SaysTail u x = ⊤
 
--- one statement was done
-pub record IsControlled (Past : Whole → Type 0) (u : View) (r : Registrar) (t : View) (s : Registrar) (w : Work)
-    (x : Item) : Type 0 where
-  pub rows : List LaneRow
-  pub gains : Gains u t rows
-  pub first : contents rows ≡ take (count_of x) (content_of w)
-  pub fit : IsFit Past u t w x
-  pub shuts : SaysShut u t (x ∷ [])
-  pub none : IsAlone u → NamesNone x
+-- ---- steps on the definitions
+
+-- the control pass goes on over a step on the definitions: it may control, the rows go on, and no record was stored
+pub record Controls (log : Log) (p : Pass) (r : Registrar) (q : Pass) (s : Registrar) : Type 0 where
+  pub can : CanControl log q s
+  pub grows : RowsGoOn (view p) r.catalog s.catalog
+  pub gains : Gains (view p) (view q) []
+  pub shut : (view q).shut ≡ (view p).shut
+
+-- the same of a look at the registration that waits
+pub record Looks (log : Log) (p : Pass) (r : Registrar) (q : Pass) (s : Registrar) : Type 0 where
+  pub on : Controls log p r q s
+  pub loads : (view q).clock.loads ≡ (view p).clock.loads
+  pub idle : r.waiting ≡ None → (view q ≡ view p) × (s.waiting ≡ None)
+  pub looked : HasLooked (view p) (view q) s
+
+-- what an item tells of a step on the definitions
+pub record TellsStep (u : View) (r : Registrar) (t : View) (s : Registrar) (x : Item) : Type 0 where
+  pub closed : IsAlone u → NamesNone x
   pub tail : IsAlone u → SaysTail u x
   pub rolls : RollsBy u t x
   pub does : Does u r t s x
 
--- a part of it was
-pub record IsPartControlled (u t : View) (w : Work) : Type 0 where
-  pub rows : List LaneRow
-  pub count : ℕ
-  pub gains : Gains u t rows
-  pub first : contents rows ≡ take count (content_of w)
-
--- what the statements of the first lane leave: their items, which are so of the definitions where they stand, what
--- those of pending registrations have after them, and what one that is alone tells besides; and, unless there was a
--- fault, the registry after them
-pub record HasControlled (Past : Whole → Type 0) (v u : View) (r s : Registrar) (works : List Work) (items : List Item)
-    (fault : LaneFault) : Type 0 where
-  pub run : HasRun Past v u works items fault
-  pub so : ItemsFit v.learned.count u.learned.count (registry_of v r) items
-  pub closed : IsAlone v → AllOf NamesNone items
-  pub only : (end : ℕ) → HasEnd v end → r.waiting ≡ None → SaysOnly Past v u r.catalog end works items
-  pub plans : PlansHoldFor v u (registry_of v r) works items
-  pub is : fault ≡ cause.None → registry_of u s ≡ after_all (registry_of v r) items
-  pub each : KnowsEach u (registry_of v r) items
-  pub found : AreFound v.clock u.clock (registry_of v r) items
+-- the same of the registration with an id that was just made
+pub record TellsBegun (u : View) (r : Registrar) (t : View) (s : Registrar) (name : List ℕ) (id : ℕ) (def : List ℕ)
+    (x : Item) : Type 0 where
+  pub closed : IsAlone u → NamesNone x
+  pub tail : IsAlone u → SaysTail u x
+  pub rolls : RollsBy u t x
+  pub begun : SaysBegun u r t s name id def x

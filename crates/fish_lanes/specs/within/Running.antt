@@ -1,5 +1,7 @@
 -- What a lane asks of its pass, and what it leaves.
 use Rattle.std.specs.Prelude.{ℕ, ◌≡◌, ◌++◌, All, List, [], Some, ⊤}
+use Rattle.fish_epoch.specs.Definitions.{IsDefsOf}
+use Rattle.fish_epoch.specs.declared.definitions.Defs.{Defs}
 use Rattle.fish_ingest.specs.Ingestion.{CanStart}
 use Rattle.fish_lanes.specs.within.Full.{StopsFull}
 use Rattle.fish_lanes.specs.within.Gains.{Gains, IsFullBy}
@@ -38,6 +40,11 @@ abbrev pub IsFree : Work → Type 0
 IsFree (work.Register name def) = ⊥
 IsFree (work.Deregister name) = ⊥
 IsFree w = ⊤
+
+-- a pass, with the definitions that it has read
+pub record HasDefs (log : Log) (pass : Pass) (defs : Defs) : Type 0 where
+  pub of : IsPassOf log pass
+  pub read : IsDefsOf (view pass) defs
 
 -- what a pass left that did these statements; what their items tell is so, after each such past, of each whole whose
 -- table goes up to the block's end

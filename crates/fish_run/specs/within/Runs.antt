@@ -1,6 +1,5 @@
 -- What a run of a script asks for and leaves between two blocks.
 use Rattle.std.specs.Prelude.{ℕ, ◌≡◌, ◌+◌, ◌^◌, List, None}
-use Rattle.fish_disk.specs.declared.disk.Disk.{Ghosts as Disks}
 use Rattle.fish_flush.specs.Reading.{IsLineAt}
 use Rattle.fish_lanes.specs.Controlling.{CanControl}
 use Rattle.fish_lanes.specs.Ending.{HasEnd}
@@ -12,9 +11,8 @@ use Rattle.fish_rule.specs.declared.table.Log.{Log}
 use Rattle.fish_scan.specs.Colder.{IsBelow}
 use Rattle.fish_store.specs.Ending.{KeepsCatalog}
 use Rattle.fish_store.specs.Points.{point_at}
-use Rattle.fish_store.specs.Sound.{IsSoundBehind, MayGoOn}
+use Rattle.fish_store.specs.Sound.{MayGoOn}
 use Rattle.fish_store.specs.declared.store.Store.{Store}
-use Rattle.fish_whole.specs.Whole.{Whole}
 
 -- the table has the buckets of its shape, and as many lines as a table of that shape has which begins there
 pub record IsTable (log : Log) : Type 0 where
@@ -51,9 +49,3 @@ pub record IsAllKept {D : Type 0} (images : D → List ℕ → Type 0) (disk : D
   pub line : IsLineAt (view s.pass) s.file.flusher.count s.file.flusher.line
   pub catalog : (i : List ℕ) → images disk i
       → KeepsCatalog s.log.shape s.registrar.catalog s.file.flusher.line i
-
--- ---- pasts
-
--- what stood before the table as a disk had it with this store, of which the content is told later
-abbrev pub Behind : {D : Type 0} → Disks D → D → Store → D → Whole → Type 0
-Behind disks disk s next = IsSoundBehind disks (point_at disk s) (disks.content next)

@@ -10,14 +10,14 @@ run_works-lane-requires-clause-defs g c = λ r. let bad : false ≡ true = sym c
 
 pub returns : goal.returns
 returns g c =
-    let run = c.run_works-lane.ensures in
+    let run = c.run_works-lane.ensures.advances in
     record {
       gone = record {
         before = c.in-Some.field-0;
         before_is = sym c.take.ensures.value ∙ c.in-Some.is;
         after = record { pass = c.run_works-lane.new.pass };
         after_is = refl;
-        can = record { of = run.pass; start = run.start };
+        can = c.run_works-lane.ensures.can;
         works = refl;
         number = refl;
         left = refl;

@@ -1,42 +1,51 @@
 -- What is committed is what an item tells, and the control pass goes on.
-use Rattle.std.proofs.Common.{ℕ, Result, [], ◌∷◌, refl, subst}
+use Rattle.std.proofs.Common.{◌∙◌, ℕ, Err, Result, ap, subst}
 use Rattle.fish_flush.proofs.Lasting.{known_held}
-use Rattle.fish_lanes.proofs.Committing.{commit_fits, reads_control}
 use Rattle.fish_flush.specs.declared.refusal.FlushRefusal.{FlushRefusal}
+use Rattle.fish_lanes.proofs.Steps.{by_commit, runs_commit}
+use Rattle.fish_lanes.specs.declared.work.Work.TheVariants as work
+use Rattle.fish_lanes.specs.within.Parts.{RunsStatement, store_of}
 use Rattle.fish_rule.specs.Passes.{view}
-use Rattle.fish_store.specs.CommitRows.{LeavesRows, by_checkpoint}
 use Rattle.fish_lanes.proofs.control.commit.Goals as goal
 
+pub checkpoint-requires-clause-pass : goal.checkpoint-requires-clause-pass
+checkpoint-requires-clause-pass g c = c.requires.run.can.of
+
 pub checkpoint-requires-clause-rows : goal.checkpoint-requires-clause-rows
-checkpoint-requires-clause-rows g c = known_held (view c.args.pass.now) c.args.registrar.now c.requires.can.knows
+checkpoint-requires-clause-rows g c = known_held (view c.args.pass.now) c.args.registrar.now c.requires.run.can.knows
 
-pub returns-in-Ok-clause-can : goal.returns-in-Ok-clause-can
-returns-in-Ok-clause-can g c = reads_control _ _ _ _ c.requires.can c.checkpoint.ensures.pass c.checkpoint.ensures.reads
+pub checkpoint-requires-clause-may : goal.checkpoint-requires-clause-may
+checkpoint-requires-clause-may g c = c.requires.run.commit
 
-pub returns-in-Ok-clause-fits : goal.returns-in-Ok-clause-fits
-returns-in-Ok-clause-fits g c = commit_fits (view c.args.pass.now) (view c.checkpoint.new.pass) c.in-Ok.count _ refl c.in-Ok.ensures.settled
-    c.in-Ok.ensures.commit.counted
+pub returns-in-Ok-clause-ran : goal.returns-in-Ok-clause-ran
+returns-in-Ok-clause-ran g c =
+    let disk = g.D.Disk in
+    let before = store_of c.args.file.now c.args.log.now c.args.pass.now c.args.registrar.now in
+    let after = store_of c.checkpoint.new.self c.args.log.now c.checkpoint.new.pass c.args.registrar.now in
+    let e = c.checkpoint.ensures in
+    subst (λ (z : Result ℕ FlushRefusal). RunsStatement disk c.args.disk.now before c.checkpoint.new.disk after work.Checkpoint
+    (by_commit disk c.args.disk.now before c.requires.run z)) c.in-Ok.is
+    (runs_commit disk c.args.disk.now before c.requires.run c.checkpoint.new.disk c.checkpoint.new.self c.checkpoint.new.pass
+    e.pass e.reads e.cold e.goes c.checkpoint.result e.settled e.commit e.again e.rows e.cause)
 
-pub returns-in-Err-DiskFault-clause-can : goal.returns-in-Err-DiskFault-clause-can
-returns-in-Err-DiskFault-clause-can g c = reads_control _ _ _ _ c.requires.can c.checkpoint.ensures.pass c.checkpoint.ensures.reads
+pub returns-in-Err-DiskFault-clause-ran : goal.returns-in-Err-DiskFault-clause-ran
+returns-in-Err-DiskFault-clause-ran g c =
+    let disk = g.D.Disk in
+    let before = store_of c.args.file.now c.args.log.now c.args.pass.now c.args.registrar.now in
+    let after = store_of c.checkpoint.new.self c.args.log.now c.checkpoint.new.pass c.args.registrar.now in
+    let e = c.checkpoint.ensures in
+    subst (λ (z : Result ℕ FlushRefusal). RunsStatement disk c.args.disk.now before c.checkpoint.new.disk after work.Checkpoint
+    (by_commit disk c.args.disk.now before c.requires.run z)) (c.in-Err-DiskFault.is ∙ ap Err c.in-Err-DiskFault.field-0-is)
+    (runs_commit disk c.args.disk.now before c.requires.run c.checkpoint.new.disk c.checkpoint.new.self c.checkpoint.new.pass
+    e.pass e.reads e.cold e.goes c.checkpoint.result e.settled e.commit e.again e.rows e.cause)
 
-pub returns-in-Err-OutOfMemory-clause-can : goal.returns-in-Err-OutOfMemory-clause-can
-returns-in-Err-OutOfMemory-clause-can g c = reads_control _ _ _ _ c.requires.can c.checkpoint.ensures.pass c.checkpoint.ensures.reads
-
-pub returns-in-Ok-clause-rows : goal.returns-in-Ok-clause-rows
-returns-in-Ok-clause-rows g c =
-    let rows = c.args.registrar.now.catalog in
-    subst (λ (z : Result ℕ FlushRefusal). LeavesRows g.D.Disk c.args.disk.now c.checkpoint.new.disk (by_checkpoint z rows) (rows ∷ []))
-    c.in-Ok.is c.checkpoint.ensures.rows
-
-pub returns-in-Err-DiskFault-clause-rows : goal.returns-in-Err-DiskFault-clause-rows
-returns-in-Err-DiskFault-clause-rows g c =
-    let rows = c.args.registrar.now.catalog in
-    subst (λ (z : Result ℕ FlushRefusal). LeavesRows g.D.Disk c.args.disk.now c.checkpoint.new.disk (by_checkpoint z rows) (rows ∷ []))
-    c.in-Err-DiskFault.is c.checkpoint.ensures.rows
-
-pub returns-in-Err-OutOfMemory-clause-rows : goal.returns-in-Err-OutOfMemory-clause-rows
-returns-in-Err-OutOfMemory-clause-rows g c =
-    let rows = c.args.registrar.now.catalog in
-    subst (λ (z : Result ℕ FlushRefusal). LeavesRows g.D.Disk c.args.disk.now c.checkpoint.new.disk (by_checkpoint z rows) (rows ∷ []))
-    c.in-Err-OutOfMemory.is c.checkpoint.ensures.rows
+pub returns-in-Err-OutOfMemory-clause-ran : goal.returns-in-Err-OutOfMemory-clause-ran
+returns-in-Err-OutOfMemory-clause-ran g c =
+    let disk = g.D.Disk in
+    let before = store_of c.args.file.now c.args.log.now c.args.pass.now c.args.registrar.now in
+    let after = store_of c.checkpoint.new.self c.args.log.now c.checkpoint.new.pass c.args.registrar.now in
+    let e = c.checkpoint.ensures in
+    subst (λ (z : Result ℕ FlushRefusal). RunsStatement disk c.args.disk.now before c.checkpoint.new.disk after work.Checkpoint
+    (by_commit disk c.args.disk.now before c.requires.run z)) (c.in-Err-OutOfMemory.is ∙ ap Err c.in-Err-OutOfMemory.field-0-is)
+    (runs_commit disk c.args.disk.now before c.requires.run c.checkpoint.new.disk c.checkpoint.new.self c.checkpoint.new.pass
+    e.pass e.reads e.cold e.goes c.checkpoint.result e.settled e.commit e.again e.rows e.cause)

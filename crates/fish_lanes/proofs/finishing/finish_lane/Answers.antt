@@ -2,6 +2,7 @@
 use Rattle.std.proofs.Common.{◌≡◌, ◌≤◌, ◌⊎◌, ◌++◌, ◌∙◌, List, ⊎_elim, append-nil, ap, false, length, refl, sym, subst, arith}
 use Rattle.fish_lanes.proofs.Finished.{on_ended, on_far, short_stops}
 use Rattle.fish_lanes.proofs.Kept.{all_answers, handed_cause, handed_last, handed_left, handed_parts, handed_whole, on_handed}
+use Rattle.fish_lanes.proofs.Pages.{reads_none}
 use Rattle.fish_lanes.specs.within.Advancing.{IsOn, IsSoFar}
 use Rattle.fish_lanes.specs.Gains.{WasShut}
 use Rattle.fish_lanes.specs.within.Pasts.{WasHere}
@@ -38,11 +39,11 @@ pub returns-in_default-clause-stops : goal.returns-in_default-clause-stops
 returns-in_default-clause-stops g c short =
     let content = g.D.Disk.content c.args.disk.now in
     short_stops (WasHere content c.args.log.now.key c.args.file.now.cold content) (g.D.Disk.faults c.args.disk.now)
-    (g.D.Disk.faults c.args.disk.now) c.args.lane.now (omega arith) short
+    (g.D.Disk.faults c.args.disk.now) c.args.lane.now.fault (omega arith) short
 
 pub returns-clause-finished : goal.returns-clause-finished
 returns-clause-finished g c =
-    let run = c.finish_works-fault.ensures in
+    let run = c.finish_works-fault.ensures.finishes in
     let lane = c.args.lane.now in
     let content = g.D.Disk.content c.args.disk.now in
     let later = g.D.Disk.content c.finish_works-fault.new.disk in
@@ -64,7 +65,7 @@ returns-clause-finished g c =
       before_is = sym c.take.ensures.value ∙ c.in-Some.is;
       after = record { pass = c.finish_works-fault.new.pass };
       after_is = refl;
-      can = run.pass;
+      can = c.finish_works-fault.ensures.pass;
       works = handed_parts works kept left many why last handed;
       number = refl;
       run = λ start on. on_handed Past start u works kept left items why last
@@ -93,8 +94,11 @@ returns-clause-stops g c short =
     let last = c.hand_back-lane.result in
     let handed = c.hand_back-lane.ensures in
     record {
-      later = c.finish_works-fault.ensures.reads.cold.later;
+      later = c.finish_works-fault.ensures.stops.later;
       cause = handed_cause (g.D.Disk.faults c.args.disk.now) (g.D.Disk.faults c.finish_works-fault.new.disk) works kept left many why last
-          handed c.finish_works-fault.ensures.cause;
-      whole = λ past was. handed_whole works kept left many why last handed (c.finish_works-fault.ensures.whole past was);
+          handed c.finish_works-fault.ensures.stops.cause;
+      whole = λ past was. handed_whole works kept left many why last handed (c.finish_works-fault.ensures.stops.whole past was);
     }
+
+pub returns-in_default-clause-reads : goal.returns-in_default-clause-reads
+returns-in_default-clause-reads g c = reads_none g.D.Disk c.args.log.now.key c.args.disk.now c.args.file.now c.requires.below

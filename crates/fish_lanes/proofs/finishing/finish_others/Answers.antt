@@ -5,7 +5,7 @@ use Rattle.std.proofs.lemmas.Option.{slice_get-get_or, slice_get_within}
 use Rattle.fish_lanes.proofs.Finished.{finished_fewer, stops_before, stops_later}
 use Rattle.fish_lanes.proofs.Lists.{get_set_else, get_set_here, read_at, some_once}
 use Rattle.fish_lanes.proofs.Moments.{get_there}
-use Rattle.fish_lanes.proofs.Pages.{here_on, pages_both, pages_none, pages_told}
+use Rattle.fish_lanes.proofs.Pages.{here_on, reads_both, reads_none, reads_told}
 use Rattle.fish_lanes.specs.within.Advancing.{HasFinished, IsShort}
 use Rattle.fish_lanes.specs.Outcome.{Stops}
 use Rattle.fish_lanes.specs.within.Pasts.{WasHere}
@@ -16,12 +16,8 @@ use Rattle.fish_lanes.proofs.finishing.finish_others.Goals as goal
 
 pub loop-i-init : goal.loop-i-init
 loop-i-init g c =
-    let disk = g.D.Disk in
     record {
-      below = c.requires.below;
-      flusher = refl;
-      reads = pages_none disk c.args.log.now.key c.args.file.now.cold
-          c.args.disk.now;
+      reads = reads_none g.D.Disk c.args.log.now.key c.args.disk.now c.args.file.now c.requires.below;
       each = λ j x y less. absurd (omega arith);
       rest = λ j above. refl;
     }
@@ -69,41 +65,37 @@ loop-i-preserved g c =
     let now = c.finish_lane.new.disk in
     let cold = c.args.file.now.cold in
     let read = c.loop-i.file.cold in
-    let after = c.finish_lane.new.file.cold in
     let step = c.finish_lane.ensures.reads in
     let at : slice_get c.loop-i.lanes i ≡ Some r = read_at c.loop-i.lanes i r (omega arith) c.index-lanes-i.is in
     let at_fn : slice_get c.args.lanes.now i ≡ Some r = inv.rest i (omega arith) ∙ at in
     let Was : Whole → Type 0 = WasHere (disk.content first) k cold (disk.content now) in
-    let told = pages_told disk k read after before now step in
+    let told = reads_told disk k inv.reads step in
     let so_far : (past : Whole) → Was past → WasHere (disk.content first) k cold (disk.content before) past =
     λ past was. record { here = was.here; told = told was.told } in
     let here : (past : Whole) → Was past → WasHere (disk.content before) k read (disk.content now) past =
     λ past was. record {
-      here = here_on disk k cold read first before past inv.reads
-          (told was.told) was.here;
+      here = here_on disk k cold read first before past inv.reads.pages (told was.told) was.here;
       told = was.told;
     } in
     let Is : Lane → Lane → Type 0 = λ x z. HasFinished Was c.args.full c.args.log.now x z
-    × Stops Was (disk.faults first) (disk.faults now) z in
+    × Stops Was (disk.faults first) (disk.faults now) z.fault in
     let mine : Is r y = (
       finished_fewer (WasHere (disk.content before) k read (disk.content now)) Was c.args.full c.args.log.now r y here
           (subst (λ (z : Lane). HasFinished (WasHere (disk.content before) k read (disk.content now)) c.args.full c.args.log.now z y)
           (sym c.index-lanes-i.is) c.finish_lane.ensures.finished),
-      stops_before Was (disk.faults first) (disk.faults before) (disk.faults now) y inv.reads.cold.later
+      stops_before Was (disk.faults first) (disk.faults before) (disk.faults now) y.fault inv.reads.pages.cold.later
           (stops_later (WasHere (disk.content before) k read (disk.content now)) Was (disk.faults before) (disk.faults now)
-          (disk.faults now) y (omega arith) here
+          (disk.faults now) y.fault (omega arith) here
           (c.finish_lane.ensures.stops (subst (λ (z : Lane). IsShort z.fault) c.index-lanes-i.is
           (c.requires.memory i r at_fn)))),
     ) in
     record {
-      below = c.finish_lane.ensures.below;
-      flusher = c.finish_lane.ensures.flusher ∙ inv.flusher;
-      reads = pages_both disk k cold read after first before now inv.reads step;
+      reads = reads_both disk k inv.reads step;
       each = each_more Is c.args.lanes.now c.loop-i.lanes i r y (omega arith) at_fn
           (λ j x z less at_x at_z. (let e = inv.each j x z less at_x at_z in (
             finished_fewer (WasHere (disk.content first) k cold (disk.content before)) Was c.args.full c.args.log.now x z so_far e.0,
             stops_later (WasHere (disk.content first) k cold (disk.content before)) Was (disk.faults first) (disk.faults before)
-                (disk.faults now) z step.cold.later so_far e.1,
+                (disk.faults now) z.fault step.pages.cold.later so_far e.1,
           ))) mine;
       rest = λ j above. inv.rest j (omega arith) ∙ sym (get_set_else c.loop-i.lanes i j y (λ e. omega arith));
     }

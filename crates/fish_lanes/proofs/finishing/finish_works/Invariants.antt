@@ -2,29 +2,24 @@
 use Rattle.std.proofs.Common.{◌≡◌, ℕ, List, Option, false, length}
 use Rattle.std.specs.Prelude.{IsSome}
 use Rattle.fish_epoch.specs.Definitions.{IsDefsOf}
-use Rattle.fish_ingest.specs.Ingestion.{CanStart}
+use Rattle.fish_lanes.specs.Spans.{IsAnswer}
 use Rattle.fish_lanes.specs.within.Advancing.{IsSoFar}
 use Rattle.fish_lanes.specs.within.Full.{HasFound}
+use Rattle.fish_lanes.specs.within.Parts.{OnlyReads}
 use Rattle.fish_lanes.specs.within.Pasts.{WasHere}
-use Rattle.fish_lanes.specs.Spans.{IsAnswer}
-use Rattle.fish_rule.specs.Passes.{IsPassOf, view}
+use Rattle.fish_lanes.specs.within.Running.{CanBegin}
+use Rattle.fish_rule.specs.Passes.{view}
 use Rattle.fish_rule.specs.Views.{AllOf}
 use Rattle.fish_rule.specs.declared.view.View.{View}
-use Rattle.fish_scan.specs.Colder.{IsBelow}
-use Rattle.fish_store.specs.Sound.{ReadsPages}
 use Rattle.fish_lanes.proofs.finishing.finish_works.Given as goal
 
 abbrev pub invariant-loop-next : goal.invariant-loop-next
 invariant-loop-next g l =
     let disk = g.D.Disk in
     record {
-      of : IsPassOf l.log l.pass;
-      start : CanStart (view l.pass);
+      can : CanBegin l.log l.pass;
       read : IsDefsOf (view l.pass) l.defs;
-      below : IsBelow l.log.key l.file.cold;
-      flusher : l.file.flusher ≡ l.fn.file.flusher;
-      reads : ReadsPages disk l.log.key l.fn.file.cold l.file.cold l.fn.disk
-          l.disk;
+      reads : OnlyReads disk l.log.key l.fn.disk l.fn.file l.disk l.file;
       position : length l.items ≡ l.next;
       far : (start : View) (later : Option (List ℕ)) → (IsSome later → IsSome (disk.content l.disk))
           → IsSoFar (WasHere (disk.content l.fn.disk) l.log.key l.fn.file.cold later) start (view l.fn.pass) l.works l.fn.items

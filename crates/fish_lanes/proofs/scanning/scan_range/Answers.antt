@@ -33,3 +33,6 @@ returns-in-Err-clause-fits c =
     (refused_item v u c.args.ask.now c.version-in-Err.result c.in-Err.refusal item.ScanRefused c.refused.result
     (λ why is. refused_fits v u c.scan_with.new.defs.known c.args.ask.now c.in-Err.refusal c.version-in-Err.result why
     c.in-Err.ensures.refused is c.version-in-Err.ensures) c.refused.ensures)))
+
+pub scan_with-requires-clause-has : goal.scan_with-requires-clause-has
+scan_with-requires-clause-has c = record { of = c.requires.pass; read = c.requires.defs }

@@ -1,13 +1,11 @@
 -- A statement more, or the end, or the first scan of older records.
 use Rattle.std.proofs.Common.{Ok, Err, ◌≡◌, ◌∙◌, ◌+◌, ℕ, List, [], ◌∷◌, get_or, length, length-append, sym, ap, subst}
-use Rattle.std.proofs.Common.{arith, inl}
+use Rattle.std.proofs.Common.{arith, inl, refl}
 use Rattle.std.specs.Prelude.{is_some}
 use Rattle.fish_ingest.proofs.IngestionStart.{idle_law}
 use Rattle.fish_lanes.proofs.Full.{found_none, found_tells, next_found, open_test, stopped_found}
 use Rattle.fish_lanes.proofs.SoFar.{next_answers, next_done, next_more, next_start, next_stopped, stopped_short}
-use Rattle.fish_lanes.specs.within.Full.{SaysLast}
-use Rattle.fish_lanes.specs.within.Advancing.{IsOn, IsShort}
-use Rattle.fish_lanes.specs.within.Pasts.{WasHere}
+use Rattle.fish_lanes.specs.within.Works.{AdvancesWorks}
 use Rattle.fish_lanes.specs.Running.{IsShared}
 use Rattle.fish_lanes.specs.declared.work.LaneFault.TheVariants as fault
 use Rattle.fish_report.specs.declared.item.Item.{Item}
@@ -16,8 +14,7 @@ use Rattle.fish_lanes.proofs.statements.run_works.Goals as goal
 
 pub loop-next-init : goal.loop-next-init
 loop-next-init g c = record {
-  of = c.requires.pass;
-  start = c.requires.start;
+  can = c.requires.can;
   read = c.requires.defs;
   position = sym c.len-next.ensures;
   far = λ start content k cold later far. far;
@@ -44,13 +41,12 @@ loop-next-preserved g c =
     let test = c.loop-next-test.true in
     let end = c.loop-next.auto.next-end in
     let position = inv.position in
-    let idle = idle_law u inv.of.stands inv.start in
+    let idle = idle_law u inv.can.of.stands inv.can.start in
     let at : w ≡ get_or works (length old) w = subst (λ (n : ℕ). w ≡ get_or works n w) (sym position) c.index-works-next.is in
     let n = c.in-Ok.ensures.next in
     let shared = subst IsShared (sym c.index-works-next.is) (c.requires.shared c.loop-next.next w (omega arith)) in
     record {
-      of = c.run_next.ensures.pass;
-      start = next_start u t w old new (Ok tt) idle inv.start n;
+      can = record { of = c.run_next.ensures.pass; start = next_start u t w old new (Ok tt) idle inv.can.start n };
       read = c.run_next.ensures.defs;
       position = ap (λ (z : List Item). length z) n.1 ∙ length-append old (n.0 ∷ []) ∙ ap (λ (z : ℕ). z + 1) position;
       far = λ start content k cold later before. next_done start u t works old new w (inv.far start content k cold later before)
@@ -63,8 +59,18 @@ loop-next-preserved g c =
       answers = λ all. next_answers u t w old new (Ok tt) n (inv.answers all);
     }
 
-pub returns-in-Err-clause-goes : goal.returns-in-Err-clause-goes
-returns-in-Err-clause-goes g c start content k cold later before =
+pub returns-in-Err-clause-can : goal.returns-in-Err-clause-can
+returns-in-Err-clause-can g c =
+    let can = c.loop-next.invariant.can in
+    let u = view c.loop-next.pass in
+    record {
+      of = c.run_next.ensures.pass;
+      start = next_start u (view c.run_next.new.pass) c.index-works-next.result c.loop-next.items c.run_next.new.items (Err c.in-Err.stop)
+          (idle_law u can.of.stands can.start) can.start c.in-Err.ensures.next;
+    }
+
+pub returns-in-Err-clause-advances : goal.returns-in-Err-clause-advances
+returns-in-Err-clause-advances g c =
     let inv = c.loop-next.invariant in
     let works = c.args.works.now in
     let old = c.loop-next.items in
@@ -76,56 +82,37 @@ returns-in-Err-clause-goes g c start content k cold later before =
     let end = c.loop-next.auto.next-end in
     let position = inv.position in
     let at : w ≡ get_or works (length old) w = subst (λ (n : ℕ). w ≡ get_or works n w) (sym position) c.index-works-next.is in
-    subst (IsOn (WasHere content k cold later) start t works new) (sym c.fault_at.ensures)
-    (next_stopped start u t works old new w (inv.far start content k cold later before) (omega arith) at c.in-Err.stop
-    inv.start.outside (idle_law u inv.of.stands inv.start) c.in-Err.ensures.next)
+    let next = c.in-Err.ensures.next in
+    subst (AdvancesWorks (view c.args.pass.now) t works c.args.items.now new) (sym c.fault_at.ensures) (record {
+      goes = λ start content k cold later before. next_stopped start u t works old new w (inv.far start content k cold later before)
+          (omega arith) at c.in-Err.stop inv.can.start.outside (idle_law u inv.can.of.stands inv.can.start) next;
+      answers = λ all. next_answers u t w old new (Err c.in-Err.stop) next (inv.answers all);
+      last = λ unshut none.
+          let free = open_test u.shut c.is_full-full.result c.finds_full.result c.finds_full.ensures c.if-finds_full.false
+          (c.is_full-full.ensures ∙ ap is_some unshut) in
+          stopped_found u t w old new free (found_none u old (inv.last unshut none) free) c.in-Err.stop next;
+      short = stopped_short c.in-Err.stop;
+      more = (let before = inv.more in let grown = next_more u t w old new (Err c.in-Err.stop) next in omega arith);
+    })
 
-pub returns-in-Err-clause-start : goal.returns-in-Err-clause-start
-returns-in-Err-clause-start g c =
+pub returns-then-finds_full-clause-advances : goal.returns-then-finds_full-clause-advances
+returns-then-finds_full-clause-advances g c =
     let inv = c.loop-next.invariant in
-    let u = view c.loop-next.pass in
-    next_start u (view c.run_next.new.pass) c.index-works-next.result c.loop-next.items c.run_next.new.items (Err c.in-Err.stop)
-    (idle_law u inv.of.stands inv.start) inv.start c.in-Err.ensures.next
+    record {
+      goes = inv.far;
+      answers = inv.answers;
+      last = λ unshut none. found_tells (view c.loop-next.pass) c.loop-next.items fault.None (inv.last unshut none);
+      short = inl refl;
+      more = inv.more;
+    }
 
-pub returns-in-Err-clause-more : goal.returns-in-Err-clause-more
-returns-in-Err-clause-more g c =
-    let before = c.loop-next.invariant.more in
-    let grown = next_more (view c.loop-next.pass) (view c.run_next.new.pass) c.index-works-next.result c.loop-next.items
-    c.run_next.new.items (Err c.in-Err.stop) c.in-Err.ensures.next in
-    omega arith
-
-pub returns-in-Err-clause-answers : goal.returns-in-Err-clause-answers
-returns-in-Err-clause-answers g c all =
-    next_answers (view c.loop-next.pass) (view c.run_next.new.pass) c.index-works-next.result c.loop-next.items
-    c.run_next.new.items (Err c.in-Err.stop) c.in-Err.ensures.next (c.loop-next.invariant.answers all)
-
-pub returns-in-Err-clause-short : goal.returns-in-Err-clause-short
-returns-in-Err-clause-short g c = subst IsShort (sym c.fault_at.ensures) (stopped_short c.in-Err.stop)
-
-pub returns-in-Err-clause-last : goal.returns-in-Err-clause-last
-returns-in-Err-clause-last g c unshut none =
+pub returns-clause-advances : goal.returns-clause-advances
+returns-clause-advances g c =
     let inv = c.loop-next.invariant in
-    let old = c.loop-next.items in
-    let new = c.run_next.new.items in
-    let u = view c.loop-next.pass in
-    let t = view c.run_next.new.pass in
-    let free = open_test u.shut c.is_full-full.result c.finds_full.result c.finds_full.ensures c.if-finds_full.false
-    (c.is_full-full.ensures ∙ ap is_some unshut) in
-    subst (SaysLast t new) (sym c.fault_at.ensures)
-    (stopped_found u t c.index-works-next.result old new free (found_none u old (inv.last unshut none) free) c.in-Err.stop
-    c.in-Err.ensures.next)
-
-pub returns-then-finds_full-clause-goes : goal.returns-then-finds_full-clause-goes
-returns-then-finds_full-clause-goes g c start content k cold later before =
-    c.loop-next.invariant.far start content k cold later before
-
-pub returns-then-finds_full-clause-last : goal.returns-then-finds_full-clause-last
-returns-then-finds_full-clause-last g c unshut none =
-    found_tells (view c.loop-next.pass) c.loop-next.items fault.None (c.loop-next.invariant.last unshut none)
-
-pub returns-clause-last : goal.returns-clause-last
-returns-clause-last g c unshut none =
-    found_tells (view c.loop-next.pass) c.loop-next.items fault.None (c.loop-next.invariant.last unshut none)
-
-pub returns-clause-goes : goal.returns-clause-goes
-returns-clause-goes g c start content k cold later before = c.loop-next.invariant.far start content k cold later before
+    record {
+      goes = inv.far;
+      answers = inv.answers;
+      last = λ unshut none. found_tells (view c.loop-next.pass) c.loop-next.items fault.None (inv.last unshut none);
+      short = inl refl;
+      more = inv.more;
+    }

@@ -2,13 +2,13 @@
 use Rattle.std.proofs.Common.{◌≡◌, ◌≤◌, ℕ, List, Option, None, length}
 use Rattle.fish_cold.specs.declared.cold.Cold.{Cold}
 use Rattle.fish_epoch.specs.Definitions.{IsDefsOf}
-use Rattle.fish_ingest.specs.Ingestion.{CanStart}
 use Rattle.fish_lanes.specs.within.Advancing.{IsSoFar}
 use Rattle.fish_lanes.specs.Full.{IsNotFull}
 use Rattle.fish_lanes.specs.within.Full.{HasFound}
 use Rattle.fish_lanes.specs.within.Pasts.{WasHere}
+use Rattle.fish_lanes.specs.within.Running.{CanBegin}
 use Rattle.fish_lanes.specs.Spans.{IsAnswer}
-use Rattle.fish_rule.specs.Passes.{IsPassOf, view}
+use Rattle.fish_rule.specs.Passes.{view}
 use Rattle.fish_rule.specs.Views.{AllOf}
 use Rattle.fish_rule.specs.declared.view.Key.{Key}
 use Rattle.fish_rule.specs.declared.view.View.{View}
@@ -16,8 +16,7 @@ use Rattle.fish_lanes.proofs.statements.run_works.Given as goal
 
 abbrev pub invariant-loop-next : goal.invariant-loop-next
 invariant-loop-next g l = record {
-  of : IsPassOf l.log l.pass;
-  start : CanStart (view l.pass);
+  can : CanBegin l.log l.pass;
   read : IsDefsOf (view l.pass) l.defs;
   position : length l.items ≡ l.next;
   far : (start : View) (content : Option (List ℕ)) (k : Key) (cold : Cold) (later : Option (List ℕ))

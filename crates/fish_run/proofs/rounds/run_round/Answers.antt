@@ -5,9 +5,9 @@ use Rattle.fish_rule.specs.Passes.{view}
 use Rattle.fish_run.proofs.Blocks.{leaves_of}
 use Rattle.fish_run.proofs.Going.{first_there, go_whole, table_same}
 use Rattle.fish_run.proofs.Lines.{end_stays}
-use Rattle.fish_run.specs.within.Runs.{Behind}
 use Rattle.fish_whole.specs.Whole.{Whole}
 use Rattle.fish_run.proofs.rounds.run_round.Goals as goal
+use Rattle.fish_store.specs.Points.{Behind}
 
 pub returns-clause-leaves : goal.returns-clause-leaves
 returns-clause-leaves g c =

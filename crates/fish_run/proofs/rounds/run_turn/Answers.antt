@@ -16,13 +16,14 @@ use Rattle.fish_run.proofs.Tables.{IsSomeFull, more_full}
 use Rattle.fish_run.proofs.Stepping.{above_base, and_true, asked_for, fewer_tables, idle_next, kept_pairs, lanes_next}
 use Rattle.fish_run.specs.within.Going.{HasStepped}
 use Rattle.fish_run.specs.within.Turning.{StopsTurn}
-use Rattle.fish_run.specs.within.Runs.{Behind, CanGoOn}
+use Rattle.fish_run.specs.within.Runs.{CanGoOn}
 use Rattle.fish_run.specs.Tables.{IsNearLimits}
 use Rattle.fish_run.specs.within.Steps.{AreWhole}
 use Rattle.fish_run.specs.declared.fault.RunFault.TheVariants as fault
 use Rattle.fish_run.specs.declared.lasting.Stopped.{Stopped}
 use Rattle.fish_whole.specs.Whole.{Whole}
 use Rattle.fish_run.proofs.rounds.run_turn.Goals as goal
+use Rattle.fish_store.specs.Points.{Behind}
 
 pub returns-in-Err-clause-stopped : goal.returns-in-Err-clause-stopped
 returns-in-Err-clause-stopped g c = λ d s from now given ready.
