@@ -1,4 +1,7 @@
 -- A run that came to its end, one that was stopped, and one whose log couldn't be shown.
+use Rattle.fish_registry.specs.Knowing.{KnowsFirst}
+use Rattle.fish_rule.specs.declared.table.Log.{Log}
+use Rattle.fish_run.proofs.Going.{new_store, point_opened}
 use Rattle.std.proofs.Common.{◌≡◌, ℕ, ◌+◌, ◌^◌, List, [], ◌∷◌, ◌++◌, refl, sym, ap, ◌∙◌, subst, true, false}
 use Rattle.std.proofs.Common.{Bool, Option, Some, None, Ok, Err, append-nil}
 use Rattle.std.specs.Prelude.{IsSome}
@@ -32,7 +35,7 @@ use Rattle.fish_run.specs.Ran.{IsLost, IsStopped, IsWhole, StillKeeps, StoodFor,
 use Rattle.fish_run.specs.Tables.{LastTable}
 use Rattle.fish_run.specs.Reports.{report_of, whole_report}
 use Rattle.fish_run.specs.within.Faults.{IsWriteFault}
-use Rattle.fish_run.specs.within.Runs.{CanClose, IsAllKept}
+use Rattle.fish_run.specs.within.Runs.{CanClose, IsAllKept, IsNewStore}
 use Rattle.fish_run.specs.within.Steps.{HasRunFirst, RunsAll, RunsSome}
 use Rattle.fish_run.specs.Tables.{AreRenewed}
 use Rattle.fish_run.specs.declared.fault.RunFault.{RunFault}
@@ -43,13 +46,51 @@ use Rattle.fish_store.specs.Points.{point_at}
 use Rattle.fish_store.specs.Sound.{Point}
 use Rattle.fish_store.specs.declared.store.Store.{Store}
 
+-- the store is what was opened over a disk, at its first moment
+pub record OpenedAs {D : Type 0} (disks : Disks D) (disk : D) (o : Opened) (s : Store) : Type 0 where
+  pub from : point_at disk s ≡ opened_point disk o
+  pub log : s.log ≡ o.log
+  pub rows : s.registrar.catalog ≡ o.catalog
+  pub store : IsNewStore disks.images disk s
+
+pub opened_as : {D : Type 0} (disks : Disks D) (disk : D) (o : Opened) (s : Store)
+    → (c : Commit) × (log : List Entry) × IsOpened (disks.content disk) (disks.images disk) c log o → s.log ≡ o.log → s.pass ≡ o.pass
+    → KnowsFirst s.registrar → s.registrar.catalog ≡ o.catalog → s.file.flusher ≡ o.flusher → s.file.cold ≡ o.cold
+    → OpenedAs disks disk o s
+opened_as disks disk o s op log pass first rows flusher cold = record {
+  from = point_opened disk s o log pass rows flusher cold;
+  log = log;
+  rows = rows;
+  store = new_store disks disk op.0 op.1 o op.2 s log pass first rows flusher cold;
+}
+
 -- a store that was opened, from its first moment on
 module _
-    {D : Type 0} (disks : Disks D)
-    (read : (d : D) (i : List ℕ) → disks.content d ≡ Some i → disks.images d i)
-    (disk : D) (o : Opened) (p : Point D) (from : p ≡ opened_point disk o) (rows : List CatRow) (same : rows ≡ o.catalog)
-    (unshut : p.view.shut ≡ None) (buckets : o.log.key.buckets ≡ 2 ^ o.log.shape.bucket_bits)
-    (about : p.view.about ≡ o.log.key) (disk' : D) (told : Option Files) (text : List script.Block) (old mid new : Option (List ℕ)) where
+    {D : Type 0} (disks : Disks D) (read : (d : D) (i : List ℕ) → disks.content d ≡ Some i → disks.images d i) (disk : D) (o : Opened)
+    (s : Store) (begun : OpenedAs disks disk o s) (disk' : D) (told : Option Files) (text : List script.Block)
+    (old mid new : Option (List ℕ)) where
+  -- that moment
+  abbrev p : Point D
+  p = point_at disk s
+
+  abbrev rows : List CatRow
+  rows = s.registrar.catalog
+
+  from : p ≡ opened_point disk o
+  from = begun.from
+
+  unshut : p.view.shut ≡ None
+  unshut = begun.store.unshut
+
+  buckets : o.log.key.buckets ≡ 2 ^ o.log.shape.bucket_bits
+  buckets = subst (λ (z : Log). z.key.buckets ≡ 2 ^ z.shape.bucket_bits) begun.log begun.store.go.table.buckets
+
+  about : p.view.about ≡ o.log.key
+  about = begun.store.go.can.of.about ∙ ap (λ (z : Log). z.key) begun.log
+
+  same : rows ≡ o.catalog
+  same = begun.rows
+
   abbrev pub All : Store → Bool → ℕ → Type 0
   All x refused end = RunsAll disks p (point_at disk' x) o.count (first_registry rows) (opened_item o) told text
       old mid refused end

@@ -1,17 +1,13 @@
 //! What makes a log last: it is committed, and where its table is full a new one is begun after it.
 
-ghost use Rattle.std.specs.Prelude.{◌≡◌, ◌≤◌, ℕ, [], ◌∷◌, IfErr, IfOk, IsErrOf, OnOk};
-ghost use Rattle.fish_flush.specs.Carrying.{Reads};
-ghost use Rattle.fish_lanes.specs.Ending.{HasEnd};
+ghost use Rattle.std.specs.Prelude.{◌≡◌, ◌≤◌, ℕ, IfErr, IfOk, IsErrOf, OnOk};
 ghost use Rattle.fish_outside.specs.Causes.{Rose};
-ghost use Rattle.fish_rule.specs.Passes.{view};
+ghost use Rattle.fish_run.specs.within.Commits.{Commits};
 ghost use Rattle.fish_run.specs.within.Faults.{IsCommitFault};
 ghost use Rattle.fish_run.specs.within.Rolls.{RollsOn, StopsRoll};
-ghost use Rattle.fish_run.specs.within.Runs.{CanClose, CanGoOn, IsAllKept};
-ghost use Rattle.fish_store.specs.CommitRows.{LeavesRows, by_checkpoint};
+ghost use Rattle.fish_run.specs.within.Runs.{CanGoOn, IsAllKept};
 ghost use Rattle.fish_store.specs.Points.{point_at};
-ghost use Rattle.fish_store.specs.Sound.{GoesOnHere, MayGoOn};
-ghost use Rattle.fish_whole.specs.Whole.{Later};
+ghost use Rattle.fish_store.specs.Sound.{MayGoOn};
 
 use crate::fault::RunFault;
 use fish_disk::Disk;
@@ -34,20 +30,11 @@ pub(crate) fn commit<D: Disk>(
     disk: &mut D,
 ) -> Result<(), RunFault>
     requires go { (from : ℕ) × CanGoOn D.images disk.old store.old from }
-    ensures log { store.new.log ≡ store.old.log }
-    ensures registrar { store.new.registrar ≡ store.old.registrar }
-    ensures close { CanClose store.new }
-    ensures later { Later (view store.old.pass) (view store.new.pass) }
-    ensures goes { GoesOnHere D.Disk (point_at disk.old store.old) (point_at disk.new store.new) }
-    ensures end { (to : ℕ) → HasEnd (view store.old.pass) to → HasEnd (view store.new.pass) to }
+    ensures commits { Commits D.Disk disk.old store.old disk.new store.new result }
     ensures all { OnOk result (IsAllKept D.images disk.new store.new) }
-    ensures rows { LeavesRows D.Disk disk.old disk.new (by_checkpoint result store.old.registrar.catalog)
-        (store.old.registrar.catalog ∷ []) }
-    ensures reads { Reads (view store.old.pass) (view store.new.pass) }
     ensures again { OnOk result (MayGoOn D.images (point_at disk.new store.new)) }
 
     ensures named { IfErr result IsCommitFault }
-    ensures rises { D.faults disk.old ≤ D.faults disk.new }
     ensures fault { IsErrOf result RunFault.Disk → Rose (D.faults disk.old) (D.faults disk.new) }
 {
     store

@@ -1,12 +1,12 @@
 //! A block: its lanes are given their statements, long files in parts, and do what they were given, in turn.
 
-ghost use Rattle.std.specs.Prelude.{◌≡◌, ◌≢◌, ◌≤◌, IfErr, IfOk, length, true};
-ghost use Rattle.fish_feed.specs.Queues.{AllFree, AllRunnable, AreFit, AreIdle};
+ghost use Rattle.std.specs.Prelude.{◌≡◌, ◌≤◌, IfErr, IfOk, length, true};
+ghost use Rattle.fish_feed.specs.Queues.{AreFit, AreIdle};
 ghost use Rattle.fish_lanes.specs.Blocks.{AreLanes};
-ghost use Rattle.fish_outside.specs.Causes.{Rose};
 ghost use Rattle.fish_outside.specs.Content.{SameFiles};
-ghost use Rattle.fish_run.specs.Joins.{nothing_said};
-ghost use Rattle.fish_run.specs.within.Parts.{AreNewLanes, EndsBlock, EndsLanes, EndsParts, StopsLanes, StopsParts};
+ghost use Rattle.fish_run.specs.within.Faults.{CausesStop};
+ghost use Rattle.fish_run.specs.within.Parts.{AreBegun, AreNewLanes, AreTexts, EndsBlock, EndsLanes, EndsParts};
+ghost use Rattle.fish_run.specs.within.Parts.{StopsLanes, StopsParts};
 ghost use Rattle.fish_run.specs.within.Runs.{CanGoOn};
 
 use crate::fault::RunFault;
@@ -44,18 +44,11 @@ pub(crate) fn run_lanes<R: Threads + Sync, H: Host, D: Disk + Send, G: Gate + Sy
 where
     H::Feed: Drop,
     requires go { CanGoOn D.images disk.old store from }
-    requires some { 1 ≤ length texts.now }
-    requires few { length texts.now ≤ 16 }
-    requires runnable { AllRunnable texts.now }
-    requires free { AllFree texts.now }
+    requires texts { AreTexts texts.now }
     ensures ended { IfOk result (EndsLanes D.Disk disk.old store from texts.now disk.new (H.files host.new)) }
     ensures stopped { IfErr result (StopsLanes D.Disk disk.old store from texts.now disk.new (H.files host.new)) }
     ensures content { SameFiles (H.files host.old) (H.files host.new) }
-    ensures inner { IfErr result (λ s. s.why ≢ RunFault.Output) }
-    ensures later { H.faults host.old ≤ H.faults host.new }
-    ensures rises { D.faults disk.old ≤ D.faults disk.new }
-    ensures input { IfErr result (λ s. s.why ≡ RunFault.Input → Rose (H.faults host.old) (H.faults host.new)) }
-    ensures disk { IfErr result (λ s. s.why ≡ RunFault.Disk → Rose (D.faults disk.old) (D.faults disk.new)) }
+    ensures causes { CausesStop (H.faults host.old) (H.faults host.new) (D.faults disk.old) (D.faults disk.new) result }
 {
     match open_lanes(alloc, host, texts) {
         Ok(opened) => {
@@ -103,11 +96,7 @@ where
     ensures stopped { IfErr result (StopsParts D.Disk disk.old store from H.Feed.left (H.files host.old) queues.old
         disk.new (H.files host.new) queues.new) }
     ensures content { SameFiles (H.files host.old) (H.files host.new) }
-    ensures inner { IfErr result (λ s. s.why ≢ RunFault.Output) }
-    ensures later { H.faults host.old ≤ H.faults host.new }
-    ensures rises { D.faults disk.old ≤ D.faults disk.new }
-    ensures input { IfErr result (λ s. s.why ≡ RunFault.Input → Rose (H.faults host.old) (H.faults host.new)) }
-    ensures disk { IfErr result (λ s. s.why ≡ RunFault.Disk → Rose (D.faults disk.old) (D.faults disk.new)) }
+    ensures causes { CausesStop (H.faults host.old) (H.faults host.new) (D.faults disk.old) (D.faults disk.new) result }
 {
     match new_lanes(alloc, queues.len()) {
         Ok(none) => {
@@ -157,21 +146,14 @@ fn run_given<R: Threads + Sync, H: Host, D: Disk + Send, G: Gate + Sync>(
 where
     H::Feed: Drop,
     requires go { CanGoOn D.images disk.old store from }
-    requires lanes { AreLanes lanes.old }
-    requires idle { AreIdle lanes.old }
-    requires many { length lanes.old ≡ length queues.old }
-    requires said { said.old ≡ nothing_said lanes.old }
+    requires begun { AreBegun lanes.old queues.old said.old }
     requires fit { AreFit H.Feed.faults true queues.old }
     ensures ended { IfOk result (λ t. EndsParts D.Disk disk.old store from H.Feed.left (H.files host.old) queues.old
         disk.new (H.files host.new) t.next.store t.end said.new) }
     ensures stopped { IfErr result (StopsParts D.Disk disk.old store from H.Feed.left (H.files host.old) queues.old
         disk.new (H.files host.new) queues.new) }
     ensures content { SameFiles (H.files host.old) (H.files host.new) }
-    ensures inner { IfErr result (λ s. s.why ≢ RunFault.Output) }
-    ensures later { H.faults host.old ≤ H.faults host.new }
-    ensures rises { D.faults disk.old ≤ D.faults disk.new }
-    ensures input { IfErr result (λ s. s.why ≡ RunFault.Input → Rose (H.faults host.old) (H.faults host.new)) }
-    ensures disk { IfErr result (λ s. s.why ≡ RunFault.Disk → Rose (D.faults disk.old) (D.faults disk.new)) }
+    ensures causes { CausesStop (H.faults host.old) (H.faults host.new) (D.faults disk.old) (D.faults disk.new) result }
 {
     let mut start = RoundStart {
         store,

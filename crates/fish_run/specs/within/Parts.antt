@@ -1,16 +1,17 @@
 -- A block whose lanes are given their statements in turn, over files that are told: before it, at its end, and where a
 -- fault stopped it.
-use Rattle.std.specs.Prelude.{ℕ, ◌≡◌, ◌+◌, List, [], Option, length}
+use Rattle.std.specs.Prelude.{ℕ, ◌≡◌, ◌+◌, ◌≤◌, List, [], Option, length}
 use Rattle.fish_disk.specs.declared.disk.Disk.{Ghosts as Disks}
-use Rattle.fish_feed.specs.Queues.{IsQueue, MayEnd}
+use Rattle.fish_feed.specs.Queues.{AllFree, AllRunnable, AreIdle, IsQueue, MayEnd}
 use Rattle.fish_feed.specs.Works.{AreDone, Pairs, Triples}
 use Rattle.fish_feed.specs.declared.queue.Queue.{Queue}
-use Rattle.fish_lanes.specs.Blocks.{EachLane, IsNewLane}
+use Rattle.fish_lanes.specs.Blocks.{AreLanes, EachLane, IsNewLane}
 use Rattle.fish_lanes.specs.declared.block.BlockEnd.{BlockEnd}
 use Rattle.fish_lanes.specs.declared.lane.Lane.{Lane}
 use Rattle.fish_lanes.specs.declared.work.Work.{Work}
 use Rattle.fish_outside.specs.Content.{Files}
 use Rattle.fish_run.specs.Blocks.{with_cut}
+use Rattle.fish_run.specs.Joins.{nothing_said}
 use Rattle.fish_run.specs.within.Going.{EndsRounds, StopsBlock}
 use Rattle.fish_run.specs.Rounds.{AreRounds}
 use Rattle.fish_run.specs.declared.lasting.Stopped.{Stopped}
@@ -23,6 +24,20 @@ use Rattle.fish_store.specs.declared.store.Store.{Store}
 pub record AreNewLanes (count : ℕ) (lanes : List Lane) : Type 0 where
   pub many : length lanes ≡ count
   pub new : EachLane (λ i x. IsNewLane (i + 1) x × (x.works ≡ [])) lanes
+
+-- these lanes may run, one for each queue; they have no statement yet, and have said nothing
+pub record AreBegun {F : Type 0} (lanes : List Lane) (queues : List (Queue F)) (said : List Said) : Type 0 where
+  pub lanes_are : AreLanes lanes
+  pub idle : AreIdle lanes
+  pub many : length lanes ≡ length queues
+  pub nothing : said ≡ nothing_said lanes
+
+-- there are statements for 1 to 16 lanes, which can be run, and what the first lane alone may hold stands in no other
+pub record AreTexts (texts : List (List Statement)) : Type 0 where
+  pub some : 1 ≤ length texts
+  pub few : length texts ≤ 16
+  pub runnable : AllRunnable texts
+  pub free : AllFree texts
 
 -- the lanes of these queues were given nothing yet
 abbrev pub AreUngiven

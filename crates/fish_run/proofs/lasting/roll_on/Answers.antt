@@ -17,16 +17,16 @@ use Rattle.fish_run.proofs.lasting.roll_on.Goals as goal
 
 pub roll-requires : goal.roll-requires
 roll-requires g c =
-    let e = c.in-Ok.ensures in
+    let e = c.commit.ensures.commits in
     record {
       may = may_roll g.D.Disk.images c.commit.new.disk c.args.store c.commit.new.store c.args.from c.requires.go.can e.log e.registrar
-          e.close e.reads e.again e.all.end;
+          e.close e.reads c.in-Ok.ensures.again c.in-Ok.ensures.all.end;
     }
 
 pub returns-in-Ok-roll-clause-rolled : goal.returns-in-Ok-roll-clause-rolled
 returns-in-Ok-roll-clause-rolled g c =
     let disk = g.D.Disk in
-    let e = c.in-Ok.ensures in
+    let e = c.commit.ensures.commits in
     let s = c.args.store in
     let m = c.commit.new.store in
     let t = c.in-Ok-roll.next in
@@ -34,7 +34,8 @@ returns-in-Ok-roll-clause-rolled g c =
     let p = point_at c.args.disk.now s in
     let at = point_at c.commit.new.disk m in
     let q = point_at c.commit.new.disk t in
-    let same = one_end (view m.pass) m.file.flusher.count c.args.from e.close.of.stands e.all.end (e.end c.args.from c.requires.go.end) in
+    let same = one_end (view m.pass) m.file.flusher.count c.args.from e.close.of.stands c.in-Ok.ensures.all.end
+    (e.end c.args.from c.requires.go.end) in
     record {
       runs = runs_both disk p at q (λ w. Unit {0}) (λ w. Unit {0}) (λ w. Unit {0})
           (λ w a b. tt)
@@ -49,14 +50,14 @@ returns-in-Ok-roll-clause-rolled g c =
       number = h.number ∙ same;
       rows = subst (λ (z : Result (Unit {0}) RunFault).
           LeavesRows disk c.args.disk.now c.commit.new.disk (by_checkpoint z s.registrar.catalog) (s.registrar.catalog ∷ []))
-          c.in-Ok.is c.commit.ensures.rows;
+          c.in-Ok.is e.rows;
       shape = h.shape ∙ ap (λ (l : Log). l.shape) e.log;
     }
 
 pub returns-in-Err-roll-clause-stopped : goal.returns-in-Err-roll-clause-stopped
 returns-in-Err-roll-clause-stopped g c =
     let disk = g.D.Disk in
-    let e = c.in-Ok.ensures in
+    let e = c.commit.ensures.commits in
     let s = c.args.store in
     let m = c.commit.new.store in
     let p = point_at c.args.disk.now s in
@@ -71,7 +72,7 @@ returns-in-Err-roll-clause-stopped g c =
       rows = rows_or disk c.args.disk.now c.commit.new.disk s.registrar.catalog
           (subst (λ (z : Result (Unit {0}) RunFault).
           LeavesRows disk c.args.disk.now c.commit.new.disk (by_checkpoint z s.registrar.catalog) (s.registrar.catalog ∷ []))
-          c.in-Ok.is c.commit.ensures.rows);
+          c.in-Ok.is e.rows);
       end = e.end c.args.from c.requires.go.end;
       learns = e.later.learns;
       shut = ap (λ (z : View). z.shut) e.reads.frame;
@@ -81,7 +82,7 @@ returns-in-Err-roll-clause-stopped g c =
 pub returns-in-Err-clause-stopped : goal.returns-in-Err-clause-stopped
 returns-in-Err-clause-stopped g c =
     let disk = g.D.Disk in
-    let e = c.in-Err.ensures in
+    let e = c.commit.ensures.commits in
     let s = c.args.store in
     let m = c.commit.new.store in
     let p = point_at c.args.disk.now s in
@@ -91,11 +92,11 @@ returns-in-Err-clause-stopped g c =
       disk_is = refl;
       store = (refl, e.close);
       lost = λ none. absurd cc;
-      named = e.named;
+      named = c.in-Err.ensures.named;
       runs = runs_step disk p at (λ w. Unit {0}) e.goes e.later (λ past sound w may. tt);
       rows = subst (λ (z : Result (Unit {0}) RunFault).
           LeavesRows disk c.args.disk.now c.commit.new.disk (by_checkpoint z s.registrar.catalog) (s.registrar.catalog ∷ []))
-          c.in-Err.is c.commit.ensures.rows;
+          c.in-Err.is e.rows;
       end = e.end c.args.from c.requires.go.end;
       learns = e.later.learns;
       shut = ap (λ (z : View). z.shut) e.reads.frame;

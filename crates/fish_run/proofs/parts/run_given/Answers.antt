@@ -1,10 +1,11 @@
 -- Lanes are given statements, and do them, until nothing is left to be given.
-use Rattle.std.proofs.Common.{◌≡◌, true, length, List, Err, refl, sym, ap, ◌∙◌, subst, arith}
+use Rattle.std.proofs.Common.{◌≡◌, ◌≢◌, true, length, List, Err, refl, sym, ap, ◌∙◌, subst, arith}
 use Rattle.std.proofs.lemmas.Result.{on_err_weaker, on_ok_weaker}
 use Rattle.fish_feed.specs.Queues.{both, works_of}
 use Rattle.fish_lanes.specs.declared.lane.Lane.{Lane}
 use Rattle.fish_lanes.specs.declared.work.Work.{Work}
 use Rattle.fish_outside.proofs.CauseLemmas.{Rose_earlier}
+use Rattle.fish_outside.specs.Causes.{Rose}
 use Rattle.fish_run.proofs.Faults.{feed_failed, feed_no_disk, feed_no_output, feed_well}
 use Rattle.fish_run.proofs.Going.{err_known}
 use Rattle.fish_run.proofs.Giving.{nones, nones_at, nones_length}
@@ -12,6 +13,7 @@ use Rattle.fish_run.proofs.Rounding.{goes_first, nothing_length, ready_given, st
 use Rattle.fish_run.proofs.Works.{lanes_given, may_given, still_both, still_self, ungiven}
 use Rattle.fish_run.specs.Faults.{IsUndamaged, feed_fault}
 use Rattle.fish_run.specs.within.Parts.{StopsParts}
+use Rattle.fish_run.specs.declared.fault.RunFault.TheVariants as fault
 use Rattle.fish_run.specs.declared.lasting.Stopped.{Stopped}
 use Rattle.fish_run.proofs.parts.run_given.Goals as goal
 
@@ -22,16 +24,16 @@ loop-turned-init g c =
     let lanes = a.lanes.now in
     record {
       go = c.requires.go;
-      lanes = c.requires.lanes;
-      idle = c.requires.idle;
-      many = c.requires.many;
-      said = sym (ap length c.requires.said ∙ nothing_length lanes);
+      lanes = c.requires.begun.lanes_are;
+      idle = c.requires.begun.idle;
+      many = c.requires.begun.many;
+      said = sym (ap length c.requires.begun.nothing ∙ nothing_length lanes);
       fit = c.requires.fit;
       given = nones lanes;
-      goes = goes_first disk a.disk.now a.store a.from lanes c.requires.lanes
-          c.requires.idle _ refl refl refl refl a.said.now c.requires.said;
+      goes = goes_first disk a.disk.now a.store a.from lanes c.requires.begun.lanes_are
+          c.requires.begun.idle _ refl refl refl refl a.said.now c.requires.begun.nothing;
       queues = λ texts h. ungiven g.H.Feed.Source.left (g.H.Host.files a.host.now) texts (nones lanes) a.queues.now
-          (nones_length lanes ∙ c.requires.many) (nones_at lanes) h;
+          (nones_length lanes ∙ c.requires.begun.many) (nones_at lanes) h;
       told = still_self (g.H.Host.files a.host.now);
       later = omega arith;
       disk = omega arith;
@@ -74,6 +76,26 @@ returns-in_err-turned-clause-content g c =
     still_both (g.H.Host.files c.args.host.now) (g.H.Host.files c.loop-turned.host) (g.H.Host.files c.give-given.new.host)
     c.loop-turned.invariant.told c.give-given.ensures.content
 
+pub returns-in_err-turned-clause-causes : goal.returns-in_err-turned-clause-causes
+returns-in_err-turned-clause-causes g c =
+    let disk = g.D.Disk in
+    let host = g.H.Host.faults in
+    let inv = c.loop-turned.invariant in
+    let e : Stopped = c.in_err-turned.field-0.0 in
+    let stops = c.in_err-turned.ensures in
+    record {
+      later = (let was = inv.later in let now = c.give-given.ensures.cause.later in omega (was, now, arith));
+      rises = (let was = inv.disk in let now = c.run_turns.ensures.rises in omega (was, now, arith));
+      inner = err_known c.from_residual.result (λ s. s.why ≢ fault.Output) e c.from_residual.ensures.1 stops.inner.1;
+      input = err_known c.from_residual.result
+          (λ s. s.why ≡ fault.Input → Rose (host c.args.host.now) (host c.give-given.new.host)) e c.from_residual.ensures.1
+          (λ is. absurd (stops.inner.0 is));
+      of_disk = err_known c.from_residual.result
+          (λ s. s.why ≡ fault.Disk → Rose (disk.faults c.args.disk.now) (disk.faults c.run_turns.new.disk)) e c.from_residual.ensures.1
+          (λ is. Rose_earlier (disk.faults c.args.disk.now) (disk.faults c.loop-turned.disk) (disk.faults c.run_turns.new.disk) inv.disk
+          (stops.disk is));
+    }
+
 -- ---- a file couldn't be read
 
 pub returns-in-Err-clause-stopped : goal.returns-in-Err-clause-stopped
@@ -106,18 +128,20 @@ returns-in-Err-clause-content g c =
     still_both (g.H.Host.files c.args.host.now) (g.H.Host.files c.loop-turned.host) (g.H.Host.files c.give-given.new.host)
     c.loop-turned.invariant.told c.give-given.ensures.content
 
-pub returns-in-Err-clause-inner : goal.returns-in-Err-clause-inner
-returns-in-Err-clause-inner g c = λ is. feed_no_output c.in-Err.refusal (sym c.from.ensures ∙ is)
-
-pub returns-in-Err-clause-input : goal.returns-in-Err-clause-input
-returns-in-Err-clause-input g c = λ is.
+pub returns-in-Err-clause-causes : goal.returns-in-Err-clause-causes
+returns-in-Err-clause-causes g c =
     let faults = g.H.Host.faults in
-    let failed = feed_failed c.in-Err.refusal (sym c.from.ensures ∙ is) in
-    Rose_earlier (faults c.args.host.now) (faults c.loop-turned.host) (faults c.give-given.new.host) c.loop-turned.invariant.later
-    (c.in-Err.ensures.cause.failed (λ i. Err (failed i)))
-
-pub returns-in-Err-clause-disk : goal.returns-in-Err-clause-disk
-returns-in-Err-clause-disk g c = λ is. absurd (feed_no_disk c.in-Err.refusal (sym c.from.ensures ∙ is))
+    let inv = c.loop-turned.invariant in
+    record {
+      later = (let was = inv.later in let now = c.give-given.ensures.cause.later in omega (was, now, arith));
+      rises = (let was = inv.disk in let now = c.run_turns.ensures.rises in omega (was, now, arith));
+      inner = λ is. feed_no_output c.in-Err.refusal (sym c.from.ensures ∙ is);
+      input = λ is.
+          let failed = feed_failed c.in-Err.refusal (sym c.from.ensures ∙ is) in
+          Rose_earlier (faults c.args.host.now) (faults c.loop-turned.host) (faults c.give-given.new.host) inv.later
+          (c.in-Err.ensures.cause.failed (λ i. Err (failed i)));
+      of_disk = λ is. absurd (feed_no_disk c.in-Err.refusal (sym c.from.ensures ∙ is));
+    }
 
 -- ---- nothing is left to be given
 
@@ -143,6 +167,17 @@ pub returns-then-not-has_more-clause-content : goal.returns-then-not-has_more-cl
 returns-then-not-has_more-clause-content g c =
     still_both (g.H.Host.files c.args.host.now) (g.H.Host.files c.loop-turned.host) (g.H.Host.files c.give-given.new.host)
     c.loop-turned.invariant.told c.in-Ok.ensures.content
+
+pub returns-then-not-has_more-clause-causes : goal.returns-then-not-has_more-clause-causes
+returns-then-not-has_more-clause-causes g c =
+    let inv = c.loop-turned.invariant in
+    record {
+      later = (let was = inv.later in let now = c.give-given.ensures.cause.later in omega (was, now, arith));
+      rises = (let was = inv.disk in let now = c.run_turns.ensures.rises in omega (was, now, arith));
+      inner = tt;
+      input = tt;
+      of_disk = tt;
+    }
 
 -- ---- more is left
 

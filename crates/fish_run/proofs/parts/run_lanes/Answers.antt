@@ -1,11 +1,11 @@
 -- A block whose files were opened, and closed at its end.
-use Rattle.std.proofs.Common.{◌≡◌, [], Some, ap, arith, length, refl, subst, sym, ◌∙◌}
+use Rattle.std.proofs.Common.{◌≡◌, [], Err, Some, ap, arith, length, refl, subst, sym, ◌∙◌}
 use Rattle.std.proofs.lemmas.Result.{IfErr-weaker, IfOk-weaker}
 use Rattle.fish_feed.specs.Queues.{IsQueue, MayEnd}
 use Rattle.fish_feed.specs.Works.{Triples}
 use Rattle.fish_outside.proofs.CauseLemmas.{Rose_earlier, Rose_later}
 use Rattle.fish_outside.specs.Causes.{Rose}
-use Rattle.fish_run.proofs.Faults.{feed_well}
+use Rattle.fish_run.proofs.Faults.{feed_failed, feed_no_disk, feed_no_output, feed_well}
 use Rattle.fish_feed.proofs.Lists.{pairs_length}
 use Rattle.fish_run.proofs.Lists.{written_back}
 use Rattle.fish_run.proofs.One.{are_rounds}
@@ -22,7 +22,7 @@ run_parts-ended-requires-clause-some g c κs within =
     let many = pairs_length (λ ss q. IsQueue (g.H.Host.files c.open_lanes.new.host) g.H.Feed.Source.left ss [] q) c.args.texts.now
     c.in-Ok.opened.items c.in-Ok.ensures.queues in
     let value = ap length c.as_mut_slice.ensures.value in
-    let some = c.requires.some in
+    let some = c.requires.texts.some in
     omega (many, value, some, arith)
 
 pub run_parts-ended-requires-clause-few : goal.run_parts-ended-requires-clause-few
@@ -30,7 +30,7 @@ run_parts-ended-requires-clause-few g c κs within =
     let many = pairs_length (λ ss q. IsQueue (g.H.Host.files c.open_lanes.new.host) g.H.Feed.Source.left ss [] q) c.args.texts.now
     c.in-Ok.opened.items c.in-Ok.ensures.queues in
     let value = ap length c.as_mut_slice.ensures.value in
-    let few = c.requires.few in
+    let few = c.requires.texts.few in
     omega (many, value, few, arith)
 
 -- ---- it came to its end
@@ -96,15 +96,25 @@ returns-in-Ok-clause-content g c =
     (still_both (files c.open_lanes.new.host) (files c.run_parts-ended.new.host) (files c.close.new.host) c.run_parts-ended.ensures.content
     c.close.ensures.content)
 
-pub returns-in-Ok-clause-input : goal.returns-in-Ok-clause-input
-returns-in-Ok-clause-input g c =
+pub returns-in-Ok-clause-causes : goal.returns-in-Ok-clause-causes
+returns-in-Ok-clause-causes g c =
     let faults = g.H.Host.faults in
-    IfErr-weaker c.run_parts-ended.result
-    (λ s. s.why ≡ fault.Input → Rose (faults c.open_lanes.new.host) (faults c.run_parts-ended.new.host))
-    (λ s. s.why ≡ fault.Input → Rose (faults c.args.host.now) (faults c.close.new.host))
-    (λ s h is. Rose_earlier (faults c.args.host.now) (faults c.open_lanes.new.host) (faults c.close.new.host) c.in-Ok.ensures.cause.later
-    (Rose_later (faults c.open_lanes.new.host) (faults c.run_parts-ended.new.host) (faults c.close.new.host) (h is) c.close.ensures.later))
-    c.run_parts-ended.ensures.input
+    let causes = c.run_parts-ended.ensures.causes in
+    record {
+      later = (let first = c.in-Ok.ensures.cause.later in let mid = causes.later in let last = c.close.ensures.later in
+          omega (first, mid, last, arith));
+      rises = causes.rises;
+      inner = causes.inner;
+      input = IfErr-weaker c.run_parts-ended.result
+          (λ s. s.why ≡ fault.Input → Rose (faults c.open_lanes.new.host) (faults c.run_parts-ended.new.host))
+          (λ s. s.why ≡ fault.Input → Rose (faults c.args.host.now) (faults c.close.new.host))
+          (λ s h is. Rose_earlier (faults c.args.host.now) (faults c.open_lanes.new.host) (faults c.close.new.host)
+          c.in-Ok.ensures.cause.later
+          (Rose_later (faults c.open_lanes.new.host) (faults c.run_parts-ended.new.host) (faults c.close.new.host) (h is)
+          c.close.ensures.later))
+          causes.input;
+      of_disk = causes.of_disk;
+    }
 
 -- ---- its files couldn't be opened
 
@@ -117,3 +127,14 @@ returns-in-Err-clause-stopped g c =
     stops_unopened disk a.disk.now a.store a.from
     (record { store = Some a.store; why = c.from.result }) refl
     (subst IsUndamaged (sym why) (feed_well refusal)) c.requires.go a.texts.now (g.H.Host.files c.open_lanes.new.host)
+
+pub returns-in-Err-clause-causes : goal.returns-in-Err-clause-causes
+returns-in-Err-clause-causes g c = record {
+  later = c.open_lanes.ensures.cause.later;
+  rises = omega arith;
+  inner = λ is. feed_no_output c.in-Err.refusal (sym c.from.ensures ∙ is);
+  input = λ is.
+      let failed = feed_failed c.in-Err.refusal (sym c.from.ensures ∙ is) in
+      c.in-Err.ensures.cause.failed (λ i. Err (failed i));
+  of_disk = λ is. absurd (feed_no_disk c.in-Err.refusal (sym c.from.ensures ∙ is));
+}

@@ -1,32 +1,49 @@
 -- The lanes of a block, before its first round and at its end.
-use Rattle.std.proofs.Common.{◌≡◌, List, ap, arith, length, subst, sym}
+use Rattle.std.proofs.Common.{◌≡◌, ◌≢◌, ◌∙◌, List, ap, arith, length, subst, sym}
+use Rattle.fish_feed.specs.Queues.{AreIdle}
+use Rattle.fish_lanes.specs.Blocks.{AreLanes}
 use Rattle.fish_outside.specs.Causes.{Rose}
 use Rattle.fish_run.proofs.Giving.{nones, nones_at, nones_length}
 use Rattle.fish_run.proofs.Going.{err_known}
 use Rattle.fish_run.proofs.Lists.{written_back}
 use Rattle.fish_run.proofs.Rounding.{stops_none}
 use Rattle.fish_run.proofs.Works.{may_all, still_self, ungiven}
+use Rattle.fish_run.specs.Joins.{nothing_said}
+use Rattle.fish_run.specs.within.Faults.{CausesStop}
 use Rattle.fish_run.specs.within.Parts.{EndsParts}
 use Rattle.fish_run.specs.declared.fault.RunFault.TheVariants as fault
 use Rattle.fish_run.specs.declared.lasting.Stopped.{Stopped}
 use Rattle.fish_run.specs.declared.saying.Said.{Said}
 use Rattle.fish_run.proofs.parts.run_parts.Goals as goal
 
-pub returns-in_err-turned-in-Ok-say_nothing-clause-input : goal.returns-in_err-turned-in-Ok-say_nothing-clause-input
-returns-in_err-turned-in-Ok-say_nothing-clause-input g c =
-    let faults = g.H.Host.faults in
-    let e : Stopped = c.in_err-turned-in-Ok-say_nothing.field-0.0 in
-    err_known c.from_residual.result
-    (λ s. s.why ≡ fault.Input → Rose (faults c.args.host.now) (faults c.run_given.new.host)) e c.from_residual.ensures.1
-    c.in_err-turned-in-Ok-say_nothing.ensures.input
+pub run_given-requires-clause-begun : goal.run_given-requires-clause-begun
+run_given-requires-clause-begun g c κs within =
+    let lanes = c.as_mut_slice.ensures.value in
+    record {
+      lanes_are = subst AreLanes (sym lanes) c.in-Ok.ensures.lanes;
+      idle = subst AreIdle (sym lanes) c.in-Ok.ensures.idle;
+      many = ap length lanes ∙ c.in-Ok.ensures.many;
+      nothing = c.as_mut_slice-in-Ok-say_nothing.ensures.value ∙ c.in-Ok-say_nothing.ensures
+          ∙ ap nothing_said (c.as_slice.ensures.value ∙ sym lanes);
+    }
 
-pub returns-in_err-turned-in-Ok-say_nothing-clause-disk : goal.returns-in_err-turned-in-Ok-say_nothing-clause-disk
-returns-in_err-turned-in-Ok-say_nothing-clause-disk g c =
-    let faults = g.D.Disk.faults in
+pub returns-in_err-turned-in-Ok-say_nothing-clause-causes : goal.returns-in_err-turned-in-Ok-say_nothing-clause-causes
+returns-in_err-turned-in-Ok-say_nothing-clause-causes g c =
+    let host = g.H.Host.faults in
+    let disk = g.D.Disk.faults in
     let e : Stopped = c.in_err-turned-in-Ok-say_nothing.field-0.0 in
-    err_known c.from_residual.result
-    (λ s. s.why ≡ fault.Disk → Rose (faults c.args.disk.now) (faults c.run_given.new.disk)) e c.from_residual.ensures.1
-    c.in_err-turned-in-Ok-say_nothing.ensures.disk
+    let is = c.from_residual.ensures.1 in
+    let causes = subst (CausesStop (host c.args.host.now) (host c.run_given.new.host) (disk c.args.disk.now) (disk c.run_given.new.disk))
+    c.in_err-turned-in-Ok-say_nothing.was c.run_given.ensures.causes in
+    record {
+      later = causes.later;
+      rises = causes.rises;
+      inner = err_known c.from_residual.result (λ s. s.why ≢ fault.Output) e is causes.inner;
+      input = err_known c.from_residual.result (λ s. s.why ≡ fault.Input → Rose (host c.args.host.now) (host c.run_given.new.host)) e is
+          causes.input;
+      of_disk = err_known c.from_residual.result (λ s. s.why ≡ fault.Disk → Rose (disk c.args.disk.now) (disk c.run_given.new.disk)) e is
+          causes.of_disk;
+    }
 
 pub returns-in-Ok-say_nothing-clause-ended : goal.returns-in-Ok-say_nothing-clause-ended
 returns-in-Ok-say_nothing-clause-ended g c =

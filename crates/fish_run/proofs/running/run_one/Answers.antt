@@ -1,7 +1,6 @@
 -- A block that ran and was written, and where a fault came.
 use Rattle.std.proofs.Common.{◌≡◌, ◌∙◌, Err, List, refl, subst, sym}
 use Rattle.std.specs.Prelude.{◌||◌}
-use Rattle.fish_feed.specs.Queues.{AllFree}
 use Rattle.fish_feed.specs.Works.{AreDone, Pairs}
 use Rattle.fish_outside.specs.Content.{Gained, GainedPart}
 use Rattle.fish_report.specs.ReportText.{report_text}
@@ -13,6 +12,8 @@ use Rattle.fish_run.specs.Blocks.{with_cut}
 use Rattle.fish_run.specs.Faults.{IsUndamaged, write_fault}
 use Rattle.fish_run.specs.Reports.{said_items, said_refused}
 use Rattle.fish_run.specs.Rounds.{AreRounds}
+use Rattle.fish_run.specs.within.Faults.{CausesStop}
+use Rattle.fish_run.specs.within.Parts.{AreTexts}
 use Rattle.fish_run.specs.within.Running.{StopsOne, counts_of}
 use Rattle.fish_run.specs.within.Counting.{Counts, IsCausedBy}
 use Rattle.fish_run.specs.declared.fault.RunFault.{RunFault}
@@ -21,8 +22,11 @@ use Rattle.fish_run.specs.declared.saying.Said.{Said}
 use Rattle.fish_script.specs.declared.script.Statement.{Statement}
 use Rattle.fish_run.proofs.running.run_one.Goals as goal
 
-pub run_lanes-requires-clause-free : goal.run_lanes-requires-clause-free
-run_lanes-requires-clause-free g c κs within = subst AllFree (sym c.as_slice-texts.ensures) c.requires.block.free
+pub run_lanes-requires-clause-texts : goal.run_lanes-requires-clause-texts
+run_lanes-requires-clause-texts g c κs within =
+    let block = c.requires.block in
+    subst AreTexts (sym c.as_slice-texts.ensures)
+    (record { some = block.some; few = block.few; runnable = block.statements; free = block.free })
 
 -- ---- a fault stopped its rounds
 
@@ -42,12 +46,15 @@ returns-in_err-store-clause-stopped g c =
 
 pub returns-in_err-store-clause-cause : goal.returns-in_err-store-clause-cause
 returns-in_err-store-clause-cause g c =
-    let before : Counts = counts_of g.H.Host.faults g.W.Sink.faults g.D.Disk.faults c.args.host.now c.args.out.now c.args.disk.now in
-    let now : Counts = counts_of g.H.Host.faults g.W.Sink.faults g.D.Disk.faults c.run_lanes.new.host c.args.out.now
-    c.run_lanes.new.disk in
+    let host = g.H.Host.faults in
+    let disk = g.D.Disk.faults in
+    let before : Counts = counts_of host g.W.Sink.faults disk c.args.host.now c.args.out.now c.args.disk.now in
+    let now : Counts = counts_of host g.W.Sink.faults disk c.run_lanes.new.host c.args.out.now c.run_lanes.new.disk in
     let e = c.in_err-store.field-0.0 in
+    let causes = subst (CausesStop (host c.args.host.now) (host c.run_lanes.new.host) (disk c.args.disk.now) (disk c.run_lanes.new.disk))
+    c.in_err-store.was c.run_lanes.ensures.causes in
     err_known c.from_residual.result (λ (s : Stopped). IsCausedBy before now s.why) e c.from_residual.ensures.1
-    (caused_given before now e.why c.in_err-store.ensures.input c.in_err-store.ensures.inner c.in_err-store.ensures.disk)
+    (caused_given before now e.why causes.input causes.inner causes.of_disk)
 
 -- ---- they came to their end
 

@@ -41,15 +41,15 @@ returns-in-Err-clause-some g c =
     let e : Stopped = record { store = Some last; why = why } in
     let all = all_later disk c.args.count first begin p m q told c.args.script.now old new
     c.run_blocks.new.refused l.count h.runs
-    (runs_on disk m q c.commit.ensures.goes c.commit.ensures.later)
-    c.commit.ensures.goes.learns (c.commit.ensures.end l.count (h.go (λ is. absurd cc)).end)
-    (ap (λ (z : Log). z.shape) c.commit.ensures.log) (ap (λ (z : Registrar). z.catalog) c.commit.ensures.registrar)
+    (runs_on disk m q c.commit.ensures.commits.goes c.commit.ensures.commits.later)
+    c.commit.ensures.commits.goes.learns (c.commit.ensures.commits.end l.count (h.go (λ is. absurd cc)).end)
+    (ap (λ (z : Log). z.shape) c.commit.ensures.commits.log) (ap (λ (z : Registrar). z.catalog) c.commit.ensures.commits.registrar)
     (subst (λ (z : Result (Unit {0}) RunFault). LeavesRows disk m.disk q.disk (by_checkpoint z m.rows) (m.rows ∷ [])) c.in-Err.is
-    c.commit.ensures.rows) in
+    c.commit.ensures.commits.rows) in
     all_stopped disk c.args.count first begin p q c.commit.new.disk told c.args.script.now old
     new c.run_blocks.new.refused l.count e all
     (stops_with disk p c.commit.new.disk last c.args.count l.count first
-    (rounds_of all.blocks) e refl c.commit.ensures.close (commit_well why named) all.ran)
+    (rounds_of all.blocks) e refl c.commit.ensures.commits.close (commit_well why named) all.ran)
 
 pub returns-in-Err-clause-cause : goal.returns-in-Err-clause-cause
 returns-in-Err-clause-cause g c =
@@ -75,15 +75,15 @@ returns-in-Ok-clause-all g c =
     let m = point_at c.run_blocks.new.disk l.store in
     let q = point_at c.commit.new.disk c.commit.new.store in
     record {
-      close = c.commit.ensures.close;
+      close = c.commit.ensures.commits.close;
       go = λ other. absurd (other refl);
       runs = all_later disk c.args.count (first_registry c.args.store.registrar.catalog)
           (first_item c.args.made c.args.count) p m q (g.H.Host.files c.run_blocks.new.host) c.args.script.now
           (g.W.Sink.written c.args.out.now) (g.W.Sink.written c.run_blocks.new.out) c.run_blocks.new.refused l.count h.runs
-          (runs_on disk m q c.commit.ensures.goes c.commit.ensures.later)
-          c.commit.ensures.goes.learns (c.commit.ensures.end l.count (h.go (λ is. absurd cc)).end)
-          (ap (λ (z : Log). z.shape) c.commit.ensures.log) (ap (λ (z : Registrar). z.catalog) c.commit.ensures.registrar)
+          (runs_on disk m q c.commit.ensures.commits.goes c.commit.ensures.commits.later)
+          c.commit.ensures.commits.goes.learns (c.commit.ensures.commits.end l.count (h.go (λ is. absurd cc)).end)
+          (ap (λ (z : Log). z.shape) c.commit.ensures.commits.log) (ap (λ (z : Registrar). z.catalog) c.commit.ensures.commits.registrar)
           (rows_or disk m.disk q.disk m.rows (subst (λ (z : Result (Unit {0}) RunFault).
-          LeavesRows disk m.disk q.disk (by_checkpoint z m.rows) (m.rows ∷ [])) c.in-Ok.is c.commit.ensures.rows));
+          LeavesRows disk m.disk q.disk (by_checkpoint z m.rows) (m.rows ∷ [])) c.in-Ok.is c.commit.ensures.commits.rows));
       committed = λ is. c.in-Ok.ensures.all;
     }
