@@ -3,7 +3,7 @@ use Rattle.std.proofs.Common.{◌≡◌, ℕ, List, [], ap, sym, subst, false}
 use Rattle.bench.specs.Checkpoints.{CanCheckpoint, IsFresh}
 use Rattle.fish_catalog.specs.declared.row.CatRow.{CatRow}
 use Rattle.fish_flush.proofs.Lasting.{carries_on, first_carries, first_holds, holds_on}
-use Rattle.fish_flush.specs.Carrying.{Carries}
+use Rattle.fish_flush.specs.Carrying.{CarriesLog}
 use Rattle.fish_flush.specs.Kept.{IsAtRest, first_commit}
 use Rattle.fish_flush.specs.Rows.{HoldsRows}
 use Rattle.fish_flush.specs.declared.flusher.Flusher.{Flusher}
@@ -32,8 +32,8 @@ filled images shape rows log pass later flusher fresh rest live of on =
     let u = view later in
     let held : HoldsRows v rows =
     subst (λ (z : View × List CatRow). HoldsRows z.0 z.1) (λ i. (sym fresh.first i, fresh.rows_are i)) (first_holds k) in
-    let carries : Carries images flusher v log.shape rows (first_commit shape) [] =
-    subst (λ (z : View × Shape). Carries images flusher z.0 z.1 rows (first_commit shape) [])
+    let carries : CarriesLog images flusher v log.shape rows (first_commit shape) [] =
+    subst (λ (z : View × Shape). CarriesLog images flusher z.0 z.1 rows (first_commit shape) [])
     (λ i. (sym fresh.first i, sym fresh.shape_is i))
     (first_carries images flusher shape k rows rest fresh.number fresh.line) in
     record {

@@ -6,7 +6,7 @@ use Rattle.fish_claim.specs.Claims.{IsClaimed}
 use Rattle.fish_claim.specs.declared.claimed.Claimed.TheVariants as answer
 use Rattle.fish_ingest.proofs.PreparationDefs.{knows_active}
 use Rattle.fish_ingest.specs.within.Placement.{CanPlace}
-use Rattle.fish_ingest.specs.Placement.{HasWritten}
+use Rattle.fish_ingest.specs.Placement.{HasWrittenRegion}
 use Rattle.fish_ingest.specs.declared.preparation.Prepared.{Prepared}
 use Rattle.fish_layout.specs.Body.{body_lines}
 use Rattle.fish_rule.proofs.laws.Versions.{entered_from}
@@ -14,13 +14,13 @@ use Rattle.fish_rule.specs.Keys.{text_of}
 use Rattle.fish_rule.specs.within.Keys.{AreActive}
 use Rattle.fish_rule.specs.Registry.{KnowsActive}
 use Rattle.fish_rule.specs.SpaceSteps.{after_publish_region, flight_at}
-use Rattle.fish_rule.specs.Table.{Stands}
+use Rattle.fish_rule.specs.Table.{IsOfMoment}
 use Rattle.fish_rule.specs.declared.table.Log.{Log}
 use Rattle.fish_rule.specs.declared.view.Epoch.TheVariants.{Confirmed}
 use Rattle.fish_rule.specs.declared.view.Key.{Key}
 use Rattle.fish_rule.specs.declared.view.View.{View}
 
-module _ (log : Log) (v : View) (prepared : Prepared) (about : v.about ≡ log.key) (stands : Stands v)
+module _ (log : Log) (v : View) (prepared : Prepared) (about : v.about ≡ log.key) (stands : IsOfMoment v)
     (entered : IsEntered v) (may : IsStorable log v.lane prepared) where
   -- the definitions of the start are those of the record, at its version
   active : KnowsActive v.about v.learned may.2.origin.version (map text_of may.0)
@@ -65,7 +65,7 @@ module _ (v u : View) (lines number line : ℕ) (claimed : IsClaimed v lines (an
   pub flying : u.flight ≡ Some (flight_at number line lines)
   flying = ap (λ (z : View). z.flight) placed.known
 
-  module _ (w t : View) (written : HasWritten u (flight_at number line lines) w)
+  module _ (w t : View) (written : HasWrittenRegion u (flight_at number line lines) w)
       (is : t ≡ after_publish_region w written.flight) where
     pub lane_published : t.lane ≡ v.lane
     lane_published = ap (λ (z : View). z.lane) is ∙ ap (λ (z : View). z.lane) written.only.frame ∙ ap (λ (z : View). z.lane) placed.known

@@ -3,7 +3,7 @@ use Rattle.std.specs.Prelude.{ℕ, ◌≡◌, List, false}
 use Rattle.fish_catalog.specs.declared.commit.Commit.{Commit}
 use Rattle.fish_catalog.specs.declared.entry.Entry.{Entry}
 use Rattle.fish_catalog.specs.declared.row.CatRow.{CatRow}
-use Rattle.fish_flush.specs.Carrying.{Carries}
+use Rattle.fish_flush.specs.Carrying.{CarriesLog}
 use Rattle.fish_flush.specs.Rows.{HoldsRows}
 use Rattle.fish_flush.specs.declared.flusher.Flusher.{Flusher}
 use Rattle.fish_rule.specs.Passes.{IsPassOf, view}
@@ -29,4 +29,4 @@ pub record CanCheckpoint (images : List ℕ → Type 0) (log : Log) (pass : Pass
   pub held : HoldsRows (view pass) rows
   pub commit : Commit
   pub entries : List Entry
-  pub carries : Carries images flusher (view pass) log.shape rows commit entries
+  pub carries : CarriesLog images flusher (view pass) log.shape rows commit entries

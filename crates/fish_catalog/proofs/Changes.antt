@@ -7,7 +7,7 @@ use Rattle.std.proofs.lemmas.List.Sums.{sum_by-set, sum_by_push}
 use Rattle.std.proofs.lemmas.Option.{get_or_from_slice_get, same_Some, slice_get_within}
 use Rattle.std.proofs.Math.ListN.{length-set}
 use Rattle.fish_catalog.specs.Canonical.{IsCanonical}
-use Rattle.fish_catalog.specs.Rows.{AwaitsFrom, HasActive, IsActive, IsCatalog, IsInOrder, IsName, IsRow, is_active, new_row, with_from}
+use Rattle.fish_catalog.specs.Rows.{AwaitsFrom, HasActive, IsActive, IsCatalog, IsSpanInOrder, IsName, IsRow, is_active, new_row, with_from}
 use Rattle.fish_catalog.specs.Limits.{most_active, most_rows}
 use Rattle.fish_catalog.specs.declared.row.CatRow.{CatRow}
 
@@ -114,7 +114,7 @@ with_from-set (r ∷ rows) zero from row h =
 with_from-set (r ∷ rows) (suc id) from row h = ap (λ t. r ∷ t) (with_from-set rows id from row h)
 
 -- an index that had not begun has no end
-begins_in_order : (begin end : Option ℕ) (from : ℕ) → begin ≡ None → IsInOrder begin end → IsInOrder (Some from) end
+begins_in_order : (begin end : Option ℕ) (from : ℕ) → begin ≡ None → IsSpanInOrder begin end → IsSpanInOrder (Some from) end
 begins_in_order begin None from unset h = tt
 begins_in_order None (Some to) from unset h = absurd h
 begins_in_order (Some begin) (Some to) from unset h = absurd (cc)

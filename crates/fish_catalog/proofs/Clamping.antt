@@ -6,12 +6,12 @@ use Rattle.std.proofs.lemmas.List.Sums.{sum_by-cons}
 use Rattle.std.proofs.lemmas.Option.{same_Some}
 use Rattle.std.proofs.Math.Seq.{take-append_seam}
 use Rattle.fish_catalog.specs.Clamps.{IsClamped, begun_by, clamped}
-use Rattle.fish_catalog.specs.Rows.{IsCatalog, IsInOrder, IsRow, is_active}
+use Rattle.fish_catalog.specs.Rows.{IsCatalog, IsSpanInOrder, IsRow, is_active}
 use Rattle.fish_catalog.specs.declared.row.CatRow.{CatRow}
 
 -- a cut index ends where it begins or after
-order_clamped : (n : ℕ) (from to : Option ℕ) → IsInOrder from to
-    → IsInOrder (Some (begun_by n from)) (option_map (λ t. min t n) to)
+order_clamped : (n : ℕ) (from to : Option ℕ) → IsSpanInOrder from to
+    → IsSpanInOrder (Some (begun_by n from)) (option_map (λ t. min t n) to)
 order_clamped n from None h = tt
 order_clamped n None (Some to) h = absurd h
 order_clamped n (Some from) (Some to) h = omega arith

@@ -9,7 +9,7 @@ use Rattle.std.proofs.lemmas.Option.{get_or_from_slice_get, same_Some, slice_get
 use Rattle.fish_layout.specs.Cleared.{choose}
 use Rattle.fish_catalog.specs.Closing.{AwaitsTo, with_to}
 use Rattle.fish_catalog.specs.Listing.{ended, ended_at, listed_of}
-use Rattle.fish_catalog.specs.Rows.{IsActive, IsCatalog, IsInOrder, IsRow, is_active, with_from}
+use Rattle.fish_catalog.specs.Rows.{IsActive, IsCatalog, IsSpanInOrder, IsRow, is_active, with_from}
 use Rattle.fish_catalog.specs.declared.listed.Listed.{Listed}
 use Rattle.fish_catalog.specs.declared.row.CatRow.{CatRow}
 
@@ -135,8 +135,8 @@ count_closed rows id to row there active =
     )
 
 -- an end where the index began or after
-closes_in_order : (begin : Option ℕ) (from to : ℕ) → begin ≡ Some from → from ≤ to → IsInOrder begin (Some to)
-closes_in_order begin from to begins upto = subst (λ b. IsInOrder b (Some to)) (sym begins) upto
+closes_in_order : (begin : Option ℕ) (from to : ℕ) → begin ≡ Some from → from ≤ to → IsSpanInOrder begin (Some to)
+closes_in_order begin from to begins upto = subst (λ b. IsSpanInOrder b (Some to)) (sym begins) upto
 
 -- an end that is set once
 IsCatalog-with_to : (rows : List CatRow) (id to : ℕ) → IsCatalog rows → AwaitsTo rows id to → IsCatalog (with_to rows id to)

@@ -5,7 +5,7 @@ use Rattle.std.proofs.Math.Decide.{ℕ_discrete}
 use Rattle.std.proofs.lemmas.Option.{same_Some, slice_get_within}
 use Rattle.fish_catalog.proofs.Changes.{push_cases}
 use Rattle.fish_catalog.specs.Intervals.{AreIntervals, IsIntervalOf}
-use Rattle.fish_catalog.specs.within.Intervals.{IsAdded}
+use Rattle.fish_catalog.specs.within.Intervals.{IsIntervalAdded}
 use Rattle.fish_catalog.specs.declared.interval.Interval.{Interval}
 use Rattle.fish_catalog.specs.declared.row.CatRow.{CatRow}
 
@@ -28,7 +28,7 @@ last (z ∷ xs) y = last xs y
 
 -- one row more
 pub below_next : (rows : List CatRow) (def : List ℕ) (n : ℕ) (row : CatRow) (xs ys : List Interval)
-    → AreBelow rows def n xs → slice_get rows n ≡ Some row → row.id ≡ n → IsAdded row def xs ys
+    → AreBelow rows def n xs → slice_get rows n ≡ Some row → row.id ≡ n → IsIntervalAdded row def xs ys
     → AreBelow rows def (n + 1) ys
 below_next rows def n row xs ys h there id (inl added) =
     let new : Interval = record { id = row.id; from = added.0; to = row.to } in

@@ -9,7 +9,7 @@ use Rattle.std.proofs.lemmas.Option.{same_Some}
 use Rattle.std.proofs.Math.Decide.{ℕ_discrete}
 use Rattle.fish_layout.specs.Cleared.{choose}
 use Rattle.fish_catalog.specs.Canonical.{IsCanonical}
-use Rattle.fish_catalog.specs.Listing.{IsListing, IsNew, ended, ended_at, is_on, listed_of}
+use Rattle.fish_catalog.specs.Listing.{IsListing, IsNewName, ended, ended_at, is_on, listed_of}
 use Rattle.fish_catalog.specs.Rows.{IsActive, IsCatalog, IsName, IsRow, is_active}
 use Rattle.fish_catalog.specs.declared.listed.Listed.{Listed}
 use Rattle.fish_catalog.specs.declared.row.CatRow.{CatRow}
@@ -87,7 +87,7 @@ apart_more ls y old free i j one other at_i at_j on other_on same =
     ]
 
 -- a definition that may be registered, after the others
-pub listing_registered : (ls : List Listed) (name text : List ℕ) → IsListing ls → IsNew ls name text →
+pub listing_registered : (ls : List Listed) (name text : List ℕ) → IsListing ls → IsNewName ls name text →
     IsListing (ls ++ record { id = length ls; name = name; def = text; active = true } ∷ [])
 listing_registered ls name text old new =
     let y : Listed = newest ls name text in

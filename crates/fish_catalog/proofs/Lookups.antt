@@ -3,7 +3,7 @@ use Rattle.std.proofs.Common.{◌≡◌, ℕ, zero, suc, ◌+◌, ◌<◌, ◌�
 use Rattle.std.proofs.Common.{length, take, sym, inl, inr, arith, refl, get_or, subst, ◌∙◌, below_more}
 use Rattle.std.proofs.lemmas.Bool.{cases_lt}
 use Rattle.std.proofs.lemmas.Option.{same_Some, slice_get_read, slice_get_within, slice_get-get_or}
-use Rattle.fish_catalog.specs.within.Restoring.{AreApart, IsAlone}
+use Rattle.fish_catalog.specs.within.Restoring.{AreApart, IsOnlyName}
 use Rattle.fish_catalog.specs.Rows.{IsActive, IsRow}
 use Rattle.fish_catalog.specs.declared.row.CatRow.{CatRow}
 
@@ -41,7 +41,7 @@ in_front (suc n) (x ∷ rows) (suc k) row less h = in_front n rows k row (omega 
 
 -- rows are apart where no active one has the name of an active one before it
 pub apart_all : (rows : List CatRow)
-    → ((k : ℕ) → k < length rows → (row : CatRow) → slice_get rows k ≡ Some row → IsActive row → IsAlone (take k rows) row.name)
+    → ((k : ℕ) → k < length rows → (row : CatRow) → slice_get rows k ≡ Some row → IsActive row → IsOnlyName (take k rows) row.name)
     → AreApart rows
 apart_all rows alone j k one other at_j at_k active other_active same =
     elim (cases_lt j k) [

@@ -37,7 +37,7 @@ pub record IsListing (ls : List Listed) : Type 0 where
       → one.active ≡ true → other.active ≡ true → one.name ≡ other.name → i ≡ j
 
 -- a definition of this name and text may be registered: there is room, and no active one has the name
-pub record IsNew (ls : List Listed) (name text : List ℕ) : Type 0 where
+pub record IsNewName (ls : List Listed) (name text : List ℕ) : Type 0 where
   pub room : length ls < most_rows
   pub name_is : IsName name
   pub text_is : IsCanonical text

@@ -18,16 +18,16 @@ abbrev pub IsActive : CatRow → Type 0
 IsActive row = row.to ≡ None
 
 -- an index that ends has begun, and ends where it began or after it
-abbrev pub IsInOrder : Option ℕ → Option ℕ → Type 0
-IsInOrder from None = Unit {0}
-IsInOrder None (Some to) = ⊥
-IsInOrder (Some from) (Some to) = from ≤ to
+abbrev pub IsSpanInOrder : Option ℕ → Option ℕ → Type 0
+IsSpanInOrder from None = Unit {0}
+IsSpanInOrder None (Some to) = ⊥
+IsSpanInOrder (Some from) (Some to) = from ≤ to
 
 -- what holds of each row by itself
 pub record IsRow (row : CatRow) : Type 0 where
   pub name : IsName row.name
   pub text : IsCanonical row.def
-  pub order : IsInOrder row.from row.to
+  pub order : IsSpanInOrder row.from row.to
 
 -- what holds of the rows of a catalogue
 pub record IsCatalog (rows : List CatRow) : Type 0 where
@@ -61,7 +61,7 @@ pub record IsNewest (rows : List CatRow) (name : List ℕ) (id : ℕ) : Type 0 w
   pub last : (k : ℕ) (later : CatRow) → slice_get rows k ≡ Some later → later.name ≡ name → k ≤ id
 
 -- a row with the name, active or not
-pub record IsKnown (rows : List CatRow) (name : List ℕ) : Type 0 where
+pub record IsNameKnown (rows : List CatRow) (name : List ℕ) : Type 0 where
   pub id : ℕ
   pub row : CatRow
   pub there : slice_get rows id ≡ Some row

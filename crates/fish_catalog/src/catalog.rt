@@ -4,7 +4,8 @@
 
 ghost use Rattle.std.specs.Prelude.{◌≡◌, ◌↔◌, ◌+◌, ◌<◌, ◌≤◌, ◌++◌, ◌∷◌, [], All, IfOk, IfSome, IsErrOf, IsSome, OnErr};
 ghost use Rattle.std.specs.Prelude.{OnOk, count_by, length, map};
-ghost use Rattle.fish_catalog.specs.Rows.{AwaitsFrom, HasActive, IsActiveNamed, IsCatalog, IsKnown, IsName, IsNewest};
+ghost use Rattle.fish_catalog.specs.Rows.{AwaitsFrom, HasActive, IsActiveNamed, IsCatalog, IsNameKnown, IsName};
+ghost use Rattle.fish_catalog.specs.Rows.{IsNewest};
 ghost use Rattle.fish_catalog.specs.Rows.{is_active, new_row, with_from};
 ghost use Rattle.fish_catalog.specs.Canonical.{IsCanonical};
 ghost use Rattle.fish_catalog.specs.Clamps.{IsClamped, clamped};
@@ -128,7 +129,7 @@ impl Catalog {
     /// The greatest id of a name, whether its row is active or not.
     pub fn find_newest(&self, name: &Text) -> Option<u16>
         ensures found { IfSome result (IsNewest self.now name.now) }
-        ensures some { IsSome result ↔ IsKnown self.now name.now }
+        ensures some { IsSome result ↔ IsNameKnown self.now name.now }
     {
         let mut newest = None;
         let rows = self.rows();

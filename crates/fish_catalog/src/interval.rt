@@ -1,7 +1,7 @@
 //! Where the index of a row holds.
 
 ghost use Rattle.std.specs.Prelude.{OnOk};
-ghost use Rattle.fish_catalog.specs.within.Intervals.{IsAdded};
+ghost use Rattle.fish_catalog.specs.within.Intervals.{IsIntervalAdded};
 
 use crate::row::CatRow;
 use fish_value::{Sequence, Text};
@@ -27,7 +27,7 @@ pub(crate) fn add_interval(
     row: &CatRow,
     def: &Text,
 ) -> Result<(), AllocError>
-    ensures { OnOk result (IsAdded row.now def.now intervals.old intervals.new) }
+    ensures { OnOk result (IsIntervalAdded row.now def.now intervals.old intervals.new) }
 {
     let Some(from) = row.from else {
         return Ok(());

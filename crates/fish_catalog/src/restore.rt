@@ -1,8 +1,8 @@
 //! Which rows that were kept elsewhere are those of a catalogue.
 
 ghost use Rattle.std.specs.Prelude.{◌≡◌, ◌↔◌, All, IfOk, IsTrue, count_by};
-ghost use Rattle.fish_catalog.specs.within.Restoring.{AreApart, HaveIds, IsAlone, IsListed};
-ghost use Rattle.fish_catalog.specs.Rows.{IsCatalog, IsInOrder, IsRow, is_active};
+ghost use Rattle.fish_catalog.specs.within.Restoring.{AreApart, HaveIds, IsOnlyName, IsListed};
+ghost use Rattle.fish_catalog.specs.Rows.{IsCatalog, IsSpanInOrder, IsRow, is_active};
 
 use crate::canonical::is_canonical;
 use crate::catalog::{MAX_ACTIVE, MAX_ROWS};
@@ -59,7 +59,7 @@ fn are_apart(rows: &[CatRow]) -> bool
 
 /// Whether no active one of these rows has the name of this row.
 fn is_alone(rows: &[CatRow], row: &CatRow) -> bool
-    ensures { IsTrue result ↔ IsAlone rows.now row.now.name }
+    ensures { IsTrue result ↔ IsOnlyName rows.now row.now.name }
 {
     for other in rows {
         if other.is_active() && other.name.is(&row.name) {
@@ -93,7 +93,7 @@ fn is_row(alloc: Global, row: &CatRow) -> Result<bool, AllocError>
 
 /// Whether an index that ends has begun, and not past its end.
 fn are_in_order(from: Option<u32>, to: Option<u32>) -> bool
-    ensures { IsTrue result ↔ IsInOrder from to }
+    ensures { IsTrue result ↔ IsSpanInOrder from to }
 {
     match (from, to) {
         (_, None) => true,

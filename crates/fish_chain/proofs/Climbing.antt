@@ -2,7 +2,7 @@
 use Rattle.std.proofs.Common.{◌≡◌, ℕ, ◌<◌, suc, refl, sym, ap, ◌∙◌, subst, arith, Some, Option, None}
 use Rattle.fish_chain.proofs.Changes.{changed_next, still_links}
 use Rattle.fish_chain.specs.Links.{CanLink, with_linked}
-use Rattle.fish_chain.specs.within.Links.{CanLinkBelow, IsBelow, Tried}
+use Rattle.fish_chain.specs.within.Links.{CanLinkBelow, IsLinkBelow, Tried}
 use Rattle.fish_layout.specs.Cleared.{body_of}
 use Rattle.fish_layout.specs.Header.{keys_of}
 use Rattle.fish_layout.specs.Pages.{place_of}
@@ -10,7 +10,7 @@ use Rattle.fish_rule.proofs.laws.Steps.{flight_law}
 use Rattle.fish_rule.specs.Flying.{region_in, region_of}
 use Rattle.fish_rule.specs.ChainSteps.{own_place}
 use Rattle.fish_rule.specs.declared.table.Region.{Region}
-use Rattle.fish_rule.specs.Table.{Stands}
+use Rattle.fish_rule.specs.Table.{IsOfMoment}
 use Rattle.fish_rule.specs.declared.view.Key.{Key}
 use Rattle.fish_rule.specs.declared.view.Flight.{Flight}
 use Rattle.fish_rule.specs.declared.view.View.{View}
@@ -24,7 +24,7 @@ line_kept v f o r flying kept is =
     ap (λ (z : Region). z.line) region
 
 -- it lies within the log
-pub line_low : (k : Key) (v : View) (f : Flight) (o : Option Region) (r : Region) → v.about ≡ k → Stands v
+pub line_low : (k : Key) (v : View) (f : Flight) (o : Option Region) (r : Region) → v.about ≡ k → IsOfMoment v
     → v.flight ≡ Some f → o ≡ region_in v.flight → o ≡ Some r → r.line < 68719476736
 line_low k v f o r about stands flying kept is =
     let line = line_kept v f o r flying kept is in
@@ -48,7 +48,7 @@ link_next v f key b can = record {
   below = can.below;
 }
 
-module _ (v u : View) (f : Flight) (b above : ℕ) (can : CanLink v f f.linked b) (s : IsBelow v f b above u) where
+module _ (v u : View) (f : Flight) (b above : ℕ) (can : CanLink v f f.linked b) (s : IsLinkBelow v f b above u) where
   -- the entry may still be linked, below the one above
   pub below_under : (place : ℕ) → place ≡ own_place f → CanLinkBelow u (with_linked f s.words f.linked) b above place
   below_under place at = (let over = s.above in

@@ -2,11 +2,11 @@
 use Rattle.std.proofs.Common.{◌≡◌, ◌≢◌, ℕ, ◌+◌, ◌*◌, ◌/◌, ◌<◌, ◌≤◌, zero, suc, List, length, sym, refl, ap, ◌∙◌}
 use Rattle.std.proofs.Common.{subst, ◌⊎◌, ⊎_elim, inl, inr, arith, take}
 use Rattle.fish_chain.proofs.Values.{IsEntryAt, bytes_said, entry_given, said_bytes, said_size}
-use Rattle.fish_chain.specs.Values.{IsGiven, words_in}
+use Rattle.fish_chain.specs.Values.{IsNodeGiven, record_words_at}
 use Rattle.fish_chain.specs.within.Values.{AreBytesIn, HasBytes, IsWordIn, SaysBytes}
 use Rattle.fish_chain.specs.declared.walk.Node.{Node}
 use Rattle.fish_layout.proofs.Entries.{values_within}
-use Rattle.fish_layout.proofs.Sizes.{few_bytes, length-words_behind}
+use Rattle.fish_layout.proofs.Sizes.{few_bytes, length-words_after_head}
 use Rattle.fish_layout.proofs.Spelled.{spelled_keys, spelled_lines}
 use Rattle.fish_layout.specs.Body.{values_of}
 use Rattle.fish_layout.specs.Bytes.{words_for}
@@ -25,7 +25,7 @@ use Rattle.fish_rule.proofs.laws.ChainFacts.{always_later}
 use Rattle.fish_rule.specs.Logs.{Extends, Learns}
 use Rattle.fish_rule.specs.LoadSteps.{CanLookAt, CanReadWord, after_look_at, kind_told}
 use Rattle.fish_rule.specs.Regions.{code}
-use Rattle.fish_rule.specs.Table.{Sees, Stands}
+use Rattle.fish_rule.specs.Table.{Sees, IsOfMoment}
 use Rattle.fish_rule.specs.Views.{Among}
 use Rattle.fish_rule.specs.ChainFacts.{Always}
 use Rattle.fish_rule.specs.World.{World, body, high, low}
@@ -37,7 +37,7 @@ use Rattle.fish_rule.specs.declared.view.View.{View}
 -- ---- the look
 
 -- the number of a node that a walk gave may be looked at
-pub given_look : (v : View) (node : Node) → Stands v → IsGiven v node → node.number < v.learned.count → CanLookAt v node.number
+pub given_look : (v : View) (node : Node) → IsOfMoment v → IsNodeGiven v node → node.number < v.learned.count → CanLookAt v node.number
 given_look v node s given below = record {
   above = stored_above s.rule node.number (given.1 v (learns_self v) s.moment s.rule s.seat s.at).entry.stored;
   below = below;
@@ -49,7 +49,7 @@ unfolding high
 stored_word x is e = (let h : high 0 ≡ code Stored = subst (λ (z : ℕ). high z ≡ code Stored) e is in absurd (omega arith))
 
 -- the look finds its record
-pub given_found : (v u : View) (node : Node) (lines x : ℕ) → u ≡ after_look_at v node.number lines x → IsGiven v node
+pub given_found : (v u : View) (node : Node) (lines x : ℕ) → u ≡ after_look_at v node.number lines x → IsNodeGiven v node
     → Sees v node.number x → (f : Found) × Among f u.learned.found × (f.number ≡ node.number) × (f.line ≡ low x)
     × (f.kind ≡ Stored)
 given_found v u node lines x to given sees =
@@ -86,7 +86,7 @@ pub record IsDivided (n c : ℕ) (f : Found) (w : World) : Type 0 where
   pub small : length (value_bytes entry.key.value) ≤ 256
 
 -- it is so of a node's record, in the moment in which the pass stands
-pub given_divided : (v : View) (node : Node) (f : Found) → (s : Stands v) → IsGiven v node → Among f v.learned.found
+pub given_divided : (v : View) (node : Node) (f : Found) → (s : IsOfMoment v) → IsNodeGiven v node → Among f v.learned.found
     → f.number ≡ node.number → f.kind ≡ Stored → IsDivided node.number node.key f s.moment
 given_divided v node f s given among number is =
     let w : World = s.moment in
@@ -96,8 +96,8 @@ given_divided v node f s given among number is =
     let e = entry_given s.rule given.0 node.number node.key node.place node.id h in
     let p = e.parts in
     let line : low (w.dir f.number) ≡ s.rule.start f.number = (region_found s.rule f found).0.line in
-    let same : words_in node.number w 0 ≡ body w.log (s.rule.start f.number) 0 =
-    ap (λ (z : ℕ). words_in z w 0) (sym number) ∙ ap (λ (z : ℕ). body w.log z 0) line in
+    let same : record_words_at node.number w 0 ≡ body w.log (s.rule.start f.number) 0 =
+    ap (λ (z : ℕ). record_words_at z w 0) (sym number) ∙ ap (λ (z : ℕ). body w.log z 0) line in
     let lines = sym (spelled_lines e.spells) ∙ ap lines_of same ∙ lines_found s.rule f found (no_mark f is) in
     let within = slice_get_within p.keys node.key e.key e.there in
     let at = sym (get_or_from_slice_get p.keys node.key e.key e.key e.there) in
@@ -105,7 +105,7 @@ given_divided v node f s given among number is =
       entry = e;
       counts = within;
       lines = found_law v f s among;
-      room = omega (arith, length-words_behind p);
+      room = omega (arith, length-words_after_head p);
       value = values_within p.keys node.key e.key within at;
       small = few_bytes e.key.value e.proper;
     }
@@ -135,7 +135,7 @@ read_within v u n line first size done learns h less =
     )
 
 -- the header of a record may be read
-pub read_header : (v : View) (f : Found) (n line : ℕ) → Stands v → Among f v.learned.found → f.number ≡ n → f.line ≡ line
+pub read_header : (v : View) (f : Found) (n line : ℕ) → IsOfMoment v → Among f v.learned.found → f.number ≡ n → f.line ≡ line
     → f.kind ≡ Stored → (f : Found) × CanReadWord v f 0 × (f.line ≡ line) × (f.number ≡ n)
 read_header v f n line s among number at is =
     let some_ = found_law v f s among in (
@@ -177,7 +177,7 @@ read_value v f w k n c line header third size h among number at is known first s
     let e = h.entry in
     let keys : keys_of header ≡ length e.parts.keys = ap keys_of (sym first) ∙ spelled_keys e.spells in
     let place : 3 * c + 3 ≡ entry_at c + 2 = omega arith in
-    let word : third ≡ words_in n w (entry_at c + 2) = sym second ∙ ap (words_in n w) place in
+    let word : third ≡ record_words_at n w (entry_at c + 2) = sym second ∙ ap (record_words_at n w) place in
     let offset : value_offset third ≡ length (values_of (take c e.parts.keys)) = ap value_offset word ∙ e.says.offset in
     let bytes : size ≡ length (value_bytes e.key.value) = sym size_is ∙ ap value_size word ∙ e.says.size in
     let room = h.room in
@@ -201,14 +201,14 @@ few_said f w k n c third size h second size_is =
     let e = h.entry in
     let place : 3 * c + 3 ≡ entry_at c + 2 = omega arith in
     let bytes : size ≡ length (value_bytes e.key.value) =
-    sym size_is ∙ ap value_size (sym second ∙ ap (words_in n w) place) ∙ e.says.size in
+    sym size_is ∙ ap value_size (sym second ∙ ap (record_words_at n w) place) ∙ e.says.size in
     let small = h.small in omega arith
 
 -- ---- one comparison
 
 -- a node's record was found at a line, and its header read
 pub record IsHeaded (v : View) (node : Node) (line header : ℕ) : Type 0 where
-  pub given : IsGiven v node
+  pub given : IsNodeGiven v node
   pub found : Found
   pub among : Among found v.learned.found
   pub number : found.number ≡ node.number
@@ -221,11 +221,11 @@ pub looked : (v u : View) (n lines x : ℕ) → u ≡ after_look_at v n lines x 
 looked v u n lines x e = subst (Extends v) (sym e) (extends_look v n lines x)
 
 -- what a walk gave stays given
-pub given_later : (v u : View) (node : Node) → Learns v u → IsGiven v node → IsGiven u node
+pub given_later : (v u : View) (node : Node) → Learns v u → IsNodeGiven v node → IsNodeGiven u node
 given_later v u node learns given = (given.0, always_later v u _ learns given.1)
 
 -- after the look and the load of the header
-pub headed : (v u t : View) (node : Node) (lines x line header : ℕ) → IsGiven v node → u ≡ after_look_at v node.number lines x
+pub headed : (v u t : View) (node : Node) (lines x line header : ℕ) → IsNodeGiven v node → u ≡ after_look_at v node.number lines x
     → Sees v node.number x → line ≡ low x → Learns u t
     → Among (record { place = line * 4 + 0; value = header }) t.learned.known → IsHeaded t node line header
 headed v u t node lines x line header given to sees at learns known =
@@ -255,7 +255,7 @@ headed_later v u node line header learns h = record {
 }
 
 -- and after the load of the third word
-pub headed_on : (v u t s : View) (node : Node) (number lines x line header : ℕ) → IsGiven v node → number ≡ node.number
+pub headed_on : (v u t s : View) (node : Node) (number lines x line header : ℕ) → IsNodeGiven v node → number ≡ node.number
     → u ≡ after_look_at v number lines x → Sees v number x → line ≡ low x → Learns u t
     → Among (record { place = line * 4 + 0; value = header }) t.learned.known → Learns t s → IsHeaded s node line header
 headed_on v u t s node number lines x line header given is to sees at learns known on =
@@ -263,18 +263,18 @@ headed_on v u t s node number lines x line header given is to sees at learns kno
     (subst (λ (z : ℕ). u ≡ after_look_at v z lines x) is to) (subst (λ (z : ℕ). Sees v z x) is sees) at learns known)
 
 -- it is divided so in the moment in which the pass stands
-pub headed_divided : (v : View) (node : Node) (line header : ℕ) (s : Stands v) (h : IsHeaded v node line header)
+pub headed_divided : (v : View) (node : Node) (line header : ℕ) (s : IsOfMoment v) (h : IsHeaded v node line header)
     → IsDivided node.number node.key h.found s.moment
 headed_divided v node line header s h = given_divided v node h.found s h.given h.among h.number h.is
 
 -- the third word of its entry may be read
-pub third_may : (v : View) (node : Node) (line header : ℕ) → Stands v → IsHeaded v node line header
+pub third_may : (v : View) (node : Node) (line header : ℕ) → IsOfMoment v → IsHeaded v node line header
     → (f : Found) × CanReadWord v f (3 * node.key + 3) × (f.line ≡ line) × (f.number ≡ node.number)
 third_may v node line header s h = read_third v h.found s.moment node.number node.key line header
     (headed_divided v node line header s h) h.among h.number h.at h.is h.known
 
 -- and its value's words
-pub value_may : (v : View) (node : Node) (line header third size : ℕ) → Stands v → IsHeaded v node line header
+pub value_may : (v : View) (node : Node) (line header third size : ℕ) → IsOfMoment v → IsHeaded v node line header
     → Always v (IsWordIn node.number 0 header) → Always v (IsWordIn node.number (3 * node.key + 3) third)
     → value_size third ≡ size → HasBytes v node.number line (24 * keys_of header + 8 + value_offset third) size
 value_may v node line header third size s h first second is = read_value v h.found s.moment v.about node.number node.key
@@ -282,14 +282,14 @@ value_may v node line header third size s h first second is = read_value v h.fou
     (first v (learns_self v) s.moment s.rule s.seat s.at) (second v (learns_self v) s.moment s.rule s.seat s.at) is
 
 -- which has at most 256 bytes
-pub value_few : (v : View) (node : Node) (line header third size : ℕ) → Stands v → IsHeaded v node line header
+pub value_few : (v : View) (node : Node) (line header third size : ℕ) → IsOfMoment v → IsHeaded v node line header
     → Always v (IsWordIn node.number (3 * node.key + 3) third) → value_size third ≡ size → size ≤ 256
 value_few v node line header third size s h second is = few_said h.found s.moment v.about node.number node.key third size
     (headed_divided v node line header s h) (second v (learns_self v) s.moment s.rule s.seat s.at) is
 
 -- the third word in another spelling of its place
-third_is : (n c third : ℕ) (k : Key) (w : World) → IsWordIn n (3 * c + 3) third k w → third ≡ words_in n w (entry_at c + 2)
-third_is n c third k w is = (let place : 3 * c + 3 ≡ entry_at c + 2 = omega arith in sym is ∙ ap (words_in n w) place)
+third_is : (n c third : ℕ) (k : Key) (w : World) → IsWordIn n (3 * c + 3) third k w → third ≡ record_words_at n w (entry_at c + 2)
+third_is n c third k w is = (let place : 3 * c + 3 ≡ entry_at c + 2 = omega arith in sym is ∙ ap (record_words_at n w) place)
 
 -- where the kind or the length differs, the entry's words don't say the bytes
 pub says_other : (v : View) (n c third kind : ℕ) (bytes : List ℕ) → Always v (IsWordIn n (3 * c + 3) third)

@@ -1,6 +1,6 @@
 -- The steps of a walk, over plain views.
 use Rattle.std.proofs.Common.{◌≡◌, ℕ, ◌+◌, ◌*◌, ◌<◌, ◌≤◌, sym, refl, subst, ◌⊎◌, ⊎_elim, inl, inr, arith}
-use Rattle.fish_chain.specs.Walks.{HasBegun, HasRange, IsEntryFrom, IsNextNode, IsNumbered, IsPast, IsRest, IsWalking}
+use Rattle.fish_chain.specs.Walks.{HasBegunWalk, HasRange, IsEntryFrom, IsNextNode, IsNumbered, IsPastPlace, IsWalkRest, IsWalking}
 use Rattle.fish_chain.specs.within.Walks.{LeadsTo}
 use Rattle.fish_chain.specs.declared.walk.Node.{Node}
 use Rattle.fish_layout.specs.Entry.{entry_id, entry_number, entry_place}
@@ -12,7 +12,7 @@ use Rattle.fish_rule.proofs.laws.ChainFacts.{always_later, clear_both, label_ent
 use Rattle.fish_rule.specs.ChainSteps.{HasNode, after_load_head, after_load_node, after_load_previous}
 use Rattle.fish_rule.specs.Logs.{Extends, Learns}
 use Rattle.fish_rule.specs.Parts.{first_head}
-use Rattle.fish_rule.specs.Table.{Stands}
+use Rattle.fish_rule.specs.Table.{IsOfMoment}
 use Rattle.fish_rule.specs.Views.{Among}
 use Rattle.fish_rule.specs.ChainFacts.{Always, IsClear, IsEntryIn, IsNodeIn}
 use Rattle.fish_rule.specs.declared.table.Walk.{Walk}
@@ -24,7 +24,7 @@ use Rattle.fish_rule.specs.declared.view.View.{View}
 
 -- what a load tells of a place that is none of the table's
 pub first_known : (k : Key) (v : View) (b x : ℕ) → v.about ≡ k → (x ≤ k.line * 4 → x ≡ first_head k b)
-    → IsPast v x → x ≡ first_head v.about b
+    → IsPastPlace v x → x ≡ first_head v.about b
 first_known k v b x about first = subst (λ (z : Key). x ≤ z.line * 4 → x ≡ first_head z b) (sym about) first
 
 -- a place after the key's base is after the view's
@@ -32,15 +32,15 @@ pub behind_known : (k : Key) (v : View) (x : ℕ) → v.about ≡ k → k.line *
 behind_known k v x about more = subst (λ (z : Key). z.line * 4 < x) (sym about) more
 
 -- and one that isn't is not
-pub past_known : (k : Key) (v : View) (x : ℕ) → v.about ≡ k → x ≤ k.line * 4 → IsPast v x
+pub past_known : (k : Key) (v : View) (x : ℕ) → v.about ≡ k → x ≤ k.line * 4 → IsPastPlace v x
 past_known k v x about less = subst (λ (z : Key). x ≤ z.line * 4) (sym about) less
 
 -- ---- a start
 
 -- a walk that stands at the head that was seen has its whole range before it
 pub begun_at : (v : View) (bucket from to place : ℕ) → to ≤ v.learned.settled
-    → (IsPast v place → place ≡ first_head v.about bucket)
-    → HasBegun (after_load_head v bucket place)
+    → (IsPastPlace v place → place ≡ first_head v.about bucket)
+    → HasBegunWalk (after_load_head v bucket place)
     (record { bucket = bucket; from = from; to = to; given = place + 1; place = place }) bucket from to
 begun_at v bucket from to place known first =
     let u : View = after_load_head v bucket place in
@@ -55,7 +55,7 @@ begun_at v bucket from to place known first =
       range = record { bucket_is = refl; from_is = refl; to_is = refl };
       walking = record {
         settled = known;
-        at = ⊎_elim (λ (e : IsPast v place). inl (record { past = e; first = λ _. first e }))
+        at = ⊎_elim (λ (e : IsPastPlace v place). inl (record { past = e; first = λ _. first e }))
             (λ (m : HasNode u bucket place). inr (m, omega arith))
             (head_here v bucket place);
         clear = λ x learns w r seat at n c p more less h under. omega arith;
@@ -67,7 +67,7 @@ begun_at v bucket from to place known first =
 
 -- below a record below the range there is nothing left
 pub stops_below : (v : View) (walk : Walk) (number : ℕ) → IsNumbered v walk.place number → number < walk.from
-    → 0 < walk.place → Stands v → LeadsTo v walk 0
+    → 0 < walk.place → IsOfMoment v → LeadsTo v walk 0
 stops_below v walk number is less some_ stands = record {
   lower = some_;
   at = inl (record {
@@ -81,11 +81,11 @@ stops_below v walk number is less some_ stands = record {
 
 -- else the walk goes on at what the first word leads to
 pub goes_down : (v : View) (walk : Walk) (previous : ℕ) → walk.to ≤ v.learned.settled → previous < walk.place
-    → (IsPast v previous → previous ≡ first_head v.about walk.bucket)
+    → (IsPastPlace v previous → previous ≡ first_head v.about walk.bucket)
     → LeadsTo (after_load_previous v walk.bucket walk.place previous) walk previous
 goes_down v walk previous known less first = record {
   lower = less;
-  at = ⊎_elim (λ (e : IsPast v previous). inl (record { past = e; first = λ _. first e }))
+  at = ⊎_elim (λ (e : IsPastPlace v previous). inl (record { past = e; first = λ _. first e }))
       (λ (m : HasNode (after_load_previous v walk.bucket walk.place previous) walk.bucket previous). inr m)
       (previous_here v walk.bucket walk.place previous);
   clear = previous_clear v walk.bucket walk.place previous walk.from walk.to known;
@@ -97,7 +97,7 @@ goes_down v walk previous known less first = record {
 pub stands_at : (v : View) (walk : Walk) → IsWalking v walk → v.about.line * 4 < walk.place
     → HasNode v walk.bucket walk.place × (walk.place < walk.given)
 stands_at v walk walking some_ = ⊎_elim
-    (λ (e : IsRest v walk.bucket walk.from walk.place). let past = e.past in absurd (omega arith))
+    (λ (e : IsWalkRest v walk.bucket walk.from walk.place). let past = e.past in absurd (omega arith))
     (λ (h : HasNode v walk.bucket walk.place × (walk.place < walk.given)). h) walking.at
 
 -- what the second word was when it was read
@@ -163,8 +163,8 @@ module _ (v u t : View) (walk : Walk) (word below : ℕ) (walking : IsWalking v 
 
   -- the walk stands at the end, or at an entry below a place that isn't above where it stood
   turn_at : (given_ : ℕ) → walk.place ≤ given_
-      → IsRest t walk.bucket walk.from below ⊎ (HasNode t walk.bucket below × (below < given_))
-  turn_at given_ more = ⊎_elim (λ (e : IsRest t walk.bucket walk.from below). inl e)
+      → IsWalkRest t walk.bucket walk.from below ⊎ (HasNode t walk.bucket below × (below < given_))
+  turn_at given_ more = ⊎_elim (λ (e : IsWalkRest t walk.bucket walk.from below). inl e)
       (λ (m : HasNode t walk.bucket below). inr (m, (let less = goes.lower in omega arith))) goes.at
 
   -- an entry outside the range is passed
@@ -203,14 +203,14 @@ module _ (v u t : View) (walk : Walk) (word below : ℕ) (walking : IsWalking v 
 -- ---- the end
 
 -- a walk that is past the table stands where nothing of it is left
-pub rests_at : (v : View) (walk : Walk) → IsWalking v walk → Stands v → IsPast v walk.place
-    → IsRest v walk.bucket walk.from walk.place
-rests_at v walk walking stands past = ⊎_elim (λ (e : IsRest v walk.bucket walk.from walk.place). e)
+pub rests_at : (v : View) (walk : Walk) → IsWalking v walk → IsOfMoment v → IsPastPlace v walk.place
+    → IsWalkRest v walk.bucket walk.from walk.place
+rests_at v walk walking stands past = ⊎_elim (λ (e : IsWalkRest v walk.bucket walk.from walk.place). e)
     (λ (h : HasNode v walk.bucket walk.place × (walk.place < walk.given)).
     let behind = node_behind v walk.bucket walk.place stands h.0 in absurd (omega arith)) walking.at
 
 -- and no entry of the range is left
-pub clear_past : (v : View) (walk : Walk) → IsWalking v walk → IsPast v walk.place
+pub clear_past : (v : View) (walk : Walk) → IsWalking v walk → IsPastPlace v walk.place
     → Always v (IsClear walk.bucket walk.from walk.to walk.given 0)
 clear_past v walk walking past u learns w r seat at n c p more less h under =
     let behind = entries_behind v u learns w r seat at walk.bucket n c p h in

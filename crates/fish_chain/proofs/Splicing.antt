@@ -6,7 +6,7 @@ use Rattle.fish_chain.proofs.Changes.{aim_changes, changed_next, link_aim, previ
 use Rattle.fish_chain.proofs.Changes.{splice_changes, still_links}
 use Rattle.fish_rule.proofs.laws.Descents.{previous_here}
 use Rattle.fish_chain.specs.Links.{CanLink, Changed, IsLinked, with_linked}
-use Rattle.fish_chain.specs.within.Links.{CanLinkBelow, IsBelow}
+use Rattle.fish_chain.specs.within.Links.{CanLinkBelow, IsLinkBelow}
 use Rattle.fish_layout.proofs.Clearing.{choose_first, choose_second}
 use Rattle.fish_layout.specs.Cleared.{entry_at}
 use Rattle.fish_rule.proofs.laws.Links.{not_own, own_behind, own_word}
@@ -15,7 +15,7 @@ use Rattle.fish_rule.specs.ChainSteps.{after_load_previous, after_splice_entry}
 use Rattle.fish_rule.specs.ChainSteps.{aimed_at, own_place, previous_seen, spliced}
 use Rattle.fish_rule.specs.SpaceSteps.{loaded, ticked}
 use Rattle.fish_rule.specs.declared.view.Clock.{Clock}
-use Rattle.fish_rule.specs.Table.{Stands}
+use Rattle.fish_rule.specs.Table.{IsOfMoment}
 use Rattle.fish_rule.specs.Views.{Among}
 use Rattle.fish_rule.specs.declared.view.Flight.{Flight}
 use Rattle.fish_rule.specs.declared.view.View.{View}
@@ -77,7 +77,7 @@ module _ (v u : View) (q place x : ℕ) (s : IsSplicing v q place x u) where
   splice_aim = link_aim u splicing s.bucket splice_links
 
   -- a first word that isn't below the own place is the place of a linked entry above it
-  pub splice_over : Stands u → place ≤ x → IsBelow v s.flight s.bucket x u
+  pub splice_over : IsOfMoment u → place ≤ x → IsLinkBelow v s.flight s.bucket x u
   splice_over stands over =
       let at : place ≡ own_place s.flight = s.under.at in
       let behind = own_behind u splicing stands splice_aim in
@@ -107,7 +107,7 @@ module _ (v u : View) (q place x : ℕ) (s : IsSplicing v q place x u) where
         (sym (ap (λ (z : View). z.learned) is)) s.higher
 
     -- the entry may be spliced in
-    pub splice_can : Stands u → x < place → CanSpliceEntry t (aimed_at splicing x) s.bucket q x
+    pub splice_can : IsOfMoment u → x < place → CanSpliceEntry t (aimed_at splicing x) s.bucket q x
     splice_can stands less =
         let links : CanLink t (aimed_at splicing x) splicing.linked s.bucket =
         still_links v t s.flight aims s.bucket aimed s.under.can in

@@ -6,7 +6,7 @@ use Rattle.fish_chain.proofs.Changes.{aim_changes, changed_next, head_changes, l
 use Rattle.fish_chain.proofs.Changes.{still_links, swing_changes}
 use Rattle.fish_rule.proofs.laws.Descents.{head_here}
 use Rattle.fish_chain.specs.Links.{CanLink, Changed, IsLinked, with_linked}
-use Rattle.fish_chain.specs.within.Links.{IsBelow}
+use Rattle.fish_chain.specs.within.Links.{IsLinkBelow}
 use Rattle.fish_layout.proofs.Clearing.{choose_first, choose_second}
 use Rattle.fish_layout.specs.Cleared.{entry_at}
 use Rattle.fish_rule.proofs.laws.Links.{not_own, own_behind, own_word}
@@ -15,7 +15,7 @@ use Rattle.fish_rule.specs.ChainSteps.{after_swing_head, aimed_at}
 use Rattle.fish_rule.specs.ChainSteps.{head_seen, own_place, swung}
 use Rattle.fish_rule.specs.SpaceSteps.{loaded, ticked}
 use Rattle.fish_rule.specs.declared.view.Clock.{Clock}
-use Rattle.fish_rule.specs.Table.{Stands}
+use Rattle.fish_rule.specs.Table.{IsOfMoment}
 use Rattle.fish_rule.specs.Views.{Among}
 use Rattle.fish_rule.specs.declared.view.Flight.{Flight}
 use Rattle.fish_rule.specs.declared.view.View.{View}
@@ -63,7 +63,7 @@ module _ (v u : View) (b place h : ℕ) (s : IsSwinging v b place h u) where
   swing_aim = link_aim u swinging b swing_links
 
   -- a head that isn't below the own place is that of a linked entry above it
-  pub swing_over : Stands u → place ≤ h → IsBelow v s.flight b h u
+  pub swing_over : IsOfMoment u → place ≤ h → IsLinkBelow v s.flight b h u
   swing_over stands over =
       let at : place ≡ own_place s.flight = s.at in
       let behind = own_behind u swinging stands swing_aim in
@@ -87,7 +87,7 @@ module _ (v u : View) (b place h : ℕ) (s : IsSwinging v b place h u) where
         (sym (ap (λ (z : View). z.learned) is)) s.top
 
     -- the head may be swung
-    pub swing_can : Stands u → h < place → CanSwingHead t (aimed_at swinging h) b h
+    pub swing_can : IsOfMoment u → h < place → CanSwingHead t (aimed_at swinging h) b h
     swing_can stands less =
         let links : CanLink t (aimed_at swinging h) swinging.linked b = still_links v t s.flight aims b aimed s.can in
         let at : place ≡ own_place s.flight = s.at in

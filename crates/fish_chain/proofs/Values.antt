@@ -10,7 +10,7 @@ use Rattle.std.proofs.Math.Decide.{dec_lt}
 use Rattle.std.proofs.lemmas.List.{ext_get_or}
 use Rattle.std.proofs.lemmas.List.FromFn.{get_or-map-range_with_len, length-map-range_with_len}
 use Rattle.std.proofs.lemmas.Option.{get_or_from_slice_get, slice_get_read, slice_get_within}
-use Rattle.fish_chain.specs.Values.{HasValue, IsGiven, words_in}
+use Rattle.fish_chain.specs.Values.{HasValue, IsNodeGiven, record_words_at}
 use Rattle.fish_chain.specs.within.Values.{AreBytesIn, AreBytesOf, IsWordIn, SaysBytes, byte_at}
 use Rattle.fish_chain.specs.declared.walk.Node.{Node}
 use Rattle.fish_layout.proofs.Buckets.{byte_of, value_in-key}
@@ -33,7 +33,7 @@ use Rattle.fish_layout.specs.declared.parts.KeyPart.{KeyPart}
 use Rattle.fish_rule.proofs.laws.Lists.{all_among}
 use Rattle.fish_rule.proofs.laws.Regions.{region_found, word_known}
 use Rattle.fish_rule.proofs.laws.Moments.{stored_parts}
-use Rattle.fish_rule.specs.Facts.{IsFound, IsKnown}
+use Rattle.fish_rule.specs.Facts.{IsFound, IsFactKnown}
 use Rattle.fish_rule.specs.Logs.{Learns}
 use Rattle.fish_rule.specs.Rule.{Rule}
 use Rattle.fish_rule.specs.Views.{Among}
@@ -50,15 +50,15 @@ use Rattle.fish_value.specs.declared.value.Value.{Value}
 -- key entry c of a record, as its words spell it
 pub record IsEntryAt (n c : ℕ) (w : World) : Type 0 where
   pub parts : BodyParts
-  pub spells : Spells parts (words_in n w)
+  pub spells : Spells parts (record_words_at n w)
   pub key : KeyPart
   pub there : slice_get parts.keys c ≡ Some key
-  pub says : SaysKey parts (words_in n w) c key
-  pub bytes : value_in (words_in n w) c ≡ value_bytes key.value
+  pub says : SaysKey parts (record_words_at n w) c key
+  pub bytes : value_in (record_words_at n w) c ≡ value_bytes key.value
   pub proper : IsProperValue key.value
 
 -- an entry that words spell
-pub entry_spelled : (n c : ℕ) (w : World) (p : BodyParts) (key : KeyPart) → Spells p (words_in n w)
+pub entry_spelled : (n c : ℕ) (w : World) (p : BodyParts) (key : KeyPart) → Spells p (record_words_at n w)
     → slice_get p.keys c ≡ Some key → IsEntryAt n c w
 entry_spelled n c w p key spells there =
     let within = slice_get_within p.keys c key there in
@@ -146,7 +146,7 @@ says_value n c value k w within e h = record {
 }
 
 -- so it has it in every moment of a pass to which a walk gave the node
-pub value_said : (v u : View) (node : Node) (value w : Value) (code : ℕ) (bytes : List ℕ) → IsGiven v node → Learns v u
+pub value_said : (v u : View) (node : Node) (value w : Value) (code : ℕ) (bytes : List ℕ) → IsNodeGiven v node → Learns v u
     → w ≡ value → IsWithin value → code ≡ kind_code value → bytes ≡ value_bytes value
     → Always u (SaysBytes node.number node.key code bytes) → Always u (HasValue node.number node.key w)
 value_said v u node value w code bytes given learns is within code_is bytes_are says x on m r seat at =
@@ -176,11 +176,11 @@ byte_place e keys offset j =
 
 -- the bytes of the value are these where those of the record are
 pub bytes_said : (n c size : ℕ) (bytes : List ℕ) (k : Key) (w : World) (keys offset : ℕ)
-    → keys ≡ keys_of (words_in n w 0) → offset ≡ value_offset (words_in n w (entry_at c + 2))
-    → value_size (words_in n w (entry_at c + 2)) ≡ length bytes
-    → AreBytesIn n (24 * keys + 8 + offset) bytes (length bytes) k w → value_in (words_in n w) c ≡ bytes
+    → keys ≡ keys_of (record_words_at n w 0) → offset ≡ value_offset (record_words_at n w (entry_at c + 2))
+    → value_size (record_words_at n w (entry_at c + 2)) ≡ length bytes
+    → AreBytesIn n (24 * keys + 8 + offset) bytes (length bytes) k w → value_in (record_words_at n w) c ≡ bytes
 bytes_said n c size bytes k w keys offset keys_is offset_is size_is are =
-    let e : ℕ → ℕ = words_in n w in
+    let e : ℕ → ℕ = record_words_at n w in
     let byte = λ (j : ℕ). byte_behind e (entry_at (keys_of (e 0))) (value_offset (e (entry_at c + 2)) + j) in
     let count = length-map-range_with_len byte 0 (value_size (e (entry_at c + 2))) in
     ext_get_or 0 (value_in e c) bytes (count ∙ size_is) (λ j within.
@@ -192,10 +192,10 @@ bytes_said n c size bytes k w keys offset keys_is offset_is size_is are =
 
 -- and the other way round
 pub said_bytes : (n c size : ℕ) (bytes : List ℕ) (k : Key) (w : World) (keys offset : ℕ)
-    → keys ≡ keys_of (words_in n w 0) → offset ≡ value_offset (words_in n w (entry_at c + 2))
-    → value_in (words_in n w) c ≡ bytes → AreBytesIn n (24 * keys + 8 + offset) bytes (length bytes) k w
+    → keys ≡ keys_of (record_words_at n w 0) → offset ≡ value_offset (record_words_at n w (entry_at c + 2))
+    → value_in (record_words_at n w) c ≡ bytes → AreBytesIn n (24 * keys + 8 + offset) bytes (length bytes) k w
 said_bytes n c size bytes k w keys offset keys_is offset_is is j within =
-    let e : ℕ → ℕ = words_in n w in
+    let e : ℕ → ℕ = record_words_at n w in
     let byte = λ (i : ℕ). byte_behind e (entry_at (keys_of (e 0))) (value_offset (e (entry_at c + 2)) + i) in
     let count = length-map-range_with_len byte 0 (value_size (e (entry_at c + 2))) in
     let same = ap length is in
@@ -205,10 +205,10 @@ said_bytes n c size bytes k w keys offset keys_is offset_is is j within =
     ∙ ap (λ (z : List ℕ). get_or z j 0) is
 
 -- the size that the words say is that of the bytes
-pub said_size : (n c : ℕ) (bytes : List ℕ) (w : World) → value_in (words_in n w) c ≡ bytes
-    → value_size (words_in n w (entry_at c + 2)) ≡ length bytes
+pub said_size : (n c : ℕ) (bytes : List ℕ) (w : World) → value_in (record_words_at n w) c ≡ bytes
+    → value_size (record_words_at n w (entry_at c + 2)) ≡ length bytes
 said_size n c bytes w is =
-    let e : ℕ → ℕ = words_in n w in
+    let e : ℕ → ℕ = record_words_at n w in
     let byte = λ (i : ℕ). byte_behind e (entry_at (keys_of (e 0))) (value_offset (e (entry_at c + 2)) + i) in
     sym (length-map-range_with_len byte 0 (value_size (e (entry_at c + 2)))) ∙ ap length is
 
@@ -222,7 +222,7 @@ word_read v f i x among words less known u learns w r seat at =
     let k : Key = u.about in
     let found = all_among (IsFound k w.count w.dir r.start) f u.learned.found (r.facts seat u at).found (learns.found f among) in
     let stands = word_known r f i x found less
-    (all_among (IsKnown k w.count w.dir w.log r.start) _ u.learned.known (r.facts seat u at).known (learns.known _ known)) in
+    (all_among (IsFactKnown k w.count w.dir w.log r.start) _ u.learned.known (r.facts seat u at).known (learns.known _ known)) in
     let line : low (w.dir f.number) ≡ r.start f.number = (region_found r f found).0.line in
     ap (λ (z : ℕ). body w.log z i) line ∙ stands
 
@@ -234,11 +234,11 @@ pub bytes_more : (n first : ℕ) (bytes : List ℕ) (done end word : ℕ) (k : K
     → IsWordIn n ((first + done) / 8) word k w → AreBytesOf word first bytes done end → AreBytesIn n first bytes end k w
 bytes_more n first bytes done end word k w within before there are j less = pick (dec_lt j done)
   where
-    pick : Dec (j < done) → byte_at (words_in n w) (first + j) ≡ get_or bytes j 0
+    pick : Dec (j < done) → byte_at (record_words_at n w) (first + j) ≡ get_or bytes j 0
     pick (yes h) = before j h
     pick (no h) =
         let same : (first + j) / 8 ≡ (first + done) / 8 = omega arith in
-        ap (λ (z : ℕ). z / 256 ^ ((first + j) % 8) % 256) (ap (words_in n w) same ∙ there)
+        ap (λ (z : ℕ). z / 256 ^ ((first + j) % 8) % 256) (ap (record_words_at n w) same ∙ there)
         ∙ sym (byte_of word ((first + j) % 8) (omega arith)) ∙ are j (omega arith) less
 
 -- and if a byte of the word is another, they are not
@@ -248,4 +248,4 @@ pub bytes_none : (n first : ℕ) (bytes : List ℕ) (done end size word : ℕ) (
 bytes_none n first bytes done end size word k w within upto there other are = other (λ j from less.
     let same : (first + j) / 8 ≡ (first + done) / 8 = omega arith in
     byte_of word ((first + j) % 8) (omega arith)
-    ∙ sym (ap (λ (z : ℕ). z / 256 ^ ((first + j) % 8) % 256) (ap (words_in n w) same ∙ there)) ∙ are j (omega arith))
+    ∙ sym (ap (λ (z : ℕ). z / 256 ^ ((first + j) % 8) % 256) (ap (record_words_at n w) same ∙ there)) ∙ are j (omega arith))

@@ -14,20 +14,20 @@ use Rattle.fish_rule.specs.declared.view.View.{View}
 use Rattle.fish_value.specs.declared.value.Value.{Value}
 
 -- the words of the record with number n, its previous nodes put to 0
-abbrev pub words_in : ℕ → World → ℕ → ℕ
-words_in n w = body w.log (low (w.dir n))
+abbrev pub record_words_at : ℕ → World → ℕ → ℕ
+record_words_at n w = body w.log (low (w.dir n))
 
 -- key entry c of the record with number n has this value
 pub record HasValue (n c : ℕ) (value : Value) (k : Key) (w : World) : Type 0 where
   pub parts : BodyParts
-  pub spells : Spells parts (words_in n w)
+  pub spells : Spells parts (record_words_at n w)
   pub key : KeyPart
   pub there : slice_get parts.keys c ≡ Some key
   pub is : key.value ≡ value
 
 -- a walk gave the node: in every moment of a pass that knows as much it is an entry of its record
-abbrev pub IsGiven : View → Node → Type 0
-IsGiven v node = (bucket : ℕ) × Always v (IsNodeIn bucket node.number node.key node.place node.id)
+abbrev pub IsNodeGiven : View → Node → Type 0
+IsNodeGiven v node = (bucket : ℕ) × Always v (IsNodeIn bucket node.number node.key node.place node.id)
 
 -- the pass found the region of the record with number n
 abbrev pub HasRecord : View → ℕ → Type 0

@@ -12,20 +12,21 @@ use Rattle.fish_rule.specs.declared.view.Label.{Label}
 use Rattle.fish_rule.specs.declared.view.View.{View}
 
 -- the place is none of the table's
-abbrev pub IsPast : View → ℕ → Type 0
-IsPast v place = place ≤ v.about.line * 4
+abbrev pub IsPastPlace : View → ℕ → Type 0
+IsPastPlace v place = place ≤ v.about.line * 4
 
 -- nothing of the table is left at the place where a walk goes on: it is the head that the bucket had at the start,
 -- unless the walk stopped before, since its range begins after the base
-pub record IsRest (v : View) (bucket from place : ℕ) : Type 0 where
-  pub past : IsPast v place
+pub record IsWalkRest (v : View) (bucket from place : ℕ) : Type 0 where
+  pub past : IsPastPlace v place
   pub first : from ≤ v.about.number → place ≡ first_head v.about bucket
 
 -- a walk over settled numbers stands at an entry of its bucket, or where nothing of the table is left, and no entry of
 -- its range lies between what it gave and where it stands
 pub record IsWalking (v : View) (walk : Walk) : Type 0 where
   pub settled : walk.to ≤ v.learned.settled
-  pub at : IsRest v walk.bucket walk.from walk.place ⊎ (HasNode v walk.bucket walk.place × (walk.place < walk.given))
+  pub at : IsWalkRest v walk.bucket walk.from walk.place
+      ⊎ (HasNode v walk.bucket walk.place × (walk.place < walk.given))
   pub clear : Always v (IsClear walk.bucket walk.from walk.to walk.given walk.place)
 
 -- the walk has this bucket and range
@@ -35,7 +36,7 @@ pub record HasRange (walk : Walk) (bucket from to : ℕ) : Type 0 where
   pub to_is : walk.to ≡ to
 
 -- the walk is of this bucket and range, and every entry of the range is still to be given
-pub record HasBegun (v : View) (walk : Walk) (bucket from to : ℕ) : Type 0 where
+pub record HasBegunWalk (v : View) (walk : Walk) (bucket from to : ℕ) : Type 0 where
   pub range : HasRange walk bucket from to
   pub walking : IsWalking v walk
   pub ahead : Always v (λ k w. (n c p : ℕ) → from ≤ n → n < to → IsEntryIn bucket n c p k w → p < walk.given)
@@ -86,6 +87,6 @@ pub record IsBounded (v u : View) (walk : Walk) (to : ℕ) (given : Option Node)
 
 -- what a walk gave: its next entry, which it then has given, or none where no entry of its range is left, and the
 -- walk is past the table
-abbrev pub Gave : View → Walk → Walk → Option Node → Type 0
-Gave v walk walk' None = Always v (IsClear walk.bucket walk.from walk.to walk.given 0) × IsPast v walk'.place
-Gave v walk walk' (Some node) = IsNextNode v walk node × (walk'.given ≡ node.place)
+abbrev pub GaveNode : View → Walk → Walk → Option Node → Type 0
+GaveNode v walk walk' None = Always v (IsClear walk.bucket walk.from walk.to walk.given 0) × IsPastPlace v walk'.place
+GaveNode v walk walk' (Some node) = IsNextNode v walk node × (walk'.given ≡ node.place)

@@ -1,7 +1,7 @@
 //! The value of a key entry, compared with one that is asked for by the stored words alone.
 
 ghost use Rattle.std.specs.Prelude.{◌≡◌, ◌↔◌, ◌+◌, ◌*◌, ◌<◌, ◌≤◌, ◌^◌, ℕ, IsTrue, length};
-ghost use Rattle.fish_chain.specs.Values.{HasRecord, HasValue, IsGiven};
+ghost use Rattle.fish_chain.specs.Values.{HasRecord, HasValue, IsNodeGiven};
 ghost use Rattle.fish_chain.specs.within.Values.{AreBytesIn, AreBytesOf, HasBytes};
 ghost use Rattle.fish_chain.specs.within.Values.{IsWordIn, SaysBytes};
 ghost use Rattle.fish_rule.specs.Logs.{Extends};
@@ -29,7 +29,7 @@ pub fn node_has<L: Ledger>(
 ) -> bool
     requires pass { IsPassOf log.now pass.old }
     requires counted { node.now.number < (view pass.old).learned.count }
-    requires node { IsGiven (view pass.old) node.now }
+    requires node { IsNodeGiven (view pass.old) node.now }
     ensures pass { IsPassOf log.now pass.new }
     ensures extends { Extends (view pass.old) (view pass.new) }
     ensures has { IsTrue result → HasRecord (view pass.new) node.now.number
@@ -61,7 +61,7 @@ fn has_bytes<L: Ledger>(
 ) -> bool
     requires pass { IsPassOf log.now pass.old }
     requires counted { node.now.number < (view pass.old).learned.count }
-    requires node { IsGiven (view pass.old) node.now }
+    requires node { IsNodeGiven (view pass.old) node.now }
     ensures pass { IsPassOf log.now pass.new }
     ensures extends { Extends (view pass.old) (view pass.new) }
     ensures has { IsTrue result → HasRecord (view pass.new) node.now.number

@@ -4,9 +4,10 @@
 //! none, whatever is linked meanwhile. It reads the first and the second word of an entry and no other.
 
 ghost use Rattle.std.specs.Prelude.{◌≡◌, ◌+◌, ◌<◌, ◌≤◌};
-ghost use Rattle.fish_chain.specs.Walks.{Gave, HasBegun, HasRange, IsBounded, IsNumbered, IsPast, IsWalking};
+ghost use Rattle.fish_chain.specs.Walks.{GaveNode, HasBegunWalk, HasRange, IsBounded, IsNumbered, IsPastPlace};
+ghost use Rattle.fish_chain.specs.Walks.{IsWalking};
 ghost use Rattle.fish_chain.specs.within.Walks.{LeadsTo};
-ghost use Rattle.fish_rule.specs.Parts.{IsOlder, first_head};
+ghost use Rattle.fish_rule.specs.Parts.{IsOlderPlace, first_head};
 ghost use Rattle.fish_rule.specs.ChainSteps.{CanLoadHead, HasNode};
 ghost use Rattle.fish_rule.specs.Logs.{Extends};
 ghost use Rattle.fish_rule.specs.Passes.{IsPassOf, view, walk_of};
@@ -44,7 +45,7 @@ pub fn walk_start<L: Ledger>(
     requires settled { to ≤ (view pass.old).learned.settled }
     ensures pass { IsPassOf log.now pass.new }
     ensures extends { Extends (view pass.old) (view pass.new) }
-    ensures begun { HasBegun (view pass.new) (walk_of pass.new) bucket from to }
+    ensures begun { HasBegunWalk (view pass.new) (walk_of pass.new) bucket from to }
     ensures loads { loads.new ≡ loads.old + 1 }
     ensures counted { (view pass.new).clock.loads ≡ (view pass.old).clock.loads + 1 }
 {
@@ -69,7 +70,7 @@ pub fn walk_next<L: Ledger>(log: &Log, pass: &mut Pass, loads: &mut Steps<L>) ->
     ensures extends { Extends (view pass.old) (view pass.new) }
     ensures walking { IsWalking (view pass.new) (walk_of pass.new) }
     ensures range { let walk = walk_of pass.old in HasRange (walk_of pass.new) walk.bucket walk.from walk.to }
-    ensures gave { Gave (view pass.new) (walk_of pass.old) (walk_of pass.new) result }
+    ensures gave { GaveNode (view pass.new) (walk_of pass.old) (walk_of pass.new) result }
     ensures counted { loads.new + (view pass.old).clock.loads ≡ loads.old + (view pass.new).clock.loads }
     ensures few { IsBounded (view pass.old) (view pass.new) (walk_of pass.old) (walk_of pass.new).place result }
 {
@@ -101,11 +102,11 @@ pub fn walk_next<L: Ledger>(log: &Log, pass: &mut Pass, loads: &mut Steps<L>) ->
 pub fn walk_rest(log: &Log, pass: &mut Pass) -> u64
     requires pass { IsPassOf log.now pass.old }
     requires walking { IsWalking (view pass.old) (walk_of pass.old) }
-    requires past { IsPast (view pass.old) (walk_of pass.old).place }
+    requires past { IsPastPlace (view pass.old) (walk_of pass.old).place }
     requires from { (walk_of pass.old).from ≤ log.now.key.number }
     ensures kept { pass.new ≡ pass.old }
     ensures rest { result ≡ first_head log.now.key (walk_of pass.old).bucket }
-    ensures older { IsOlder log.now.key.line result }
+    ensures older { IsOlderPlace log.now.key.line result }
 {
     kept_walk(pass).place
 }

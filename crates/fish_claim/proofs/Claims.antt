@@ -11,7 +11,7 @@ use Rattle.fish_rule.specs.Registry.{KnowsActive}
 use Rattle.fish_rule.specs.SpaceSteps.{CanClaimLines, CanPublishRegion, CanStoreWord, IsReady, after_claim_lines}
 use Rattle.fish_rule.specs.SpaceSteps.{after_publish_region, after_store_word}
 use Rattle.fish_rule.specs.SpaceSteps.{flight_at, shut_after, with_word}
-use Rattle.fish_rule.specs.Table.{Stands}
+use Rattle.fish_rule.specs.Table.{IsOfMoment}
 use Rattle.fish_rule.specs.World.{slots}
 use Rattle.fish_rule.specs.declared.table.Log.{Log}
 use Rattle.fish_rule.specs.declared.table.Pass.{Pass}
@@ -28,7 +28,7 @@ module _ (v u : View) (lines n a : ℕ) (is : u ≡ after_claim_lines v lines n 
   claimed_flight = ap (λ (z : View). z.flight) is
 
   -- so it is within the table
-  pub claimed_law : (k : Key) → u.about ≡ k → Stands u → FlightLaw k (flight_at n a lines)
+  pub claimed_law : (k : Key) → u.about ≡ k → IsOfMoment u → FlightLaw k (flight_at n a lines)
   claimed_law k about s = flight_law k u (flight_at n a lines) about s claimed_flight
 
   -- the region's kind is that of the log's end before the claim

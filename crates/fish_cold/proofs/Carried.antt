@@ -13,7 +13,7 @@ use Rattle.fish_slots.specs.Slots.{line_count}
 use Rattle.fish_cold.specs.Carries.{CarriesTable, IsCarried, IsEntryAnswer, IsEntryOf, IsEntryRead, IsPriorRecord}
 use Rattle.fish_catalog.specs.declared.entry.Entry.{Entry}
 use Rattle.fish_catalog.specs.declared.entry.Entry.TheVariants.{Stored}
-use Rattle.fish_cold.specs.Answers.{Answers, IsRecordHead, LoadsWords, Walks}
+use Rattle.fish_cold.specs.Answers.{AnswersEntry, IsRecordHead, LoadsWords, Walks}
 use Rattle.fish_cold.specs.Cached.{HasNodeOn, HasRegion, IsReadFrom, words_on}
 use Rattle.fish_cold.specs.declared.node.ColdNode.{ColdNode}
 use Rattle.fish_cold.proofs.ChainLemmas.{key_lower}
@@ -138,7 +138,7 @@ record_there content k cold h n p stored =
 
 -- what is answered for the words of an entry is the entry
 pub answered_entry : (number : ℕ) (rest : List ℕ) (entry : Entry) (result : Result Entry ColdRefusal) → IsEntryOf rest entry
-    → Answers number rest result → IsEntryAnswer entry result
+    → AnswersEntry number rest result → IsEntryAnswer entry result
 answered_entry number rest entry (Ok found) (inl void) a = a.1 void.0 ∙ sym void.1
 answered_entry number rest entry (Ok found) (inr stored) a = a.0 stored.0 stored.1 ∙ sym stored.2
 answered_entry number rest entry (Err (Damaged n)) (inl void) a = a.2 void.0
@@ -193,7 +193,7 @@ of_known o image P is h = subst (λ x. IfSome x P) is h
 pub record_carried : (content : Option (List ℕ)) (k : Key) (cold : Cold) (h : CarriesTable content k cold) (n : ℕ) → n < cold.base.number
     → (old new : ℕ) (result : Result Entry ColdRefusal)
     → IfSome content (λ c. (rest : List ℕ) → IsReadFrom c cold → HasRegion cold c n rest
-    → Answers n rest result × LoadsWords rest old new result)
+    → AnswersEntry n rest result × LoadsWords rest old new result)
     → IsEntryRead h n result
 record_carried content k cold h n less old new result says =
     let base = h.base_number in
@@ -220,7 +220,7 @@ pub row_carried : (content : Option (List ℕ)) (t : Key) (cold : Cold) (h : Car
     (p : BodyParts) (j : ℕ)
     (key : KeyPart) → IsKeyAt h.prior b place n p j key → (number old new : ℕ) (result : Result Entry ColdRefusal)
     → IfSome content (λ c. (line : ℕ) (p : BodyParts) (k : KeyPart) → IsReadFrom c cold → HasNodeOn cold c place line p j k
-    → Answers number (drop (4 * line) (words_on cold c place)) result
+    → AnswersEntry number (drop (4 * line) (words_on cold c place)) result
     × LoadsWords (drop (4 * line) (words_on cold c place)) old new result)
     → IsEntryAnswer (Stored p.lane p.form p.payload) result
 row_carried content t cold h b place n p j key at number old new result says =

@@ -7,7 +7,7 @@ use Rattle.fish_image.proofs.ByteWords.{length-words_of, words_of-take}
 use Rattle.fish_image.specs.Slot.{number}
 use Rattle.fish_image.specs.Stands.{words_in, words_of}
 use Rattle.fish_slots.specs.Offsets.{lines_at}
-use Rattle.fish_slots.specs.Slots.{lines_of}
+use Rattle.fish_slots.specs.Slots.{lines_in_slot}
 use Rattle.fish_cold.specs.Pages.{lines_below, log_words, page_size, page_words}
 
 -- words after others
@@ -39,19 +39,20 @@ part_of_log content from n i m within =
     ∙ ap (words_of m) (drop-drop (8 * i) (lines_at + 8 * from) content ∙ ap (λ k. drop k content) place)
 
 -- the words of lines are those of the file
-pub lines_words : (image : List ℕ) (m : ℕ) → words_in (lines_of m image) ≡ log_words image 0 (length (words_in (lines_of m image)))
+pub lines_words : (image : List ℕ) (m : ℕ) → words_in (lines_in_slot m image)
+    ≡ log_words image 0 (length (words_in (lines_in_slot m image)))
 lines_words image m =
-    let bytes = lines_of m image in
+    let bytes = lines_in_slot m image in
     let size = length-words_of (length bytes / 8) bytes in
     let cut = length-take (32 * m) (drop lines_at image) in
     words_of-take (length bytes / 8) (32 * m) (drop lines_at image) (omega arith)
     ∙ ap (λ n. words_of n (drop lines_at image)) (sym size)
 
 -- and the file has all of them
-pub lines_room : (image : List ℕ) (m : ℕ) → 0 < length (words_in (lines_of m image))
-    → lines_at + 8 * length (words_in (lines_of m image)) ≤ length image
+pub lines_room : (image : List ℕ) (m : ℕ) → 0 < length (words_in (lines_in_slot m image))
+    → lines_at + 8 * length (words_in (lines_in_slot m image)) ≤ length image
 lines_room image m some =
-    let bytes = lines_of m image in
+    let bytes = lines_in_slot m image in
     let size = length-words_of (length bytes / 8) bytes in
     let cut = length-take (32 * m) (drop lines_at image) in
     let behind = length-drop lines_at image in

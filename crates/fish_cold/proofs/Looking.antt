@@ -12,7 +12,7 @@ use Rattle.lru.proofs.CallerLemmas.{Contains-lookup, Contains-put_entries}
 use Rattle.fish_disk.specs.declared.disk.Disk.{Ghosts as Disks}
 use Rattle.fish_layout.specs.Pages.{page_of}
 use Rattle.fish_cold.specs.within.Answers.{IsReadingOf}
-use Rattle.fish_cold.specs.Cached.{IsReadFrom, Looks, Uses, base_page, held_in}
+use Rattle.fish_cold.specs.Cached.{IsReadFrom, LooksAtPage, Uses, base_page, held_in}
 use Rattle.fish_cold.specs.within.Cached.{Answered, Brings}
 use Rattle.fish_cold.specs.Caching.{IsPageIn}
 use Rattle.fish_cold.specs.declared.cold.Cold.{Cold}
@@ -189,7 +189,7 @@ module _
   pub looks_answered : (fresh : Option Page) (n : ℕ) (read result : Result T ColdRefusal) (page : Page)
       → Brings disks number old disk next (Ok fresh) → number ≤ base_page old
       → IfErr read (IsReadingOf n) → Some page ≡ option_or fresh (held_in old number) → Answered number fresh old new read result
-      → Looks disks number old new disk next result
+      → LooksAtPage disks number old new disk next result
   looks_answered fresh n read (Ok x) page b low whole is a = record {
     used = (
       page,

@@ -20,9 +20,9 @@ use Rattle.fish_layout.specs.declared.parts.KeyPart.{KeyPart}
 use Rattle.fish_layout.proofs.Spelled.{body_says}
 use Rattle.std.proofs.lemmas.Bool.{cases_lt}
 use Rattle.fish_cold.proofs.Appended.{at_end, stays}
-use Rattle.fish_cold.specs.Answers.{HasNode, IsRecordHead, IsVoidHead}
+use Rattle.fish_cold.specs.Answers.{HasNodeAt, IsRecordHead, IsVoidHead}
 use Rattle.fish_cold.specs.Regions.{Leads}
-use Rattle.fish_cold.specs.within.Regions.{IsWhole}
+use Rattle.fish_cold.specs.within.Regions.{IsRegionWhole}
 
 -- a record's header says its lines, and they are within the words
 pub record SaysRecord (p : BodyParts) (rest : List ℕ) : Type 0 where
@@ -74,9 +74,9 @@ leads_within words first (suc k) line h = h.4
 pub record HasRoom (words : List ℕ) (i line : ℕ) : Type 0 where
   pub within : i + 2 < length words
   pub some : 0 < length (drop (4 * line) words)
-  pub whole : IsWhole (drop (4 * line) words)
+  pub whole : IsRegionWhole (drop (4 * line) words)
 
-pub node_room : (words : List ℕ) (i line : ℕ) (p : BodyParts) (j : ℕ) (k : KeyPart) → HasNode words i line p j k → HasRoom words i line
+pub node_room : (words : List ℕ) (i line : ℕ) (p : BodyParts) (j : ℕ) (k : KeyPart) → HasNodeAt words i line p j k → HasRoom words i line
 node_room words i line p j k h =
     let rest = drop (4 * line) words in
     let says = says_record p rest h.body in
@@ -100,7 +100,7 @@ pub record SaysNode (words : List ℕ) (i : ℕ) (p : BodyParts) (j : ℕ) (k : 
   pub place : entry_place (get_or words (i + 1) 0) ≡ j
   pub size : value_size (get_or words (i + 2) 0) ≤ 256
 
-pub node_says : (words : List ℕ) (i line : ℕ) (p : BodyParts) (j : ℕ) (k : KeyPart) → HasNode words i line p j k → SaysNode words i p j k
+pub node_says : (words : List ℕ) (i line : ℕ) (p : BodyParts) (j : ℕ) (k : KeyPart) → HasNodeAt words i line p j k → SaysNode words i p j k
 node_says words i line p j k h =
     let rest = drop (4 * line) words in
     let record_says = says_record p rest h.body in

@@ -24,13 +24,13 @@ IsRecordHead p rest = IsBody p (region rest)
 
 -- how words that begin with a region are answered: by the record that they are, by a void where they are one, and as
 -- damaged only where they are neither
-abbrev pub Answers : ℕ → List ℕ → Result Entry ColdRefusal → Type 0
-Answers number rest (Ok entry) = ((p : BodyParts) → IsRecordHead p rest → entry ≡ Stored p.lane p.form p.payload)
+abbrev pub AnswersEntry : ℕ → List ℕ → Result Entry ColdRefusal → Type 0
+AnswersEntry number rest (Ok entry) = ((p : BodyParts) → IsRecordHead p rest → entry ≡ Stored p.lane p.form p.payload)
     × (IsVoidHead rest → entry ≡ Void)
-Answers number rest (Err (Damaged n)) = (n ≡ number) × ((p : BodyParts) → IsRecordHead p rest → ⊥)
+AnswersEntry number rest (Err (Damaged n)) = (n ≡ number) × ((p : BodyParts) → IsRecordHead p rest → ⊥)
     × (IsVoidHead rest → ⊥)
-Answers number rest (Err DiskFault) = ⊤
-Answers number rest (Err OutOfMemory) = ⊤
+AnswersEntry number rest (Err DiskFault) = ⊤
+AnswersEntry number rest (Err OutOfMemory) = ⊤
 
 -- a record takes one load for each of its words at most, and a void none
 abbrev pub LoadsWords : List ℕ → ℕ → ℕ → Result Entry ColdRefusal → Type 0
@@ -45,7 +45,7 @@ IsDamageOf number DiskFault = ⊤
 IsDamageOf number OutOfMemory = ⊤
 
 -- entry j of the record of the region at a line of these words is this key entry, at place i of them
-pub record HasNode (words : List ℕ) (i line : ℕ) (p : BodyParts) (j : ℕ) (k : KeyPart) : Type 0 where
+pub record HasNodeAt (words : List ℕ) (i line : ℕ) (p : BodyParts) (j : ℕ) (k : KeyPart) : Type 0 where
   pub body : IsRecordHead p (drop (4 * line) words)
   pub at : i ≡ 4 * line + entry_at j
   pub within : j < length p.keys

@@ -8,7 +8,7 @@ use Rattle.fish_disk.specs.declared.disk.Disk.{Ghosts as Disks}
 use Rattle.fish_layout.specs.Pages.{page_of}
 use Rattle.fish_layout.specs.declared.parts.BodyParts.{BodyParts}
 use Rattle.fish_layout.specs.declared.parts.KeyPart.{KeyPart}
-use Rattle.fish_cold.specs.Answers.{HasNode}
+use Rattle.fish_cold.specs.Answers.{HasNodeAt}
 use Rattle.fish_cold.specs.Caching.{HasDiskCause, IsPageIn, OnlyReads}
 use Rattle.fish_cold.specs.Pages.{page_words}
 use Rattle.fish_cold.specs.Regions.{Leads}
@@ -27,8 +27,8 @@ abbrev pub held_in : Cold → ℕ → Option Page
 held_in cold page = if nat_eq page (base_page cold) then cold.tail else lookup (nat_eq page) cold.cache.entries
 
 -- the page is held
-abbrev pub Holds : Cold → ℕ → Type 0
-Holds cold page = (p : Page) × (held_in cold page ≡ Some p)
+abbrev pub HoldsPage : Cold → ℕ → Type 0
+HoldsPage cold page = (p : Page) × (held_in cold page ≡ Some p)
 
 -- each page that is held is what a file of this content reads
 pub record IsReadFrom (content : List ℕ) (cold : Cold) : Type 0 where
@@ -54,11 +54,11 @@ IsHeld cold number page = (p : Page) → held_in cold number ≡ Some p → page
 
 -- a record was looked at on a page: the page was used, and the disk isn't touched where it was held before; where
 -- nothing is answered nothing changed
-pub record Looks {D T : Type 0} (disks : Disks D) (number : ℕ) (old new : Cold) (disk next : D)
+pub record LooksAtPage {D T : Type 0} (disks : Disks D) (number : ℕ) (old new : Cold) (disk next : D)
     (result : Result T ColdRefusal) : Type 0 where
   pub used : OnOk result ((page : Page) × IsHeld old number page × Uses number page old new)
   pub refused : OnErr result (new ≡ old)
-  pub cached : Holds old number → (next ≡ disk) × ¬ IsErrOf result DiskFault
+  pub cached : HoldsPage old number → (next ≡ disk) × ¬ IsErrOf result DiskFault
   pub kept : IfSome (disks.content next) (λ c. IsReadFrom c old → IsReadFrom c new)
   pub outside : OnlyReads disks disk next
   pub cause : HasDiskCause (disks.faults disk) (disks.faults next) result
@@ -81,7 +81,7 @@ words_on cold content place = page_words cold.base.line (place / 131072) content
 
 -- entry j of the record of the region at a line of its page is at the place
 abbrev pub HasNodeOn : Cold → List ℕ → ℕ → ℕ → BodyParts → ℕ → KeyPart → Type 0
-HasNodeOn cold content place line p j k = HasNode (words_on cold content place) (place % 131072) line p j k
+HasNodeOn cold content place line p j k = HasNodeAt (words_on cold content place) (place % 131072) line p j k
 
 -- the words of a page below the base from the region of a number on
 pub record HasRegion (cold : Cold) (content : List ℕ) (number : ℕ) (rest : List ℕ) : Type 0 where

@@ -46,11 +46,11 @@ impl Cold {
     ghost use Rattle.fish_rule.specs.declared.view.Key.{Key as TableKey};
     ghost use Rattle.fish_layout.specs.declared.parts.BodyParts.{BodyParts};
     ghost use Rattle.fish_layout.specs.declared.parts.KeyPart.{KeyPart as Key};
-    ghost use Rattle.fish_cold.specs.Answers.{Answers, EndsWalk, IsDamageOf, IsLinkable, LoadsWords, Walks};
+    ghost use Rattle.fish_cold.specs.Answers.{AnswersEntry, EndsWalk, IsDamageOf, IsLinkable, LoadsWords, Walks};
     ghost use Rattle.fish_cold.specs.Carries.{CarriesTable, IsEntryAnswer, IsEntryRead};
     ghost use Rattle.fish_cold.specs.Chains.{IsKeyAt};
     ghost use Rattle.fish_cold.specs.Regions.{Leads};
-    ghost use Rattle.fish_cold.specs.Cached.{HasNodeOn, HasRegion, Holds, IsReadFrom, Looks};
+    ghost use Rattle.fish_cold.specs.Cached.{HasNodeOn, HasRegion, HoldsPage, IsReadFrom, LooksAtPage};
     ghost use Rattle.fish_cold.specs.within.Cached.{Answered, Brings};
     ghost use Rattle.fish_cold.specs.Cached.{ReadsAtMost, Uses, held_in, words_on};
     ghost use Rattle.fish_cold.specs.Pages.{page_words};
@@ -112,11 +112,11 @@ impl Cold {
     ) -> Result<Entry, ColdRefusal>
         requires older { number < self.old.base.number }
         ensures entry { IfSome (D.content disk.new) (λ c. (rest : List ℕ) → IsReadFrom c self.old → HasRegion self.old c
-            number rest → Answers number rest result × LoadsWords rest loads.old loads.new result) }
+            number rest → AnswersEntry number rest result × LoadsWords rest loads.old loads.new result) }
         ensures carried { (k : TableKey) (h : CarriesTable (D.content disk.new) k self.old) → IsEntryRead h number
             result }
         ensures looks { (start : Start) → IsStartOf self.old.starts number start → start.line < self.old.base.line
-            → Looks D.Disk (page_of start.line) self.old self.new disk.old disk.new result }
+            → LooksAtPage D.Disk (page_of start.line) self.old self.new disk.old disk.new result }
         ensures reads { ReadsAtMost D.Disk self.old self.new disk.old disk.new result }
 
         ensures damage { IfErr result (IsDamageOf number) }
@@ -132,9 +132,9 @@ impl Cold {
         loads: &mut Steps<L>,
     ) -> Result<Entry, ColdRefusal>
         ensures entry { IfSome (D.content disk.new) (λ c. (rest : List ℕ) → IsReadFrom c self.old → HasRegion self.old c
-            number rest → Answers number rest result × LoadsWords rest loads.old loads.new result) }
+            number rest → AnswersEntry number rest result × LoadsWords rest loads.old loads.new result) }
         ensures looks { (start : Start) → IsStartOf self.old.starts number start → start.line < self.old.base.line
-            → Looks D.Disk (page_of start.line) self.old self.new disk.old disk.new result }
+            → LooksAtPage D.Disk (page_of start.line) self.old self.new disk.old disk.new result }
         ensures reads { ReadsAtMost D.Disk self.old self.new disk.old disk.new result }
         ensures damage { IfErr result (IsDamageOf number) }
     {
@@ -169,9 +169,9 @@ impl Cold {
         requires within { page ≤ page_of self.old.base.line }
         ensures entry { IfSome (D.content disk.new) (λ c. (start : Start) (line : ℕ) → IsReadFrom c self.old → IsStartIn
             self.old.starts page start → Leads (page_words self.old.base.line page c) (start.line % 32768) at line
-            → Answers number (drop (4 * line) (page_words self.old.base.line page c)) result
+            → AnswersEntry number (drop (4 * line) (page_words self.old.base.line page c)) result
             × LoadsWords (drop (4 * line) (page_words self.old.base.line page c)) loads.old loads.new result) }
-        ensures looks { Looks D.Disk page self.old self.new disk.old disk.new result }
+        ensures looks { LooksAtPage D.Disk page self.old self.new disk.old disk.new result }
         ensures damage { IfErr result (IsDamageOf number) }
     {
         match self.bring(disk, page) {
@@ -203,7 +203,7 @@ impl Cold {
         ensures carried { (t : TableKey) (h : CarriesTable (D.content disk.new) t self.old) (b n : ℕ) (p : BodyParts)
             (j : ℕ) (k : Key) → IsKeyAt h.prior b place n p j k → n < below → Walks place from p j k result }
         ensures linkable { IfOk result (λ o. IfSome o (IsLinkable place below from)) }
-        ensures looks { place ≢ 0 → Looks D.Disk (place / 131072) self.old self.new disk.old disk.new result }
+        ensures looks { place ≢ 0 → LooksAtPage D.Disk (place / 131072) self.old self.new disk.old disk.new result }
         ensures nowhere { place ≡ 0 → (result ≡ Ok None) × (self.new ≡ self.old) × (disk.new ≡ disk.old) }
         ensures reads { ReadsAtMost D.Disk self.old self.new disk.old disk.new result }
         ensures loads { loads.new ≤ loads.old + 38 }
@@ -231,7 +231,7 @@ impl Cold {
         ensures ends { IfSome (D.content disk.new) (λ c. IsReadFrom c self.old
             → EndsWalk (words_on self.old c asked.place) (asked.place % 131072) asked.from result) }
         ensures linkable { IfOk result (λ o. IfSome o (IsLinkable asked.place asked.below asked.from)) }
-        ensures looks { Looks D.Disk (asked.place / 131072) self.old self.new disk.old disk.new result }
+        ensures looks { LooksAtPage D.Disk (asked.place / 131072) self.old self.new disk.old disk.new result }
         ensures loads { loads.new ≤ loads.old + 38 }
         ensures none { IfOk result (λ o. o ≡ None → loads.new ≤ loads.old + 1) }
         ensures damage { IfErr result (IsDamageOf asked.below) }
@@ -258,12 +258,12 @@ impl Cold {
         requires lower { node.now.place < 4 * self.old.base.line }
         ensures entry { IfSome (D.content disk.new) (λ c. (line : ℕ) (p : BodyParts) (k : Key) → IsReadFrom c self.old
             → HasNodeOn self.old c node.now.place line p node.now.key k
-            → Answers node.now.number (drop (4 * line) (words_on self.old c node.now.place)) result
+            → AnswersEntry node.now.number (drop (4 * line) (words_on self.old c node.now.place)) result
             × LoadsWords (drop (4 * line) (words_on self.old c node.now.place)) loads.old loads.new result) }
         ensures carried { (t : TableKey) (h : CarriesTable (D.content disk.new) t self.old) (b n : ℕ) (p : BodyParts)
             (k : Key) → IsKeyAt h.prior b node.now.place n p node.now.key k
             → IsEntryAnswer (Stored p.lane p.form p.payload) result }
-        ensures looks { Looks D.Disk (node.now.place / 131072) self.old self.new disk.old disk.new result }
+        ensures looks { LooksAtPage D.Disk (node.now.place / 131072) self.old self.new disk.old disk.new result }
 
         ensures damage { IfErr result (IsDamageOf node.now.number) }
     {
@@ -280,9 +280,9 @@ impl Cold {
         requires lower { node.now.place < 4 * self.old.base.line }
         ensures entry { IfSome (D.content disk.new) (λ c. (line : ℕ) (p : BodyParts) (k : Key) → IsReadFrom c self.old
             → HasNodeOn self.old c node.now.place line p node.now.key k
-            → Answers node.now.number (drop (4 * line) (words_on self.old c node.now.place)) result
+            → AnswersEntry node.now.number (drop (4 * line) (words_on self.old c node.now.place)) result
             × LoadsWords (drop (4 * line) (words_on self.old c node.now.place)) loads.old loads.new result) }
-        ensures looks { Looks D.Disk (node.now.place / 131072) self.old self.new disk.old disk.new result }
+        ensures looks { LooksAtPage D.Disk (node.now.place / 131072) self.old self.new disk.old disk.new result }
         ensures damage { IfErr result (IsDamageOf node.now.number) }
     {
         let page = node.place / PAGE_WORDS;
@@ -324,7 +324,7 @@ impl Cold {
 
     /// The page that was brought, or is held.
     fn used<'a>(&'a self, page: u64, fresh: &'a Option<Page>) -> &'a Page
-        requires { fresh.now ≡ None → Holds self.now page }
+        requires { fresh.now ≡ None → HoldsPage self.now page }
         ensures { Some result.now ≡ option_or fresh.now (held_in self.now page) }
     {
         match fresh {
@@ -343,7 +343,7 @@ impl Cold {
         fresh: Option<Page>,
         read: Result<T, ColdRefusal>,
     ) -> Result<T, ColdRefusal>
-        requires { (fresh ≡ None) ↔ Holds self.old page }
+        requires { (fresh ≡ None) ↔ HoldsPage self.old page }
         ensures { Answered page fresh self.old self.new read result }
     {
         match read {
@@ -363,7 +363,7 @@ impl Cold {
 
     /// The page becomes the first of the list, and is kept where it was brought.
     fn keep(&mut self, page: u64, fresh: Option<Page>) -> Result<(), AllocError>
-        requires { (fresh ≡ None) ↔ Holds self.old page }
+        requires { (fresh ≡ None) ↔ HoldsPage self.old page }
         ensures kept { OnOk result ((p : Page) → Some p ≡ option_or fresh (held_in self.old page) → Uses page p self.old
             self.new) }
         ensures refused { OnErr result (self.new ≡ self.old) }

@@ -3,11 +3,11 @@
 ghost use Rattle.std.specs.Prelude.{◌≡◌, ◌↔◌, ◌+◌, ◌*◌, ◌%◌, ◌^◌, ◌<◌, ◌≤◌, ℕ, None, Some};
 ghost use Rattle.std.specs.Prelude.{IfErr, IfOk, IfSome, IsSome, MatchOption, drop, length};
 ghost use Rattle.fish_catalog.specs.declared.entry.Entry.TheVariants.{Stored};
-ghost use Rattle.fish_cold.specs.within.Shown.{IsShownIn, Shows};
-ghost use Rattle.fish_cold.specs.Answers.{Answers, EndsWalk, HasNode, IsLinkable, IsOlderAt, LoadsWords, Walks};
+ghost use Rattle.fish_cold.specs.within.Shown.{IsShownIn, ShowsNode};
+ghost use Rattle.fish_cold.specs.Answers.{AnswersEntry, EndsWalk, HasNodeAt, IsLinkable, IsOlderAt, LoadsWords, Walks};
 ghost use Rattle.fish_cold.specs.within.Answers.{IsReadingOf};
 ghost use Rattle.fish_cold.specs.Regions.{AreRegions, Leads};
-ghost use Rattle.fish_cold.specs.within.Regions.{IsWhole};
+ghost use Rattle.fish_cold.specs.within.Regions.{IsRegionWhole};
 ghost use Rattle.fish_cold.specs.declared.decoding.Shown.TheVariants.{Older as OlderOne};
 ghost use Rattle.fish_image.specs.Log.{region as region_of};
 ghost use Rattle.fish_layout.specs.Cleared.{entry_at as key_at};
@@ -35,7 +35,7 @@ pub(crate) fn entry_on<L: Ledger>(
     loads: &mut Steps<L>,
 ) -> Result<Entry, ColdRefusal>
     ensures entry { (first line : ℕ) → AreRegions page.now.words.items first page.now.regions.items
-        → Leads page.now.words.items first at line → Answers number (drop (4 * line) page.now.words.items) result
+        → Leads page.now.words.items first at line → AnswersEntry number (drop (4 * line) page.now.words.items) result
         × LoadsWords (drop (4 * line) page.now.words.items) loads.old loads.new result }
     ensures damage { IfErr result (IsReadingOf number) }
 {
@@ -59,7 +59,7 @@ fn entry_in<L: Ledger>(
     loads: &mut Steps<L>,
 ) -> Result<Entry, ColdRefusal>
     ensures entry { (first line : ℕ) → AreRegions words.now first regions.now → Leads words.now first at line
-        → Answers number (drop (4 * line) words.now) result }
+        → AnswersEntry number (drop (4 * line) words.now) result }
     ensures loads { (first line : ℕ) → AreRegions words.now first regions.now → Leads words.now first at line
         → LoadsWords (drop (4 * line) words.now) loads.old loads.new result }
     ensures damage { IfErr result (IsReadingOf number) }
@@ -83,7 +83,7 @@ fn entry_at<L: Ledger>(
     loads: &mut Steps<L>,
 ) -> Result<Entry, ColdRefusal>
     requires { 0 < length rest.now }
-    ensures entry { Answers number rest.now result }
+    ensures entry { AnswersEntry number rest.now result }
     ensures loads { LoadsWords rest.now loads.old loads.new result }
     ensures damage { IfErr result (IsReadingOf number) }
 {
@@ -133,7 +133,7 @@ pub(crate) fn node_on<L: Ledger>(
     asked: Asked,
     loads: &mut Steps<L>,
 ) -> Result<Option<ColdNode>, ColdRefusal>
-    ensures node { (line : ℕ) (p : BodyParts) (j : ℕ) (k : Key) → HasNode page.now.words.items (asked.place % 131072)
+    ensures node { (line : ℕ) (p : BodyParts) (j : ℕ) (k : Key) → HasNodeAt page.now.words.items (asked.place % 131072)
         line p j k → p.number < asked.below → k.prev < asked.place → Walks asked.place asked.from p j k result }
     ensures ends { EndsWalk page.now.words.items (asked.place % 131072) asked.from result }
     ensures linkable { IfOk result (λ o. IfSome o (IsLinkable asked.place asked.below asked.from)) }
@@ -154,7 +154,7 @@ fn node_in<L: Ledger>(
     loads: &mut Steps<L>,
 ) -> Result<Option<ColdNode>, ColdRefusal>
     requires { at < 2 ^ 17 }
-    ensures node { (line : ℕ) (p : BodyParts) (j : ℕ) (k : Key) → HasNode words.now at line p j k
+    ensures node { (line : ℕ) (p : BodyParts) (j : ℕ) (k : Key) → HasNodeAt words.now at line p j k
         → p.number < asked.below → k.prev < asked.place → Walks asked.place asked.from p j k result }
     ensures ends { EndsWalk words.now at asked.from result }
     ensures linkable { IfOk result (λ o. IfSome o (IsLinkable asked.place asked.below asked.from)) }
@@ -195,8 +195,8 @@ pub(crate) enum Shown {
 /// What the second and third word of a key entry at a word of a page show.
 fn shown_at(words: &[u64], at: usize, below: u32, from: u32) -> Shown
     requires { at < 2 ^ 17 }
-    ensures shown { (line : ℕ) (p : BodyParts) (j : ℕ) (k : Key) → HasNode words.now at line p j k → p.number < below
-        → Shows from p j result }
+    ensures shown { (line : ℕ) (p : BodyParts) (j : ℕ) (k : Key) → HasNodeAt words.now at line p j k → p.number < below
+        → ShowsNode from p j result }
     ensures within { IsShownIn (length words.now) at below from result }
     ensures older { (result ≡ OlderOne) ↔ IsOlderAt words.now at from }
 {
@@ -232,7 +232,7 @@ fn shown_node(
 ) -> Result<Option<ColdNode>, ColdRefusal>
     requires room { at < length words.now }
     requires within { (asked.from ≤ number) × (number < asked.below) }
-    ensures node { (line : ℕ) (p : BodyParts) (k : Key) → HasNode words.now at line p key k → number ≡ p.number
+    ensures node { (line : ℕ) (p : BodyParts) (k : Key) → HasNodeAt words.now at line p key k → number ≡ p.number
         → k.prev < asked.place → Walks asked.place asked.from p key k result }
     ensures some { IfOk result (λ o. IsSome o) }
     ensures linkable { IfOk result (λ o. IfSome o (IsLinkable asked.place asked.below asked.from)) }
@@ -256,7 +256,7 @@ fn linked_at(
     key: u16,
 ) -> Result<Option<KeyPart>, AllocError>
     requires { at < length words.now }
-    ensures found { IfOk result (λ o. (line : ℕ) (p : BodyParts) (k : Key) → HasNode words.now at line p key k
+    ensures found { IfOk result (λ o. (line : ℕ) (p : BodyParts) (k : Key) → HasNodeAt words.now at line p key k
         → k.prev < place → o ≡ Some k) }
     ensures lower { IfOk result (λ o. IfSome o (λ k. k.prev < place)) }
 {
@@ -308,7 +308,8 @@ fn key_around(
     key: u16,
 ) -> Result<Option<KeyPart>, AllocError>
     requires { at < length words.now }
-    ensures { IfOk result (λ o. (line : ℕ) (p : BodyParts) (k : Key) → HasNode words.now at line p key k → o ≡ Some k) }
+    ensures { IfOk result (λ o. (line : ℕ) (p : BodyParts) (k : Key) → HasNodeAt words.now at line p key k
+        → o ≡ Some k) }
 {
     let Some(rest) = rest_around(words, at, key) else {
         return Ok(None);
@@ -326,8 +327,9 @@ pub(crate) fn row_on<L: Ledger>(
     node: &ColdNode,
     loads: &mut Steps<L>,
 ) -> Result<Entry, ColdRefusal>
-    ensures entry { (line : ℕ) (p : BodyParts) (k : Key) → HasNode page.now.words.items (node.now.place % 131072) line p
-        node.now.key k → Answers node.now.number (drop (4 * line) page.now.words.items) result
+    ensures entry { (line : ℕ) (p : BodyParts) (k : Key)
+        → HasNodeAt page.now.words.items (node.now.place % 131072) line p
+        node.now.key k → AnswersEntry node.now.number (drop (4 * line) page.now.words.items) result
         × LoadsWords (drop (4 * line) page.now.words.items) loads.old loads.new result }
     ensures damage { IfErr result (IsReadingOf node.now.number) }
 {
@@ -343,9 +345,9 @@ fn row_in<L: Ledger>(
     node: &ColdNode,
     loads: &mut Steps<L>,
 ) -> Result<Entry, ColdRefusal>
-    ensures entry { (line : ℕ) (p : BodyParts) (k : Key) → HasNode words.now at line p node.now.key k
-        → Answers node.now.number (drop (4 * line) words.now) result }
-    ensures loads { (line : ℕ) (p : BodyParts) (k : Key) → HasNode words.now at line p node.now.key k
+    ensures entry { (line : ℕ) (p : BodyParts) (k : Key) → HasNodeAt words.now at line p node.now.key k
+        → AnswersEntry node.now.number (drop (4 * line) words.now) result }
+    ensures loads { (line : ℕ) (p : BodyParts) (k : Key) → HasNodeAt words.now at line p node.now.key k
         → LoadsWords (drop (4 * line) words.now) loads.old loads.new result }
     ensures damage { IfErr result (IsReadingOf node.now.number) }
 {
@@ -376,7 +378,7 @@ fn rest_around(words: &[u64], at: usize, key: u16) -> Option<&[u64]>
 /// The region at the front of words, if it ends within them.
 fn region_in(rest: &[u64]) -> Option<&[u64]>
     requires { 0 < length rest.now }
-    ensures { MatchOption result (¬ IsWhole rest.now) (λ r. r.now ≡ region_of rest.now) }
+    ensures { MatchOption result (¬ IsRegionWhole rest.now) (λ r. r.now ≡ region_of rest.now) }
 {
     let count = (LINE_WORDS * lines_in(rest[0])) as usize;
     if rest.len() < count {

@@ -9,7 +9,7 @@ ghost use Rattle.fish_layout.specs.declared.parts.KeyPart.{KeyPart};
 ghost use Rattle.fish_rule.specs.declared.view.Key.{Key};
 ghost use Rattle.fish_cold.specs.Carries.{CarriesTable, IsCarried, IsEntryAnswer, IsEntryOf, IsPrior};
 ghost use Rattle.fish_cold.specs.Chains.{IsKeyAt, IsLink, Splits};
-ghost use Rattle.fish_cold.specs.Answers.{Answers};
+ghost use Rattle.fish_cold.specs.Answers.{AnswersEntry};
 ghost use Rattle.fish_cold.specs.Cached.{HasNodeOn};
 ghost use Rattle.fish_cold.specs.declared.refusal.ColdRefusal.{ColdRefusal};
 ghost use Rattle.fish_cold.specs.declared.cold.Cold.{Cold as Older};
@@ -20,7 +20,7 @@ pub fn entries_are_carried()
     ensures carried { (content : Option (List ℕ)) (k : Key) (cold : Older) (h : CarriesTable content k cold) (n : ℕ)
         → n < k.number → IsCarried cold h.image h.end n }
     ensures answered { (number : ℕ) (rest : List ℕ) (entry : Entry) (result : Result Entry ColdRefusal) → IsEntryOf rest
-        entry → Answers number rest result → IsEntryAnswer entry result }
+        entry → AnswersEntry number rest result → IsEntryAnswer entry result }
 {}
 
 /// Heads and previous nodes lead down exactly the key entries of a bucket: before the newest of those that are left

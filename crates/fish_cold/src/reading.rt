@@ -6,7 +6,7 @@ ghost use Rattle.fish_disk.specs.Content.{StillReads};
 ghost use Rattle.fish_disk.specs.Crash.{LeavesOnly};
 ghost use Rattle.fish_layout.specs.Pages.{page_of};
 ghost use Rattle.fish_cold.specs.Caching.{HasDiskCause, IsPageIn};
-ghost use Rattle.fish_cold.specs.within.Caching.{IsUndamaged};
+ghost use Rattle.fish_cold.specs.within.Caching.{IsColdUndamaged};
 ghost use Rattle.fish_cold.specs.Pages.{page_words};
 
 use crate::page::{Page, regions_of};
@@ -34,7 +34,7 @@ pub(crate) fn read_page<D: Disk>(
     ensures one { D.moment disk.new ≤ D.moment disk.old + 1 }
 
     ensures cause { HasDiskCause (D.faults disk.old) (D.faults disk.new) result }
-    ensures whole { IfErr result IsUndamaged }
+    ensures whole { IfErr result IsColdUndamaged }
 {
     let words = read_words(alloc, disk, end, page)?;
     let first = first_line(start_in(starts, page));
@@ -66,7 +66,7 @@ fn read_words<D: Disk>(
     ensures crash { LeavesOnly D.images D.since D.moment disk.old disk.new (D.images disk.old) }
     ensures one { D.moment disk.new ≤ D.moment disk.old + 1 }
     ensures cause { HasDiskCause (D.faults disk.old) (D.faults disk.new) result }
-    ensures whole { IfErr result IsUndamaged }
+    ensures whole { IfErr result IsColdUndamaged }
 {
     let lines = PAGE_LINES.min(end - PAGE_LINES * page);
     let mut bytes = zeros(alloc, (LINE_BYTES * lines) as usize)?;

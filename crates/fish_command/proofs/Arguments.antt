@@ -12,9 +12,9 @@ use Rattle.clap.specs.Simple.{Shape, filled, with_index}
 use Rattle.clap.specs.Faults.{use_fault}
 use Rattle.clap.specs.declared.parser.matches.ValueSource.TheVariants.{CommandLine}
 use Rattle.fish_command.specs.within.Matched.{bits_of, found_in, line_app, one, options_in, option_rule, options_of}
-use Rattle.fish_command.specs.within.Matched.{pages_of, plain_rule, values}
+use Rattle.fish_command.specs.within.Matched.{pages_in_word, plain_rule, values_for_id}
 use Rattle.fish_command.specs.Options.{Bits, Form, Pages, Word, choice_of, layout_of, within}
-use Rattle.fish_command.specs.within.Reading.{with_option, with_word}
+use Rattle.fish_command.specs.within.Reading.{with_option, found_with_word}
 use Rattle.fish_command.specs.Sizes.{fewest_bits, most_bits, most_pages}
 use Rattle.fish_command.proofs.Names.{same_word}
 use Rattle.clap.specs.declared.error.kind.ErrorKind.TheVariants as kind
@@ -98,31 +98,31 @@ module _ (v : Word) (rows : List Row) where
   form_found =
       let how = reading_by (option_built (codes "form")) in
       let own = ap (one layout_of) (values_more (codes "form") how CommandLine (v ∷ []) rows refl)
-      ∙ one_more layout_of (values (codes "form") rows) v in
-      let pages = ap (one pages_of) (values_other (codes "form") (codes "pages") how CommandLine (v ∷ []) rows refl) in
+      ∙ one_more layout_of (values_for_id (codes "form") rows) v in
+      let pages = ap (one pages_in_word) (values_other (codes "form") (codes "pages") how CommandLine (v ∷ []) rows refl) in
       let bits = ap (one bits_of) (values_other (codes "form") (codes "bits") how CommandLine (v ∷ []) rows refl) in
       let words = values_other (codes "form") (codes "words") how CommandLine (v ∷ []) rows refl in
       (λ i. option_map (λ p. record { plain = words i; options = p }) (options_of (own i) (pages i) (bits i)))
-      ∙ ap (option_map (λ p. record { plain = values (codes "words") rows; options = p }))
-      (form_more (one layout_of (values (codes "form") rows)) (one pages_of (values (codes "pages") rows))
-      (one bits_of (values (codes "bits") rows)) (layout_of v))
-      ∙ beside (values (codes "words") rows) (options_in rows) (option_map Form (layout_of v))
+      ∙ ap (option_map (λ p. record { plain = values_for_id (codes "words") rows; options = p }))
+      (form_more (one layout_of (values_for_id (codes "form") rows)) (one pages_in_word (values_for_id (codes "pages") rows))
+      (one bits_of (values_for_id (codes "bits") rows)) (layout_of v))
+      ∙ beside (values_for_id (codes "words") rows) (options_in rows) (option_map Form (layout_of v))
 
   -- with `--pages`
   pages_found : found_in (used (option_built (codes "pages")) (v ∷ []) rows)
       ≡ option_and_then (with_option (codes "pages") v) (found_in rows)
   pages_found =
       let how = reading_by (option_built (codes "pages")) in
-      let own = ap (one pages_of) (values_more (codes "pages") how CommandLine (v ∷ []) rows refl)
-      ∙ one_more pages_of (values (codes "pages") rows) v in
+      let own = ap (one pages_in_word) (values_more (codes "pages") how CommandLine (v ∷ []) rows refl)
+      ∙ one_more pages_in_word (values_for_id (codes "pages") rows) v in
       let form = ap (one layout_of) (values_other (codes "pages") (codes "form") how CommandLine (v ∷ []) rows refl) in
       let bits = ap (one bits_of) (values_other (codes "pages") (codes "bits") how CommandLine (v ∷ []) rows refl) in
       let words = values_other (codes "pages") (codes "words") how CommandLine (v ∷ []) rows refl in
       (λ i. option_map (λ p. record { plain = words i; options = p }) (options_of (form i) (own i) (bits i)))
-      ∙ ap (option_map (λ p. record { plain = values (codes "words") rows; options = p }))
-      (pages_more (one layout_of (values (codes "form") rows)) (one pages_of (values (codes "pages") rows))
-      (one bits_of (values (codes "bits") rows)) (pages_of v))
-      ∙ beside (values (codes "words") rows) (options_in rows) (option_map Pages (pages_of v))
+      ∙ ap (option_map (λ p. record { plain = values_for_id (codes "words") rows; options = p }))
+      (pages_more (one layout_of (values_for_id (codes "form") rows)) (one pages_in_word (values_for_id (codes "pages") rows))
+      (one bits_of (values_for_id (codes "bits") rows)) (pages_in_word v))
+      ∙ beside (values_for_id (codes "words") rows) (options_in rows) (option_map Pages (pages_in_word v))
 
   -- with `--bits`
   bits_found : found_in (used (option_built (codes "bits")) (v ∷ []) rows)
@@ -130,26 +130,26 @@ module _ (v : Word) (rows : List Row) where
   bits_found =
       let how = reading_by (option_built (codes "bits")) in
       let own = ap (one bits_of) (values_more (codes "bits") how CommandLine (v ∷ []) rows refl)
-      ∙ one_more bits_of (values (codes "bits") rows) v in
+      ∙ one_more bits_of (values_for_id (codes "bits") rows) v in
       let form = ap (one layout_of) (values_other (codes "bits") (codes "form") how CommandLine (v ∷ []) rows refl) in
-      let pages = ap (one pages_of) (values_other (codes "bits") (codes "pages") how CommandLine (v ∷ []) rows refl) in
+      let pages = ap (one pages_in_word) (values_other (codes "bits") (codes "pages") how CommandLine (v ∷ []) rows refl) in
       let words = values_other (codes "bits") (codes "words") how CommandLine (v ∷ []) rows refl in
       (λ i. option_map (λ p. record { plain = words i; options = p }) (options_of (form i) (pages i) (own i)))
-      ∙ ap (option_map (λ p. record { plain = values (codes "words") rows; options = p }))
-      (bits_more (one layout_of (values (codes "form") rows)) (one pages_of (values (codes "pages") rows))
-      (one bits_of (values (codes "bits") rows)) (bits_of v))
-      ∙ beside (values (codes "words") rows) (options_in rows) (option_map Bits (bits_of v))
+      ∙ ap (option_map (λ p. record { plain = values_for_id (codes "words") rows; options = p }))
+      (bits_more (one layout_of (values_for_id (codes "form") rows)) (one pages_in_word (values_for_id (codes "pages") rows))
+      (one bits_of (values_for_id (codes "bits") rows)) (bits_of v))
+      ∙ beside (values_for_id (codes "words") rows) (options_in rows) (option_map Bits (bits_of v))
 
   -- with a plain word
-  pub word_found : found_in (used plain_built (v ∷ []) rows) ≡ option_map (with_word v) (found_in rows)
+  pub word_found : found_in (used plain_built (v ∷ []) rows) ≡ option_map (found_with_word v) (found_in rows)
   word_found =
       let how = reading_by plain_built in
       let own = values_more (codes "words") how CommandLine (v ∷ []) rows refl in
       let form = ap (one layout_of) (values_other (codes "words") (codes "form") how CommandLine (v ∷ []) rows refl) in
-      let pages = ap (one pages_of) (values_other (codes "words") (codes "pages") how CommandLine (v ∷ []) rows refl) in
+      let pages = ap (one pages_in_word) (values_other (codes "words") (codes "pages") how CommandLine (v ∷ []) rows refl) in
       let bits = ap (one bits_of) (values_other (codes "words") (codes "bits") how CommandLine (v ∷ []) rows refl) in
       (λ i. option_map (λ p. record { plain = own i; options = p }) (options_of (form i) (pages i) (bits i)))
-      ∙ word_beside (values (codes "words") rows) v (options_in rows)
+      ∙ word_beside (values_for_id (codes "words") rows) v (options_in rows)
 
 -- `form` is an option
 form_is : IsOption (codes "form")

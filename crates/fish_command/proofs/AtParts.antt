@@ -8,10 +8,10 @@ use Rattle.std.proofs.Math.Bool.{and-false}
 use Rattle.clap.specs.Lexer.{long_of, short_of}
 use Rattle.clap.specs.Walk.{Held, is_pending, reacted, settled, walked}
 use Rattle.clap.specs.Faults.{settle_fault, turn_fault}
-use Rattle.fish_command.specs.Line.{is_mark}
+use Rattle.fish_command.specs.Line.{is_options_end}
 use Rattle.fish_command.specs.Options.{Word}
 use Rattle.fish_command.specs.within.Reading.{Found, are_placed, at_part, at_value, has_one_minus, read, read_option}
-use Rattle.fish_command.specs.within.Reading.{with_option, with_word, with_words}
+use Rattle.fish_command.specs.within.Reading.{with_option, found_with_word, found_with_words}
 use Rattle.fish_command.proofs.Names.{long_plain, plain_unmarked}
 use Rattle.clap.specs.declared.error.kind.ErrorKind.TheVariants as kind
 use Rattle.fish_command.proofs.Arguments.{shape, rules, plain_built, option_built, IsOption, IsUnknown}
@@ -42,40 +42,42 @@ none_found (Some f) = refl
 
 -- a plain word, and then the others
 word_then : {X : Type 0} (w : Word) (next : Found → Option X) (r : Option Found)
-    → option_and_then next (option_map (with_word w) r) ≡ option_and_then (λ f. next (with_word w f)) r
+    → option_and_then next (option_map (found_with_word w) r) ≡ option_and_then (λ f. next (found_with_word w f)) r
 word_then w next None = refl
 word_then w next (Some f) = refl
 
 -- a second `--` is not read
-words_none : (x : Word) (xs : List Word) (r : Option Found) → is_mark x ≡ true → option_and_then (with_words (x ∷ xs)) r ≡ None
+words_none : (x : Word) (xs : List Word) (r : Option Found) → is_options_end x ≡ true → option_and_then (found_with_words (x ∷ xs)) r ≡ None
 words_none x xs None is = refl
 words_none x xs (Some f) is = rw is refl
 
 -- another word is
-words_next : (x : Word) (xs : List Word) (r : Option Found) → is_mark x ≡ false
-    → option_and_then (λ f. with_words xs (with_word x f)) r ≡ option_and_then (with_words (x ∷ xs)) r
+words_next : (x : Word) (xs : List Word) (r : Option Found) → is_options_end x ≡ false
+    → option_and_then (λ f. found_with_words xs (found_with_word x f)) r ≡ option_and_then (found_with_words (x ∷ xs)) r
 words_next x xs None is = refl
 words_next x xs (Some f) is = rw is refl
 
 -- words after `--` by whether the first is a second one
-behind_by : (b : Bool) (x : Word) (xs : List Word) (h : Held) (r : Option Found) (mark : Bool) → is_mark x ≡ mark → Stands h r
-    → ((if list_all (λ w. not (is_mark w)) xs then judged xs (behind true (with_plain x h)) else None)
-    ≡ option_and_then (with_words xs) (option_map (with_word x) r))
-    → (if list_all (λ w. not (is_mark w)) (x ∷ xs) then judged (x ∷ xs) (behind b h) else None)
-    ≡ option_and_then (with_words (x ∷ xs)) r
+behind_by : (b : Bool) (x : Word) (xs : List Word) (h : Held) (r : Option Found) (mark : Bool) → is_options_end x ≡ mark → Stands h r
+    → ((if list_all (λ w. not (is_options_end w)) xs then judged xs (behind true (with_plain x h)) else None)
+    ≡ option_and_then (found_with_words xs) (option_map (found_with_word x) r))
+    → (if list_all (λ w. not (is_options_end w)) (x ∷ xs) then judged (x ∷ xs) (behind b h) else None)
+    ≡ option_and_then (found_with_words (x ∷ xs)) r
 behind_by b x xs h r true is s next = rw is (sym (words_none x xs r is))
 behind_by b x xs h r false is s next =
     let turn : judged (x ∷ xs) (behind b h) ≡ judged xs (behind true (with_plain x h)) =
     judged_next x xs (behind b h)
     ∙ (λ i. unless (trailing_turn b x h s.settles i) (judged xs (trailing_walked b x h i))) in
-    rw (is, turn) (next ∙ word_then x (with_words xs) r ∙ words_next x xs r is)
+    rw (is, turn) (next ∙ word_then x (found_with_words xs) r ∙ words_next x xs r is)
 
 -- `clap` finds after `--` what is read there
 behind_read : (words : List Word) (b : Bool) (h : Held) (r : Option Found) → Stands h r
-    → (if list_all (λ w. not (is_mark w)) words then judged words (behind b h) else None) ≡ option_and_then (with_words words) r
+    → (if list_all (λ w. not (is_options_end w)) words then judged words (behind b h) else None)
+    ≡ option_and_then (found_with_words words) r
 behind_read [] b h r s = judged_end (behind b h) ∙ (λ i. unless (s.settles i) (s.found i)) ∙ sym (some_found r)
 behind_read (x ∷ xs) b h r s =
-    behind_by b x xs h r (is_mark x) refl s (behind_read xs true (with_plain x h) (option_map (with_word x) r) (plain_stands x h r s))
+    behind_by b x xs h r (is_options_end x) refl s
+    (behind_read xs true (with_plain x h) (option_map (found_with_word x) r) (plain_stands x h r s))
 
 -- ---- plain words
 
@@ -96,14 +98,14 @@ module _ (x : Word) (h : Held) (plain : starts_with_minus x ≡ false) where
   plain_turn : (b : Bool) → settle_fault rules false h ≡ [] → turn_fault shape [] (at b h) x ≡ []
   plain_turn true settles =
       rw (
-        plain_unmarked x (is_mark x) refl plain,
+        plain_unmarked x (is_options_end x) refl plain,
         long_plain x plain,
         short_plain x plain,
         and-false (is_pending plain_built h.pending),
       ) settles
   plain_turn false settles =
       rw (
-        plain_unmarked x (is_mark x) refl plain,
+        plain_unmarked x (is_options_end x) refl plain,
         long_plain x plain,
         short_plain x plain,
         and-false (is_pending plain_built h.pending),
@@ -114,14 +116,14 @@ module _ (x : Word) (h : Held) (plain : starts_with_minus x ≡ false) where
   unfolding walked
   plain_walked true =
       rw (
-        plain_unmarked x (is_mark x) refl plain,
+        plain_unmarked x (is_options_end x) refl plain,
         long_plain x plain,
         short_plain x plain,
         and-false (is_pending plain_built h.pending),
       ) refl
   plain_walked false =
       rw (
-        plain_unmarked x (is_mark x) refl plain,
+        plain_unmarked x (is_options_end x) refl plain,
         long_plain x plain,
         short_plain x plain,
         and-false (is_pending plain_built h.pending),
@@ -132,17 +134,17 @@ pub plain_reads : (b : Bool) (h : Held) (r : Option Found) (x : Word) (xs : List
     → starts_with_minus x ≡ false → Reads (x ∷ xs) (at b h) r at_part
 plain_reads b h r x xs behind s plain =
     rw (
-      plain_unmarked x (is_mark x) refl plain,
+      plain_unmarked x (is_options_end x) refl plain,
       one_plain x plain,
       plain,
       turn_to x xs (at b h) (at true (with_plain x h)) (plain_turn x h plain b s.settles) (plain_walked x h plain b),
     )
-    (behind.at_parts true (with_plain x h) (option_map (with_word x) r) (plain_stands x h r s)
+    (behind.at_parts true (with_plain x h) (option_map (found_with_word x) r) (plain_stands x h r s)
     ∙ word_then x (λ f. read xs (at_part f)) r)
 
 -- a word with one minus is not read, and not placed
 pub single_reads : (b : Bool) (h : Held) (r : Option Found) (x : Word) (xs : List Word)
-    → starts_with_minus x ≡ true → has_one_minus x ≡ true → is_mark x ≡ false → long_of x ≡ None
+    → starts_with_minus x ≡ true → has_one_minus x ≡ true → is_options_end x ≡ false → long_of x ≡ None
     → Reads (x ∷ xs) (at b h) r at_part
 single_reads b h r x xs minus one unmarked short = rw (unmarked, one, minus, short) (sym (none_found r))
 
@@ -167,7 +169,7 @@ mark_reads b h r (y ∷ ys) s =
 
 -- a word that is read as a long option
 pub record IsLong (x n : Word) (v : Option Word) : Type 0 where
-  pub unmarked : is_mark x ≡ false
+  pub unmarked : is_options_end x ≡ false
   pub minus : starts_with_minus x ≡ true
   pub two : has_one_minus x ≡ false
   pub names : long_of x ≡ Some (n, v)

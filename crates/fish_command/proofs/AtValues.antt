@@ -9,7 +9,7 @@ use Rattle.clap.specs.Walk.{Held, is_pending, walked}
 use Rattle.clap.specs.Kinds.{Kinds}
 use Rattle.clap.specs.Faults.{settle_fault, turn_fault}
 use Rattle.clap.specs.declared.error.kind.ErrorKind.{ErrorKind}
-use Rattle.fish_command.specs.Line.{is_mark}
+use Rattle.fish_command.specs.Line.{is_options_end}
 use Rattle.fish_command.specs.within.Matched.{found_in, one}
 use Rattle.fish_command.specs.Options.{Word, choice_of}
 use Rattle.fish_command.specs.within.Reading.{Found, are_placed, at_part, at_value, has_one_minus, read, with_option}
@@ -30,13 +30,13 @@ given n y rows skip = record { rows = rows; pending = Some (n, y ∷ []); skip =
 module _ (n y : Word) (rows : List Row) (skip : ℕ) (o : IsOption n) where
   -- a plain one is no fault
   value_turn : starts_with_minus y ≡ false → turn_fault shape [] (wanted n rows skip) y ≡ []
-  value_turn plain = rw (plain_unmarked y (is_mark y) refl plain, long_plain y plain, short_plain y plain) refl
+  value_turn plain = rw (plain_unmarked y (is_options_end y) refl plain, long_plain y plain, short_plain y plain) refl
 
   -- it is the value
   value_walked : starts_with_minus y ≡ false → walked rules [] (wanted n rows skip) y ≡ at false (given n y rows skip)
   unfolding walked
   value_walked plain =
-      rw (plain_unmarked y (is_mark y) refl plain, long_plain y plain, short_plain y plain, o.by_id, o.itself) refl
+      rw (plain_unmarked y (is_options_end y) refl plain, long_plain y plain, short_plain y plain, o.by_id, o.itself) refl
 
   -- with it a part may come
   value_stands : Stands (given n y rows skip) (option_and_then (with_option n y) (found_in rows))
@@ -60,7 +60,7 @@ pub value_reads : (n : Word) (rows : List Row) (skip : ℕ) (y : Word) (ys : Lis
     → starts_with_minus y ≡ false → Reads (y ∷ ys) (wanted n rows skip) (found_in rows) (at_value n)
 value_reads n rows skip y ys spots o plain =
     rw (
-      plain_unmarked y (is_mark y) refl plain,
+      plain_unmarked y (is_options_end y) refl plain,
       one_plain y plain,
       turn_to y ys (wanted n rows skip) _ (value_turn n y rows skip o plain) (value_walked n y rows skip o plain),
     )
@@ -79,7 +79,7 @@ pub mark_fails : (n : Word) (rows : List Row) (skip : ℕ) (ys : List Word) → 
     → Reads (codes "--" ∷ ys) (wanted n rows skip) (found_in rows) (at_value n)
 mark_fails n rows skip [] o = sym (no_value n (codes "--") [] (found_in rows) (o.no_minus (codes "--") refl))
 mark_fails n rows skip (z ∷ zs) o =
-    either_none (list_all (λ w. not (is_mark w)) (z ∷ zs)) (judged (codes "--" ∷ z ∷ zs) (wanted n rows skip))
+    either_none (list_all (λ w. not (is_options_end w)) (z ∷ zs)) (judged (codes "--" ∷ z ∷ zs) (wanted n rows skip))
     (judged_next (codes "--") (z ∷ zs) (wanted n rows skip) ∙ trailing_fails n rows skip z zs o)
     ∙ sym (no_value n (codes "--") (z ∷ zs) (found_in rows) (o.no_minus (codes "--") refl))
 
@@ -103,7 +103,7 @@ long_fails n rows skip x ys m v o is =
 
 -- nor is a word with one minus
 pub single_fails : (n : Word) (rows : List Row) (skip : ℕ) (x : Word) (ys : List Word) → IsOption n
-    → starts_with_minus x ≡ true → has_one_minus x ≡ true → is_mark x ≡ false
+    → starts_with_minus x ≡ true → has_one_minus x ≡ true → is_options_end x ≡ false
     → Reads (x ∷ ys) (wanted n rows skip) (found_in rows) (at_value n)
 single_fails n rows skip x ys o minus one unmarked =
     rw (unmarked, one) (sym (no_value n x ys (found_in rows) (o.no_minus x minus)))

@@ -6,7 +6,7 @@ use Rattle.std.specs.Str.Parse.{starts_with_minus}
 use Rattle.std.proofs.lemmas.Bool.{eqb-true}
 use Rattle.std.proofs.lemmas.Slice.Eq.{bytes_eq-Decides}
 use Rattle.clap.specs.Lexer.{long_of, long_of_rest}
-use Rattle.fish_command.specs.Line.{is_mark}
+use Rattle.fish_command.specs.Line.{is_options_end}
 use Rattle.fish_command.specs.Options.{Choice, Word, choice_of}
 use Rattle.fish_command.specs.within.Reading.{has_one_minus}
 
@@ -27,9 +27,9 @@ named_by n false false false x y z is_form is_pages is_bits h = cc
 -- a word that begins with `--` and this name is read as this option
 pub record BeginsOption (n : Word) : Type 0 where
   pub apart : long_of_rest n ≡ Some (n, None)
-  pub apart_unmarked : is_mark (codes "--" ++ n) ≡ false
+  pub apart_unmarked : is_options_end (codes "--" ++ n) ≡ false
   pub joined : (v : Word) → long_of_rest (n ++ codes "=" ++ v) ≡ Some (n, Some v)
-  pub joined_unmarked : (v : Word) → is_mark (codes "--" ++ n ++ codes "=" ++ v) ≡ false
+  pub joined_unmarked : (v : Word) → is_options_end (codes "--" ++ n ++ codes "=" ++ v) ≡ false
 
 -- so for `form`
 form_begins : BeginsOption (codes "form")
@@ -69,7 +69,7 @@ pub option_begins : (n v : Word) → is_some (choice_of n v) ≡ true → Begins
 option_begins n v h = begins_by n (named_by n _ _ _ _ _ _ refl refl refl h)
 
 -- a word that begins with no minus is no mark
-pub plain_unmarked : (w : Word) (mark : Bool) → is_mark w ≡ mark → starts_with_minus w ≡ false → mark ≡ false
+pub plain_unmarked : (w : Word) (mark : Bool) → is_options_end w ≡ mark → starts_with_minus w ≡ false → mark ≡ false
 plain_unmarked w false is plain = refl
 plain_unmarked w true is plain =
     let bad : starts_with_minus (codes "--") ≡ false = subst (λ (x : Word). starts_with_minus x ≡ false)
@@ -79,7 +79,7 @@ plain_unmarked w true is plain =
 
 -- a word is plain, has one minus, is `--`, or is an option
 module _ (P : Word → Type 0) (plain : (y : Word) → starts_with_minus y ≡ false → P y)
-    (single : (y : Word) → starts_with_minus y ≡ true → has_one_minus y ≡ true → is_mark y ≡ false
+    (single : (y : Word) → starts_with_minus y ≡ true → has_one_minus y ≡ true → is_options_end y ≡ false
     → long_of y ≡ None → P y)
     (mark : P (codes "--")) (long : (c : ℕ) (rest : Word) → P (45 ∷ 45 ∷ c ∷ rest)) where
   -- after two minuses

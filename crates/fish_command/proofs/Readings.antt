@@ -10,7 +10,7 @@ use Rattle.fish_command.specs.within.Reading.{Found, at_part, nothing_found, rea
 use Rattle.fish_command.specs.within.Reading.{run_of, sample_in, sample_of, select_in}
 use Rattle.fish_command.specs.within.Reading.{select_of}
 use Rattle.fish_command.specs.Request.{IsRequest, Request, run, sample, select}
-use Rattle.fish_command.specs.Sizes.{most_records}
+use Rattle.fish_command.specs.Sizes.{most_sample_records}
 use Rattle.fish_command.specs.declared.options.Layout.{Layout}
 use Rattle.fish_command.specs.declared.options.Options.{Options}
 use Rattle.fish_command.proofs.Complete.{line_read}
@@ -99,7 +99,7 @@ run_is store behind (a ∷ b ∷ more) o q starts line e = absurd cc
 
 -- one plain word that is a number within its bounds, and no option, are a `sample`
 sample_by : (behind : List Word) (a : Word) (o : Options) (q : Request) (layout : Option Layout) (pages bits number : Option ℕ)
-    → IsLine behind (a ∷ []) o → o.layout ≡ layout → o.pages ≡ pages → o.bits ≡ bits → within 0 most_records (int_of a) ≡ number
+    → IsLine behind (a ∷ []) o → o.layout ≡ layout → o.pages ≡ pages → o.bits ≡ bits → within 0 most_sample_records (int_of a) ≡ number
     → (if is_some layout || (is_some pages || is_some bits) then None else option_map sample number) ≡ Some q
     → IsRequest (codes "sample" ∷ behind) q
 sample_by behind a o q None None None (Some n) line no_layout no_pages no_bits is e =
@@ -125,7 +125,7 @@ sample_is : (behind plain : List Word) (o : Options) (q : Request) → IsLine be
     → IsRequest (codes "sample" ∷ behind) q
 sample_is behind [] o q line e = absurd cc
 sample_is behind (a ∷ []) o q line e =
-    sample_by behind a o q o.layout o.pages o.bits (within 0 most_records (int_of a)) line refl refl refl refl e
+    sample_by behind a o q o.layout o.pages o.bits (within 0 most_sample_records (int_of a)) line refl refl refl refl e
 sample_is behind (a ∷ b ∷ more) o q line e = absurd cc
 
 -- the words after `select`

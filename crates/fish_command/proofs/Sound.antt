@@ -10,10 +10,10 @@ use Rattle.std.specs.Str.Parse.{starts_with_minus}
 use Rattle.std.proofs.Common.{suc, take, ◌+◌}
 use Rattle.std.specs.List.{position_or_len}
 use Rattle.clap.specs.Lexer.{has_byte, long_of, name_and_value}
-use Rattle.fish_command.specs.Line.{Part, plain, apart, joined, choice_in, is_mark, is_part, marked, spelled, word_in}
+use Rattle.fish_command.specs.Line.{Part, plain, apart, joined, choice_in, is_options_end, is_word_part, marked, part_words, word_in}
 use Rattle.fish_command.specs.Options.{Choice, Word, choice_of, with_choice, with_choices}
 use Rattle.fish_command.specs.within.Reading.{Found, Place, at_part, at_value, read, read_option, with_behind}
-use Rattle.fish_command.specs.within.Reading.{with_word, with_words}
+use Rattle.fish_command.specs.within.Reading.{found_with_word, found_with_words}
 use Rattle.fish_command.specs.declared.options.Options.{Options}
 use Rattle.fish_command.proofs.Names.{kinds, long_plain, same_word}
 
@@ -21,9 +21,9 @@ use Rattle.fish_command.proofs.Names.{kinds, long_plain, same_word}
 pub record Goes (words : List Word) (f g : Found) : Type 0 where
   pub parts : List Part
   pub behind : List Word
-  pub sound : list_all is_part parts ≡ true
-  pub unmarked : list_all (λ w. not (is_mark w)) behind ≡ true
-  pub spells : words ≡ flat_map spelled parts ++ marked behind
+  pub sound : list_all is_word_part parts ≡ true
+  pub unmarked : list_all (λ w. not (is_options_end w)) behind ≡ true
+  pub spells : words ≡ flat_map part_words parts ++ marked behind
   pub plains : g.plain ≡ f.plain ++ (filter_map word_in parts ++ behind)
   pub once : with_choices f.options (filter_map choice_in parts) ≡ Some g.options
 
@@ -94,30 +94,30 @@ choice_read f g next n v (Some c) is e behind =
 
 -- words after `--` that were read
 record GoesBehind (words : List Word) (f g : Found) : Type 0 where
-  unmarked : list_all (λ w. not (is_mark w)) words ≡ true
+  unmarked : list_all (λ w. not (is_options_end w)) words ≡ true
   are : g ≡ record f { plain = f.plain ++ words }
 
 -- one word more after `--`
-words_go_by : (mark : Bool) (w : Word) (more : List Word) (f g : Found) → is_mark w ≡ mark
-    → (if mark then None else with_words more (with_word w f)) ≡ Some g
-    → ((h : Found) → with_words more h ≡ Some g → GoesBehind more h g) → GoesBehind (w ∷ more) f g
+words_go_by : (mark : Bool) (w : Word) (more : List Word) (f g : Found) → is_options_end w ≡ mark
+    → (if mark then None else found_with_words more (found_with_word w f)) ≡ Some g
+    → ((h : Found) → found_with_words more h ≡ Some g → GoesBehind more h g) → GoesBehind (w ∷ more) f g
 words_go_by true w more f g is e behind = absurd cc
 words_go_by false w more f g is e behind =
-    let rest = behind (with_word w f) e in
+    let rest = behind (found_with_word w f) e in
     record {
       unmarked = rw is rest.unmarked;
       are = rest.are ∙ ap (λ (words : List Word). record f { plain = words }) (append_assoc f.plain (w ∷ []) more);
     }
 
 -- words after `--` are plain words
-words_go : (words : List Word) (f g : Found) → with_words words f ≡ Some g → GoesBehind words f g
+words_go : (words : List Word) (f g : Found) → found_with_words words f ≡ Some g → GoesBehind words f g
 words_go [] f g e =
     let same : f ≡ g = cc in
     record {
       unmarked = refl;
       are = sym same ∙ ap (λ (words : List Word). record f { plain = words }) (sym (append-nil f.plain));
     }
-words_go (w ∷ more) f g e = words_go_by (is_mark w) w more f g refl e (λ h. words_go more h g)
+words_go (w ∷ more) f g e = words_go_by (is_options_end w) w more f g refl e (λ h. words_go more h g)
 
 -- `--` and what is read after it are a line
 end_goes : (words : List Word) (f g : Found) → with_behind words f ≡ Some g → Goes (codes "--" ∷ words) f g
@@ -192,14 +192,14 @@ goes_from w x words f g is h = subst (λ (y : Word). Goes (y ∷ words) f g) (sy
 
 -- one part and the words after it, by what its first word is
 part_goes : (mark minus : Bool) (o : Option (Word × Option Word)) (w : Word) (words : List Word) (f g : Found)
-    → is_mark w ≡ mark → starts_with_minus w ≡ minus → long_of w ≡ o
+    → is_options_end w ≡ mark → starts_with_minus w ≡ minus → long_of w ≡ o
     → (if mark then with_behind words f else (if minus then read_option o f (read words)
-    else read words (at_part (with_word w f)))) ≡ Some g
+    else read words (at_part (found_with_word w f)))) ≡ Some g
     → ((p : Place) → read words p ≡ Some g → Goes (words_at p words) (found_at p) g) → Goes (w ∷ words) f g
 part_goes true minus o w words f g is starts reads e behind =
     goes_from w (codes "--") words f g (same_word w (codes "--") is) (end_goes words f g e)
 part_goes false false o w words f g is starts reads e behind =
-    goes_plain w words f g starts (behind (at_part (with_word w f)) e)
+    goes_plain w words f g starts (behind (at_part (found_with_word w f)) e)
 part_goes false true None w words f g is starts reads e behind = absurd cc
 part_goes false true (Some (n, None)) w words f g is starts reads e behind =
     goes_from w (codes "--" ++ n) words f g (option_text w (n, None) reads) (behind (at_value n f) e)
@@ -229,5 +229,5 @@ read_goes (w ∷ words) (at_value n f) g e =
     (λ c o is more rest. goes_apart n w words c o f g is more
     (read_goes words (at_part (record f { options = o })) g rest))
 read_goes (w ∷ words) (at_part f) g e =
-    part_goes (is_mark w) (starts_with_minus w) (long_of w) w words f g refl refl refl e
+    part_goes (is_options_end w) (starts_with_minus w) (long_of w) w words f g refl refl refl e
     (λ p. read_goes words p g)

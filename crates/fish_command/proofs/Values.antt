@@ -6,9 +6,9 @@ use Rattle.clap.specs.Words.{Row}
 use Rattle.clap.specs.Walk.{more_values, with_values}
 use Rattle.clap.specs.declared.builder.value_parser.Reading.{Reading}
 use Rattle.clap.specs.declared.parser.matches.ValueSource.{ValueSource}
-use Rattle.fish_command.specs.within.Matched.{one, options_of, values}
+use Rattle.fish_command.specs.within.Matched.{one, options_of, values_for_id}
 use Rattle.fish_command.specs.Options.{Bits, Choice, Form, Pages, Word, with_choice}
-use Rattle.fish_command.specs.within.Reading.{Found, with_word}
+use Rattle.fish_command.specs.within.Reading.{Found, found_with_word}
 use Rattle.fish_command.specs.declared.options.Layout.{Layout}
 use Rattle.fish_command.specs.declared.options.Options.{Options}
 use Rattle.fish_command.proofs.Names.{same_word}
@@ -17,20 +17,20 @@ use Rattle.fish_command.proofs.Names.{same_word}
 
 -- with more values of an argument come more of it, by whether the first row is its own
 values_more_by : (id : Word) (s : ValueSource) (vs : List Word) (r : Row) (rows more : List Row) (b : Bool)
-    → bytes_eq r.id id ≡ b → values id more ≡ values id rows ++ vs
-    → values id (cond b (more_values s vs r ++ rows) (r ∷ more)) ≡ values id (r ∷ rows) ++ vs
+    → bytes_eq r.id id ≡ b → values_for_id id more ≡ values_for_id id rows ++ vs
+    → values_for_id id (cond b (more_values s vs r ++ rows) (r ∷ more)) ≡ values_for_id id (r ∷ rows) ++ vs
 values_more_by id s vs r rows more true is behind = rw is refl
 values_more_by id s vs r rows more false is behind = rw is behind
 
 -- so in all rows
 pub values_more : (id : Word) (how : Reading) (s : ValueSource) (vs : List Word) (rows : List Row) → bytes_eq id id ≡ true
-    → values id (with_values id how s vs rows) ≡ values id rows ++ vs
+    → values_for_id id (with_values id how s vs rows) ≡ values_for_id id rows ++ vs
 values_more id how s vs [] same = rw same refl
 values_more id how s vs (r ∷ rows) same =
     values_more_by id s vs r rows (with_values id how s vs rows) (bytes_eq r.id id) refl (values_more id how s vs rows same)
 
 -- another argument keeps its values, after a row that stays
-values_skip : (j : Word) (r : Row) (rows more : List Row) (b : Bool) → values j more ≡ values j rows
+values_skip : (j : Word) (r : Row) (rows more : List Row) (b : Bool) → values_for_id j more ≡ values_for_id j rows
     → unwrap_or (option_map (λ (x : Row). x.values) (cond b (Some r) (find (λ x. bytes_eq x.id j) more))) []
     ≡ unwrap_or (option_map (λ (x : Row). x.values) (cond b (Some r) (find (λ x. bytes_eq x.id j) rows))) []
 values_skip j r rows more true same = refl
@@ -38,8 +38,8 @@ values_skip j r rows more false same = same
 
 -- the same, by whether the first row is the one that gains values
 values_other_by : (i j : Word) (s : ValueSource) (vs : List Word) (r : Row) (rows more : List Row) (b : Bool)
-    → bytes_eq r.id i ≡ b → bytes_eq i j ≡ false → values j more ≡ values j rows
-    → values j (cond b (more_values s vs r ++ rows) (r ∷ more)) ≡ values j (r ∷ rows)
+    → bytes_eq r.id i ≡ b → bytes_eq i j ≡ false → values_for_id j more ≡ values_for_id j rows
+    → values_for_id j (cond b (more_values s vs r ++ rows) (r ∷ more)) ≡ values_for_id j (r ∷ rows)
 values_other_by i j s vs r rows more true is apart behind =
     let other : bytes_eq r.id j ≡ false = ap (λ (w : Word). bytes_eq w j) (same_word r.id i is) ∙ apart in
     rw other refl
@@ -47,7 +47,7 @@ values_other_by i j s vs r rows more false is apart behind = values_skip j r row
 
 -- so in all rows
 pub values_other : (i j : Word) (how : Reading) (s : ValueSource) (vs : List Word) (rows : List Row) → bytes_eq i j ≡ false
-    → values j (with_values i how s vs rows) ≡ values j rows
+    → values_for_id j (with_values i how s vs rows) ≡ values_for_id j rows
 values_other i j how s vs [] apart = rw apart refl
 values_other i j how s vs (r ∷ rows) apart =
     values_other_by i j s vs r rows (with_values i how s vs rows) (bytes_eq r.id i) refl apart
@@ -133,6 +133,6 @@ beside words (Some o) c = refl
 -- a plain word more, beside the options
 pub word_beside : (words : List Word) (w : Word) (o : Option Options)
     → option_map (λ p. record { plain = words ++ w ∷ []; options = p }) o
-    ≡ option_map (with_word w) (option_map (λ p. record { plain = words; options = p }) o)
+    ≡ option_map (found_with_word w) (option_map (λ p. record { plain = words; options = p }) o)
 word_beside words w None = refl
 word_beside words w (Some o) = refl

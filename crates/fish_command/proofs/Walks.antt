@@ -9,7 +9,7 @@ use Rattle.clap.specs.Faults.{settle_fault, turn_fault, walk_fault}
 use Rattle.clap.specs.declared.error.kind.ErrorKind.{ErrorKind}
 use Rattle.fish_command.specs.within.Matched.{found_in}
 use Rattle.fish_command.specs.Options.{Word}
-use Rattle.fish_command.specs.within.Reading.{Found, Place, are_placed, at_part, at_value, read, with_word}
+use Rattle.fish_command.specs.within.Reading.{Found, Place, are_placed, at_part, at_value, read, found_with_word}
 use Rattle.fish_command.proofs.Arguments.{shape, rules, IsOption, word_found}
 
 -- ---- the walk
@@ -86,10 +86,10 @@ abbrev pub with_plain : Word → Held → Held
 with_plain x h = record (settled rules h) { pending = Some (codes "words", x ∷ []) }
 
 -- a part may come after a plain word
-pub plain_stands : (x : Word) (h : Held) (r : Option Found) → Stands h r → Stands (with_plain x h) (option_map (with_word x) r)
+pub plain_stands : (x : Word) (h : Held) (r : Option Found) → Stands h r → Stands (with_plain x h) (option_map (found_with_word x) r)
 plain_stands x h r s = record {
   settles = refl;
-  found = word_found x (settled rules h).rows ∙ ap (option_map (with_word x)) s.found;
+  found = word_found x (settled rules h).rows ∙ ap (option_map (found_with_word x)) s.found;
 }
 
 -- ---- a part

@@ -30,32 +30,32 @@ asked_of (command.Run r) = run r.store r.script r.pages r.bits
 asked_of (command.Sample s) = sample s.number
 
 -- a definition and a file, with a value where there is one
-abbrev pub with_value : Definition → Layout → Word → Option Value → Result Asked UsageCause
-with_value def layout file None = Err cause.Value
-with_value def layout file (Some v) = Ok (select def v layout.form layout.header file)
+abbrev pub asked_with_value : Definition → Layout → Word → Option Value → Result Asked UsageCause
+asked_with_value def layout file None = Err cause.Value
+asked_with_value def layout file (Some v) = Ok (select def v layout.form layout.header file)
 
 -- what the language says of the definition, and then the value
 abbrev pub with_definition : Result Definition LangRefusal → Layout → Word → Word → Result Asked UsageCause
 with_definition (Err refusal) layout value file = Err (cause.Definition refusal)
-with_definition (Ok def) layout value file = with_value def layout file (value_text value)
+with_definition (Ok def) layout value file = asked_with_value def layout file (value_text value)
 
 -- these parts of `select` are this command, or refused with this cause
-pub record IsSelected (def value file : Word) (layout : Layout) (r : Result Asked UsageCause) : Type 0 where
+pub record IsSelectCommand (def value file : Word) (layout : Layout) (r : Result Asked UsageCause) : Type 0 where
   pub due : Result Definition LangRefusal
   pub said : IsOutcome def due
   pub is : r ≡ with_definition due layout value file
 
 -- these parts are this command, or refused with this cause
-abbrev pub IsAsked : request.Request → Result Asked UsageCause → Type 0
-IsAsked (request.select def value file layout) r = IsSelected def value file layout r
-IsAsked (request.run store script pages bits) r = r ≡ Ok (run store script pages bits)
-IsAsked (request.sample number) r = r ≡ Ok (sample number)
+abbrev pub IsRequested : request.Request → Result Asked UsageCause → Type 0
+IsRequested (request.select def value file layout) r = IsSelectCommand def value file layout r
+IsRequested (request.run store script pages bits) r = r ≡ Ok (run store script pages bits)
+IsRequested (request.sample number) r = r ≡ Ok (sample number)
 
 -- words on the grammar are this command, or refused with this cause
-pub record IsRead (words : List Word) (r : Result Asked UsageCause) : Type 0 where
+pub record IsCommandRead (words : List Word) (r : Result Asked UsageCause) : Type 0 where
   pub parts : request.Request
   pub fits : request.IsRequest words parts
-  pub asks : IsAsked parts r
+  pub asks : IsRequested parts r
 
 -- words off the grammar
 abbrev pub IsOffGrammar : List Word → Type 0
@@ -63,20 +63,20 @@ IsOffGrammar words = (parts : request.Request) → ¬ request.IsRequest words pa
 
 -- words are this command, or refused with this cause
 abbrev pub IsCommand : List Word → Result Asked UsageCause → Type 0
-IsCommand words r = IsRead words r ⊎ (IsOffGrammar words × (r ≡ Err cause.Words))
+IsCommand words r = IsCommandRead words r ⊎ (IsOffGrammar words × (r ≡ Err cause.Words))
 
 -- the words are some command
 abbrev pub IsSomeCommand : List Word → Type 0
 IsSomeCommand words = (asked : Asked) × IsCommand words (Ok asked)
 
 -- a refusal names the cause, unless memory ran out
-abbrev pub IsRefused : (Result Asked UsageCause → Type 0) → CommandRefusal → Type 0
-IsRefused Is (refusal.Usage cause) = Is (Err cause)
-IsRefused Is refusal.OutOfMemory = ⊤
+abbrev pub IsCommandRefused : (Result Asked UsageCause → Type 0) → CommandRefusal → Type 0
+IsCommandRefused Is (refusal.Usage cause) = Is (Err cause)
+IsCommandRefused Is refusal.OutOfMemory = ⊤
 
 -- a refusal to read words
 abbrev pub IsRefusedCommand : List Word → CommandRefusal → Type 0
-IsRefusedCommand words = IsRefused (IsCommand words)
+IsRefusedCommand words = IsCommandRefused (IsCommand words)
 
 -- a refusal of a definition as a refusal of words
 abbrev pub definition_refusal : LangRefusal → CommandRefusal

@@ -13,16 +13,16 @@ pub data Part : Type 0 where
   joined : (name value : Word) → Part
 
 -- the words that a part is
-abbrev pub spelled : Part → List Word
-spelled (plain word) = word ∷ []
-spelled (apart name value) = (codes "--" ++ name) ∷ value ∷ []
-spelled (joined name value) = (codes "--" ++ name ++ codes "=" ++ value) ∷ []
+abbrev pub part_words : Part → List Word
+part_words (plain word) = word ∷ []
+part_words (apart name value) = (codes "--" ++ name) ∷ value ∷ []
+part_words (joined name value) = (codes "--" ++ name ++ codes "=" ++ value) ∷ []
 
 -- a plain word begins with no `-`, and an option is one, with a value that it takes
-abbrev pub is_part : Part → Bool
-is_part (plain word) = not (starts_with_minus word)
-is_part (apart name value) = is_some (choice_of name value)
-is_part (joined name value) = is_some (choice_of name value)
+abbrev pub is_word_part : Part → Bool
+is_word_part (plain word) = not (starts_with_minus word)
+is_word_part (apart name value) = is_some (choice_of name value)
+is_word_part (joined name value) = is_some (choice_of name value)
 
 -- the plain word that a part is
 abbrev pub word_in : Part → Option Word
@@ -37,8 +37,8 @@ choice_in (apart name value) = choice_of name value
 choice_in (joined name value) = choice_of name value
 
 -- the word is `--`
-abbrev pub is_mark : Word → Bool
-is_mark word = bytes_eq word (codes "--")
+abbrev pub is_options_end : Word → Bool
+is_options_end word = bytes_eq word (codes "--")
 
 -- plain words after `--`, which stands where there are some
 abbrev pub marked : List Word → List Word
@@ -50,10 +50,10 @@ pub record IsLine (words plain : List Word) (options : Options) : Type 0 where
   pub parts : List Part
   pub behind : List Word
   -- each part may stand there
-  pub sound : IsTrue (list_all is_part parts)
+  pub sound : IsTrue (list_all is_word_part parts)
   -- `--` stands once at most
-  pub unmarked : IsTrue (list_all (λ word. not (is_mark word)) behind)
-  pub spells : words ≡ flat_map spelled parts ++ marked behind
+  pub unmarked : IsTrue (list_all (λ word. not (is_options_end word)) behind)
+  pub spells : words ≡ flat_map part_words parts ++ marked behind
   pub plains : plain ≡ filter_map word_in parts ++ behind
   -- no option stands twice
   pub once : with_choices no_options (filter_map choice_in parts) ≡ Some options

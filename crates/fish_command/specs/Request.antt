@@ -4,7 +4,7 @@ use Rattle.std.specs.Str.Parse.{starts_with_minus}
 use Rattle.fish_command.specs.Line.{IsLine}
 use Rattle.fish_value.specs.Number.{int_of}
 use Rattle.fish_command.specs.Options.{Word, json_lines, within}
-use Rattle.fish_command.specs.Sizes.{most_records}
+use Rattle.fish_command.specs.Sizes.{most_sample_records}
 use Rattle.fish_command.specs.declared.options.Layout.{Layout}
 use Rattle.fish_command.specs.declared.options.Options.{Options}
 
@@ -36,13 +36,13 @@ pub record IsRun (words : List Word) (store script : Word) (pages bits : Option 
   pub no_layout : options.layout ≡ None
 
 -- words are `sample`, and after it a whole number from 0 to 60,000, without an option
-pub record IsSample (words : List Word) (number : ℕ) : Type 0 where
+pub record IsSampleRequest (words : List Word) (number : ℕ) : Type 0 where
   pub behind : List Word
   pub options : Options
   pub word : Word
   pub spells : words ≡ codes "sample" ∷ behind
   pub line : IsLine behind (word ∷ []) options
-  pub number_is : within 0 most_records (int_of word) ≡ Some number
+  pub number_is : within 0 most_sample_records (int_of word) ≡ Some number
   pub no_layout : options.layout ≡ None
   pub no_pages : options.pages ≡ None
   pub no_bits : options.bits ≡ None
@@ -51,4 +51,4 @@ pub record IsSample (words : List Word) (number : ℕ) : Type 0 where
 abbrev pub IsRequest : List Word → Request → Type 0
 IsRequest words (select def value file layout) = IsSelect words def value file layout
 IsRequest words (run store script pages bits) = IsRun words store script pages bits
-IsRequest words (sample number) = IsSample words number
+IsRequest words (sample number) = IsSampleRequest words number

@@ -15,8 +15,8 @@ abbrev pub most_bits : ℕ
 most_bits = 16
 
 -- the most records of a sample
-abbrev pub most_records : ℕ
-most_records = 60000
+abbrev pub most_sample_records : ℕ
+most_sample_records = 60000
 
 -- a number of pages is within its bounds, where one is given
 abbrev pub ArePages : Option ℕ → Type 0

@@ -7,8 +7,8 @@ ghost use Rattle.std.specs.Prelude.{◌≡◌, IfOk, false, map, not, option_and
 ghost use Rattle.std.specs.List.{list_all};
 ghost use Rattle.std.specs.Str.Parse.{starts_with_minus};
 ghost use Rattle.clap.specs.Words.{all_of, app_of, found_of, rows_of, rule_of};
-ghost use Rattle.fish_command.specs.Line.{is_mark};
-ghost use Rattle.fish_command.specs.within.Matched.{found_in, line_app, only, option_rule, values};
+ghost use Rattle.fish_command.specs.Line.{is_options_end};
+ghost use Rattle.fish_command.specs.within.Matched.{found_in, line_app, at_most_one, option_rule, values_for_id};
 ghost use Rattle.fish_command.specs.within.Reading.{are_placed, are_placed_after, at_part, has_one_minus};
 ghost use Rattle.fish_command.specs.within.Reading.{nothing_found, read};
 
@@ -90,14 +90,14 @@ fn are_placed_after(words: &[Text]) -> bool
 
 /// Whether no word is `--`.
 fn are_unmarked(words: &[Text]) -> bool
-    ensures { result ≡ list_all (λ w. not (is_mark w)) words.now }
+    ensures { result ≡ list_all (λ w. not (is_options_end w)) words.now }
 {
     words.iter().all(|word| !is_mark(word))
 }
 
 /// Whether a word is `--`.
 fn is_mark(word: &Text) -> bool
-    ensures { result ≡ is_mark word.now }
+    ensures { result ≡ is_options_end word.now }
 {
     word.as_str() == "--"
 }
@@ -131,7 +131,8 @@ pub(crate) fn values_of<'m, 'a>(matches: &'m ArgMatches<'a>, id: &str) -> Option
 /// The one value of an argument, where it was given once at most.
 #[tactic(auto, using(crate::proofs::LineLemmas::only_none, crate::proofs::LineLemmas::only_one, crate::proofs::LineLemmas::only_many))]
 pub(crate) fn only<'a>(matches: &ArgMatches<'a>, id: &str) -> Option<Option<&'a str>>
-    ensures { option_map (option_map (λ s. s.now)) result ≡ only (values id.now (rows_of (found_of matches.now))) }
+    ensures { option_map (option_map (λ s. s.now)) result
+        ≡ at_most_one (values_for_id id.now (rows_of (found_of matches.now))) }
 {
     let Some(values) = values_of(matches, id) else {
         return Some(None);

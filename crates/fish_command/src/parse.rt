@@ -1,7 +1,8 @@
 //! The words of a command line.
 
 ghost use Rattle.std.specs.Prelude.{◌≡◌, Ok, Err, IfOk, IfErr};
-ghost use Rattle.fish_command.specs.Command.{IsCommand, IsRefused, IsRefusedCommand, IsSelected, asked_of, run};
+ghost use Rattle.fish_command.specs.Command.{IsCommand, IsCommandRefused, IsRefusedCommand, IsSelectCommand, asked_of};
+ghost use Rattle.fish_command.specs.Command.{run};
 ghost use Rattle.fish_command.specs.Sizes.{AreBits, ArePages};
 
 use crate::command::{Command, Run, Sample, Select};
@@ -48,8 +49,8 @@ fn read_select(
     file: &str,
     layout: Layout,
 ) -> Result<Command, CommandRefusal>
-    ensures ok { IfOk result (λ command. IsSelected def.now value.now file.now layout (Ok (asked_of command))) }
-    ensures refused { IfErr result (IsRefused (IsSelected def.now value.now file.now layout)) }
+    ensures ok { IfOk result (λ command. IsSelectCommand def.now value.now file.now layout (Ok (asked_of command))) }
+    ensures refused { IfErr result (IsCommandRefused (IsSelectCommand def.now value.now file.now layout)) }
 {
     let def = parse_def(alloc, def.as_bytes())?;
     let value = match read_value(alloc, value.as_bytes()) {

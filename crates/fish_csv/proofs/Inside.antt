@@ -7,7 +7,7 @@ use Rattle.csv.specs.declared.parser.Action.{Action}
 use Rattle.csv.specs.declared.parser.Action.TheVariants as act
 use Rattle.csv.specs.declared.parser.State.{State}
 use Rattle.csv.specs.declared.parser.State.TheVariants as st
-use Rattle.fish_csv.specs.within.Machine.{IsBetween}
+use Rattle.fish_csv.specs.within.Machine.{IsBetweenRows}
 
 -- a row has begun, and has not ended
 abbrev pub is_inside : State → Bool
@@ -22,7 +22,7 @@ is_inside st.AfterQuote = true
 
 -- a step that ends a row leaves the machine between rows, and one that ends none at a row that has begun leaves it in the row
 abbrev pub Leaves : State × Action → Type 0
-Leaves x = (is_end x.1 ≡ true → IsBetween x.0) × (is_end x.1 ≡ false → is_inside x.0 ≡ true)
+Leaves x = (is_end x.1 ≡ true → IsBetweenRows x.0) × (is_end x.1 ≡ false → is_inside x.0 ≡ true)
 
 -- what a step leaves outside quotes, by what the byte is: a comma, CR, LF
 abbrev pub after-plain : Bool → Bool → Bool → State × Action

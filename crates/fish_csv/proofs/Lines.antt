@@ -14,7 +14,7 @@ use Rattle.csv.specs.declared.parser.State.TheVariants as st
 use Rattle.csv.specs.declared.parser.Terminator.TheVariants as term
 use Rattle.fish_csv.specs.within.Machine.{row_from}
 use Rattle.fish_csv.specs.Reading.{rows_in}
-use Rattle.fish_csv.specs.Rows.{kept, payload_of, stored_text}
+use Rattle.fish_csv.specs.Rows.{kept, payload_of_row, stored_text}
 use Rattle.fish_csv.specs.within.Turns.{IsStored, TakesRow, ends_line, is_mark}
 use Rattle.fish_csv.specs.declared.machine.Position.TheVariants as position
 use Rattle.fish_csv.proofs.Records.{rows-end, rows-next}
@@ -183,7 +183,7 @@ line-rows c x (d ∷ rest) e ends = rows-next ((c ∷ x) ++ (d ∷ rest))
 -- a line of a text and what is after it, as the code names them
 pub TakesRow-line : (b line rest : List ℕ) (outcome : Option (List ℕ)) → b ≡ line ++ rest → 0 < length line
     → list_any is_mark line ≡ false → ends_line rest ≡ true → outcome ≡ kept line → TakesRow b outcome rest
-unfolding payload_of
+unfolding payload_of_row
 TakesRow-line b [] rest outcome same some e ends is = absurd (omega arith)
 TakesRow-line b (c ∷ x) rest outcome same some e ends is = (
   parts_of (c ∷ x),

@@ -9,7 +9,7 @@ use Rattle.csv.specs.Machine.{Read, Runs, field_after, fields_after, is_end, nex
 use Rattle.csv.specs.Reading.{default_config, records_from, records_next}
 use Rattle.csv.specs.declared.parser.State.{State}
 use Rattle.csv.specs.declared.parser.State.TheVariants as st
-use Rattle.fish_csv.specs.within.Machine.{Ends, IsBetween, row_from, state_of}
+use Rattle.fish_csv.specs.within.Machine.{EndsRow, IsBetweenRows, row_from, state_of}
 use Rattle.fish_csv.specs.declared.machine.Position.{Position}
 use Rattle.fish_csv.specs.Reading.{rows_in}
 use Rattle.fish_csv.specs.declared.machine.Position.TheVariants as position
@@ -18,7 +18,7 @@ use Rattle.fish_csv.proofs.Steps.{row-end, row-other}
 
 -- a text in which a row has begun has that row, and the machine stands between rows after it
 begun : (s : State) (fields : List (List ℕ)) (field xs : List ℕ) → is_inside s ≡ true
-    → (q : Read) × (next_record default_config s fields field xs ≡ Some q) × IsBetween q.1 × (length q.2 ≤ length xs - 1)
+    → (q : Read) × (next_record default_config s fields field xs ≡ Some q) × IsBetweenRows q.1 × (length q.2 ≤ length xs - 1)
 unfolding next_record
 begun s fields field [] h = rw (inside-ends s h) ((fields ++ (field ∷ []), st.StartRecord, []), refl, inl refl, omega arith)
 begun s fields field (c ∷ rest) h =
@@ -38,7 +38,7 @@ begun s fields field (c ∷ rest) h =
 
 -- a byte that ends no line begins a row
 pub row-there : (c : ℕ) (xs : List ℕ) → (c == 13 || c == 10) ≡ false
-    → (q : Read) × (row_from position.Row [] [] (c ∷ xs) ≡ Some q) × IsBetween q.1 × (length q.2 < length (c ∷ xs))
+    → (q : Read) × (row_from position.Row [] [] (c ∷ xs) ≡ Some q) × IsBetweenRows q.1 × (length q.2 < length (c ∷ xs))
 row-there c xs e =
     let found = begun st.StartField [] [] (c ∷ xs) refl in
     (found.0, row-other c [] [] xs e ∙ found.1, found.2, omega (arith, found.3))
@@ -46,7 +46,7 @@ row-there c xs e =
 -- the next row of a text is shorter than the text, and after it the machine stands between rows
 abbrev pub IsNext : List ℕ → Option Read → Type 0
 IsNext xs None = Unit {0}
-IsNext xs (Some q) = IsBetween q.1 × (length q.2 < length xs)
+IsNext xs (Some q) = IsBetweenRows q.1 × (length q.2 < length xs)
 
 IsNext-more : (c : ℕ) (xs : List ℕ) (o : Option Read) → IsNext xs o → IsNext (c ∷ xs) o
 IsNext-more c xs None h = tt
@@ -70,22 +70,22 @@ after-cr (c ∷ rest) = elim (cases_Bool (c == 10)) [
 ]
 
 -- between rows a text goes on as from its start
-between-same : (s : State) (b : List ℕ) → IsBetween s
+between-same : (s : State) (b : List ℕ) → IsBetweenRows s
     → next_record default_config s [] [] b ≡ next_record default_config st.StartRecord [] [] b
 between-same s b (inl e) = rw e refl
 between-same s b (inr e) = rw e (after-cr b)
 
-IsNext-between : (s : State) (xs : List ℕ) → IsBetween s → IsNext xs (next_record default_config s [] [] xs)
+IsNext-between : (s : State) (xs : List ℕ) → IsBetweenRows s → IsNext xs (next_record default_config s [] [] xs)
 IsNext-between s xs h = rw (between-same s xs h) (next-row xs)
 
 -- two ways to read on that agree on every shorter text give the same rows
 next-alike : (f g : State → List ℕ → List (List (List ℕ))) (xs : List ℕ) (o : Option Read) → IsNext xs o
-    → ((s : State) (ys : List ℕ) → IsBetween s → length ys < length xs → f s ys ≡ g s ys) → records_next f o ≡ records_next g o
+    → ((s : State) (ys : List ℕ) → IsBetweenRows s → length ys < length xs → f s ys ≡ g s ys) → records_next f o ≡ records_next g o
 next-alike f g xs None h same = refl
 next-alike f g xs (Some q) h same = ap (λ rows. q.0 ∷ rows) (same q.1 q.2 h.0 h.1)
 
 -- counts that are both above the length of the text give the same rows
-enough : (m n : ℕ) (s : State) (xs : List ℕ) → IsBetween s → length xs < m → length xs < n
+enough : (m n : ℕ) (s : State) (xs : List ℕ) → IsBetweenRows s → length xs < m → length xs < n
     → records_from default_config m s xs ≡ records_from default_config n s xs
 unfolding records_from
 enough zero n s xs h a b = absurd (omega arith)
@@ -96,7 +96,7 @@ enough (suc m) (suc n) s xs h a b =
     (λ s2 ys h2 lt. enough m n s2 ys h2 (omega arith) (omega arith))
 
 -- between rows the rows that are left are those of the text that is left
-rows-left : (n : ℕ) (s : State) (xs : List ℕ) → IsBetween s → length xs < n → records_from default_config n s xs ≡ rows_in xs
+rows-left : (n : ℕ) (s : State) (xs : List ℕ) → IsBetweenRows s → length xs < n → records_from default_config n s xs ≡ rows_in xs
 unfolding records_from rows_in
 rows-left zero s xs h a = absurd (omega arith)
 rows-left (suc n) s xs h a = rw (between-same s xs h) (enough (suc n) (length xs + 1) st.StartRecord xs (inl refl) a (omega arith))
@@ -153,6 +153,6 @@ turn-run b at fields field rest run behind after n same runs e f g = same ∙ ru
 
 -- the end of the text, as the code names its parts
 pub turn-end : (b : List ℕ) (at : Position) (fields : List (List ℕ)) (field behind : List ℕ) (after : List (List ℕ)) (found : Bool)
-    → row_from position.Row [] [] b ≡ row_from at fields field behind → behind ≡ [] → Ends at fields field found after
+    → row_from position.Row [] [] b ≡ row_from at fields field behind → behind ≡ [] → EndsRow at fields field found after
     → row_from position.Row [] [] b ≡ (if found then Some (after, st.StartRecord, []) else None)
 turn-end b at fields field behind after found same e ends = same ∙ rw e ends

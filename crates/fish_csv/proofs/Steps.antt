@@ -7,7 +7,7 @@ use Rattle.csv.specs.Reading.{default_config}
 use Rattle.csv.specs.declared.parser.State.{State}
 use Rattle.csv.specs.declared.parser.State.TheVariants as st
 use Rattle.csv.proofs.RoundTrip.{after-quote-same, record-same, start-same}
-use Rattle.fish_csv.specs.within.Machine.{Advances, IsBetween, row_from}
+use Rattle.fish_csv.specs.within.Machine.{ReadsNextField, IsBetweenRows, row_from}
 use Rattle.fish_csv.specs.declared.machine.Position.{Position}
 use Rattle.fish_csv.specs.declared.machine.Position.TheVariants as position
 
@@ -30,7 +30,8 @@ plain-comma c fields field rest e = rw e refl
 
 -- a line end ends the row
 pub plain-end : (c : ℕ) (fields : List (List ℕ)) (field rest : List ℕ) → (c == 13 || c == 10) ≡ true
-    → (s : State) × IsBetween s × (next_record default_config st.InField fields field (c ∷ rest) ≡ Some (fields ++ (field ∷ []), s, rest))
+    → (s : State) × IsBetweenRows s × (next_record default_config st.InField fields field (c ∷ rest)
+    ≡ Some (fields ++ (field ∷ []), s, rest))
 unfolding next_record
 plain-end c fields field rest e = elim (either (c == 13) (c == 10) e) [
   | inl cr ↦ (st.AfterCr, inr refl, rw (eqb-true c 13 cr) refl)
@@ -95,19 +96,19 @@ row-other c fields field rest e =
     record-same fields field c rest q.0 q.1
 
 -- what one byte does at a position it does at each position that takes it alike
-pub Advances-as : (at to : Position) (c : ℕ) (fields : List (List ℕ)) (field : List ℕ) (o : Option Position)
+pub ReadsNextField-as : (at to : Position) (c : ℕ) (fields : List (List ℕ)) (field : List ℕ) (o : Option Position)
     (after : List (List ℕ)) (next : List ℕ)
     → ((rest : List ℕ) → row_from at fields field (c ∷ rest) ≡ row_from to fields field (c ∷ rest))
-    → Advances to c fields field o after next → Advances at c fields field o after next
-Advances-as at to c fields field None after next same h = λ rest. let x = h rest in (x.0, x.1, same rest ∙ x.2)
-Advances-as at to c fields field (Some p) after next same h = λ rest. same rest ∙ h rest
+    → ReadsNextField to c fields field o after next → ReadsNextField at c fields field o after next
+ReadsNextField-as at to c fields field None after next same h = λ rest. let x = h rest in (x.0, x.1, same rest ∙ x.2)
+ReadsNextField-as at to c fields field (Some p) after next same h = λ rest. same rest ∙ h rest
 
 -- the same of a call's answer
 pub IfOk-as : {E : Type 0} (r : Result (Option Position) E) (at to : Position) (c : ℕ) (fields : List (List ℕ))
     (field : List ℕ) (after : List (List ℕ)) (next : List ℕ)
     → ((rest : List ℕ) → row_from at fields field (c ∷ rest) ≡ row_from to fields field (c ∷ rest))
-    → IfOk r (λ o. Advances to c fields field o after next) → IfOk r (λ o. Advances at c fields field o after next)
-IfOk-as (Ok o) at to c fields field after next same h = Advances-as at to c fields field o after next same h
+    → IfOk r (λ o. ReadsNextField to c fields field o after next) → IfOk r (λ o. ReadsNextField at c fields field o after next)
+IfOk-as (Ok o) at to c fields field after next same h = ReadsNextField-as at to c fields field o after next same h
 IfOk-as (Err e) at to c fields field after next same h = tt
 
 -- before a row the end of the text ends none, elsewhere it ends one

@@ -29,14 +29,14 @@ unfoldable pub row_of : List ℕ → Option (List (List ℕ))
 row_of b = if nat_le (length b) longest_payload then row_reading b else None
 
 -- the position, from 0, that a number from 1 on stands for
-abbrev pub position_of : ℤ → Option ℕ
-position_of (pos zero) = None
-position_of (pos (suc n)) = Some n
-position_of (negsuc n) = None
+abbrev pub column_position : ℤ → Option ℕ
+column_position (pos zero) = None
+column_position (pos (suc n)) = Some n
+column_position (negsuc n) = None
 
 -- the position of the column that a name is, `$` and a number
 abbrev pub column_of : List ℕ → Option ℕ
-column_of name = if slice_index name 0 == 36 then option_and_then position_of (int_of (drop 1 name)) else None
+column_of name = if slice_index name 0 == 36 then option_and_then column_position (int_of (drop 1 name)) else None
 
 -- the position of the column that a path of one name is; a longer path is none
 abbrev pub column_at : List (List ℕ) → Option ℕ
@@ -50,15 +50,15 @@ int_or_text (Some n) text = kind.Int n
 int_or_text None text = kind.Text text
 
 -- what was found as a field: Missing where nothing was
-abbrev pub field_of : Option (List ℕ) → Field
-field_of None = kind.Missing
-field_of (Some text) = int_or_text (int_of text) text
+abbrev pub csv_field_of : Option (List ℕ) → Field
+csv_field_of None = kind.Missing
+csv_field_of (Some text) = int_or_text (int_of text) text
 
 -- what a row that was read has at a path
-unfoldable pub field_in : List (List ℕ) → List (List ℕ) → Field
-field_in path fields = field_of (option_and_then (field_at fields) (column_at path))
+unfoldable pub csv_field_in : List (List ℕ) → List (List ℕ) → Field
+csv_field_in path fields = csv_field_of (option_and_then (field_at fields) (column_at path))
 
 -- what a payload has at a path: Missing where the bytes are no row
-unfoldable pub field : List ℕ → List (List ℕ) → Field
-field payload path =
-    field_of (option_and_then (λ fields. option_and_then (field_at fields) (column_at path)) (row_of payload))
+unfoldable pub csv_field : List ℕ → List (List ℕ) → Field
+csv_field payload path =
+    csv_field_of (option_and_then (λ fields. option_and_then (field_at fields) (column_at path)) (row_of payload))

@@ -1,6 +1,5 @@
 -- The rows of a file in CSV, by the whole list of its bytes.
-use Rattle.std.specs.Prelude.{ℕ, ◌-◌, List, length, take, drop, map, Bool, Option, Some, None, is_some, is_none, count_by, if◌then◌else◌}
-use Rattle.std.specs.List.{filter_map}
+use Rattle.std.specs.Prelude.{ℕ, ◌-◌, List, length, take, drop, map, Bool, Option, Some, None, is_some, if◌then◌else◌}
 use Rattle.csv.specs.Reading.{strip_bom}
 use Rattle.csv.specs.Writing.{default_writer, row_text}
 use Rattle.fish_csv.specs.Reading.{row_of, rows_in}
@@ -14,25 +13,17 @@ abbrev pub kept : List ℕ → Option (List ℕ)
 kept text = if is_some (row_of text) then Some text else None
 
 -- a row's payload is its text, where that is a row again
-unfoldable pub payload_of : List (List ℕ) → Option (List ℕ)
-payload_of fields = kept (stored_text fields)
+unfoldable pub payload_of_row : List (List ℕ) → Option (List ℕ)
+payload_of_row fields = kept (stored_text fields)
 
 -- the rows after the header, where there is to be one
 abbrev pub without_header : Bool → List (List (List ℕ)) → List (List (List ℕ))
 without_header header rows = if header then drop 1 rows else rows
 
 -- of each row after the header its payload, or none where it is refused
-abbrev pub outcomes_of : Bool → List (List (List ℕ)) → List (Option (List ℕ))
-outcomes_of header rows = map payload_of (without_header header rows)
+abbrev pub row_outcomes_of : Bool → List (List (List ℕ)) → List (Option (List ℕ))
+row_outcomes_of header rows = map payload_of_row (without_header header rows)
 
 -- of each row of a file its payload, or none where it is refused; a byte order mark before the file counts nowhere
-unfoldable pub outcomes : Bool → List ℕ → List (Option (List ℕ))
-outcomes header b = outcomes_of header (rows_in (strip_bom b))
-
--- the payloads that were accepted, in order
-abbrev pub accepted : List (Option (List ℕ)) → List (List ℕ)
-accepted os = filter_map (λ o. o) os
-
--- how many rows were refused
-abbrev pub refused : List (Option (List ℕ)) → ℕ
-refused os = count_by is_none os
+unfoldable pub row_outcomes : Bool → List ℕ → List (Option (List ℕ))
+row_outcomes header b = row_outcomes_of header (rows_in (strip_bom b))

@@ -5,7 +5,7 @@ ghost use Rattle.std.specs.List.{list_all};
 ghost use Rattle.std.specs.Str.{is_utf8};
 ghost use Rattle.csv.specs.Records.{fields_of};
 ghost use Rattle.fish_value.specs.Seen.{field_seen};
-ghost use Rattle.fish_csv.specs.Reading.{column_at, column_of, field_in, field_of, position_of};
+ghost use Rattle.fish_csv.specs.Reading.{column_at, column_of, csv_field_in, csv_field_of, column_position};
 
 use crate::bytes::first_and_rest;
 use csv::ByteRecord;
@@ -14,7 +14,7 @@ use fish_value::{FieldView, Path, read_int};
 /// What a row has at a path, its text borrowed.
 pub(crate) fn field_at<'r>(row: &'r ByteRecord, path: &Path) -> FieldView<'r>
     requires { list_all is_utf8 (fields_of row.now) ≡ true }
-    ensures { field_seen result ≡ field_in path.now (fields_of row.now) }
+    ensures { field_seen result ≡ csv_field_in path.now (fields_of row.now) }
 {
     let Some(position) = find_column(path) else {
         return FieldView::Missing;
@@ -49,7 +49,7 @@ fn column_named(name: &[u8]) -> Option<usize>
 
 /// The position that a number from 1 on stands for.
 fn to_position(number: i64) -> Option<usize>
-    ensures { result ≡ position_of number }
+    ensures { result ≡ column_position number }
 {
     if number < 1 {
         return None;
@@ -60,7 +60,7 @@ fn to_position(number: i64) -> Option<usize>
 /// A text as a field. It is borrowed where it is no whole number.
 fn to_field(text: &[u8]) -> FieldView<'_>
     requires { is_utf8 text.now ≡ true }
-    ensures { field_seen result ≡ field_of (Some text.now) }
+    ensures { field_seen result ≡ csv_field_of (Some text.now) }
 {
     if let Some(number) = read_int(text) {
         return FieldView::Int(number);

@@ -5,9 +5,10 @@ ghost use Rattle.std.specs.Prelude.{OnOk, IfSome, IsErrOf, MatchOption};
 ghost use Rattle.std.specs.List.{list_any};
 ghost use Rattle.csv.specs.Records.{fields_of};
 ghost use Rattle.fish_value.specs.Limits.{longest_file};
-ghost use Rattle.fish_csv.specs.Left.{left};
+ghost use Rattle.fish_csv.specs.Left.{rows_left};
 ghost use Rattle.fish_csv.specs.Reading.{rows_in};
-ghost use Rattle.fish_csv.specs.Rows.{accepted, kept, outcomes, outcomes_of, refused as refused_of, without_header};
+ghost use Rattle.fish_csv.specs.Rows.{kept, row_outcomes, row_outcomes_of, without_header};
+ghost use Rattle.fish_value.specs.Outcomes.{accepted, refused as refused_of};
 ghost use Rattle.fish_csv.specs.within.Turns.{IsStored, TakesRow, ends_line, is_mark};
 
 use crate::bytes::{without_ends, without_mark};
@@ -51,8 +52,8 @@ pub struct CsvRows {
 
 /// Reads a file's rows, in one pass. With `header` the first row is dropped.
 pub fn rows(alloc: Global, b: &[u8], header: bool) -> Result<CsvRows, CsvRefusal>
-    ensures texts { IfOk result (λ found. found.texts ≡ accepted (outcomes header b.now)) }
-    ensures refused { IfOk result (λ found. found.refused ≡ refused_of (outcomes header b.now)) }
+    ensures texts { IfOk result (λ found. found.texts ≡ accepted (row_outcomes header b.now)) }
+    ensures refused { IfOk result (λ found. found.refused ≡ refused_of (row_outcomes header b.now)) }
 
     ensures length { OnOk result (length b.now ≤ longest_file) }
     ensures too_long { IsErrOf result CsvRefusal.FileTooLong ↔ (longest_file < length b.now) }
@@ -64,8 +65,8 @@ pub fn rows(alloc: Global, b: &[u8], header: bool) -> Result<CsvRows, CsvRefusal
 /// All rows that are left of a file.
 fn all_rows(alloc: Global, texts: &mut RowTexts<'_>) -> Result<CsvRows, AllocError>
     requires { length texts.old.rest.now ≤ longest_file }
-    ensures texts { IfOk result (λ found. found.texts ≡ accepted (left texts.old)) }
-    ensures refused { IfOk result (λ found. found.refused ≡ refused_of (left texts.old)) }
+    ensures texts { IfOk result (λ found. found.texts ≡ accepted (rows_left texts.old)) }
+    ensures refused { IfOk result (λ found. found.refused ≡ refused_of (rows_left texts.old)) }
 {
     let mut found = CsvRows::new(alloc);
     while let Some(outcome) = texts.next_row(alloc)? {
@@ -83,9 +84,9 @@ pub struct RowTexts<'b> {
 
 impl<'b> RowTexts<'b> {
     /// Stands before the first row, with `header` after it. A byte order mark at the file's start is dropped.
-    #[tactic(auto, unfolding(crate::specs::Left::left))]
+    #[tactic(auto, unfolding(crate::specs::Left::rows_left))]
     pub fn new(alloc: Global, b: &'b [u8], header: bool) -> Result<RowTexts<'b>, CsvRefusal>
-        ensures rows { IfOk result (λ texts. left texts ≡ outcomes header b.now) }
+        ensures rows { IfOk result (λ texts. rows_left texts ≡ row_outcomes header b.now) }
         ensures within { IfOk result (λ texts. length texts.rest.now ≤ length b.now) }
 
         ensures length { OnOk result (length b.now ≤ longest_file) }
@@ -118,10 +119,10 @@ impl<'b> RowTexts<'b> {
     }
 
     /// The payload of the next row, or none where the row is refused.
-    #[tactic(auto, unfolding(crate::specs::Left::left))]
+    #[tactic(auto, unfolding(crate::specs::Left::rows_left))]
     pub fn next_row(&mut self, alloc: Global) -> Result<Option<Option<Text>>, AllocError>
-        ensures rows { IfOk result (λ row. MatchOption row (left self.old ≡ []) (λ outcome.
-            left self.old ≡ outcome ∷ left self.new)) }
+        ensures rows { IfOk result (λ row. MatchOption row (rows_left self.old ≡ []) (λ outcome.
+            rows_left self.old ≡ outcome ∷ rows_left self.new)) }
         ensures shorter { IfOk result (λ row. IfSome row (λ _. length self.new.rest.now < length self.old.rest.now)) }
         ensures stays { length self.new.rest.now ≤ length self.old.rest.now }
     {

@@ -5,7 +5,7 @@ ghost use Rattle.std.specs.Prelude.{IsTrue, ◌==◌, ◌||◌, ℕ, List};
 ghost use Rattle.csv.specs.Machine.{Runs};
 ghost use Rattle.csv.specs.Reading.{default_config};
 ghost use Rattle.csv.specs.Records.{fields_of, partial_of};
-ghost use Rattle.fish_csv.specs.within.Machine.{Advances, Ends, state_of};
+ghost use Rattle.fish_csv.specs.within.Machine.{ReadsNextField, EndsRow, state_of};
 ghost use Rattle.fish_csv.specs.Reading.{only, rows_in};
 
 use crate::bytes::{first_and_rest, is_line_end};
@@ -81,7 +81,7 @@ fn advance(
 ) -> Result<Option<Position>, AllocError>
     requires { partial_of row.old ≡ [] }
     ensures goes { IfOk result (λ next.
-        Advances position c (fields_of row.old) field.old.items next (fields_of row.new) field.new.items) }
+        ReadsNextField position c (fields_of row.old) field.old.items next (fields_of row.new) field.new.items) }
     ensures whole { OnOk result (partial_of row.new ≡ []) }
 {
     match position {
@@ -111,7 +111,7 @@ fn advance_field(
 ) -> Result<Option<Position>, AllocError>
     requires { partial_of row.old ≡ [] }
     ensures goes { IfOk result (λ next.
-        Advances Position.Field c (fields_of row.old) field.old.items next (fields_of row.new) field.new.items) }
+        ReadsNextField Position.Field c (fields_of row.old) field.old.items next (fields_of row.new) field.new.items) }
     ensures whole { OnOk result (partial_of row.new ≡ []) }
 {
     if c == b'"' {
@@ -123,7 +123,7 @@ fn advance_field(
 /// The same between quotes.
 fn advance_quoted(c: u8, field: &mut Vec<u8>) -> Result<Option<Position>, AllocError>
     ensures { (fields : List (List ℕ)) → IfOk result (λ next.
-        Advances Position.Quoted c fields field.old.items next fields field.new.items) }
+        ReadsNextField Position.Quoted c fields field.old.items next fields field.new.items) }
 {
     if c == b'"' {
         return Ok(Some(Position::Closed));
@@ -135,7 +135,7 @@ fn advance_quoted(c: u8, field: &mut Vec<u8>) -> Result<Option<Position>, AllocE
 /// The same for the second of two quotes, which stands for one.
 fn advance_doubled(field: &mut Vec<u8>) -> Result<Option<Position>, AllocError>
     ensures { (fields : List (List ℕ)) → IfOk result (λ next.
-        Advances Position.Closed 34 fields field.old.items next fields field.new.items) }
+        ReadsNextField Position.Closed 34 fields field.old.items next fields field.new.items) }
 {
     field.push(b'"')?;
     Ok(Some(Position::Quoted))
@@ -149,7 +149,7 @@ fn advance_plain(
 ) -> Result<Option<Position>, AllocError>
     requires { partial_of row.old ≡ [] }
     ensures goes { IfOk result (λ next.
-        Advances Position.Plain c (fields_of row.old) field.old.items next (fields_of row.new) field.new.items) }
+        ReadsNextField Position.Plain c (fields_of row.old) field.old.items next (fields_of row.new) field.new.items) }
     ensures whole { OnOk result (partial_of row.new ≡ []) }
 {
     if c == b',' {
@@ -179,7 +179,7 @@ fn end_field(row: &mut ByteRecord, field: &mut Vec<u8>) -> Result<(), AllocError
 /// Takes the end of the text, and answers whether a row ended there.
 fn finish(position: Position, row: &mut ByteRecord, field: &mut Vec<u8>) -> Result<bool, AllocError>
     requires { partial_of row.old ≡ [] }
-    ensures { IfOk result (λ found. Ends position (fields_of row.old) field.old.items found (fields_of row.new)) }
+    ensures { IfOk result (λ found. EndsRow position (fields_of row.old) field.old.items found (fields_of row.new)) }
 {
     match position {
         Position::Row => Ok(false),

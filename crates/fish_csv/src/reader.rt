@@ -6,7 +6,7 @@ ghost use Rattle.std.specs.Str.{is_utf8};
 ghost use Rattle.csv.specs.Records.{fields_of};
 ghost use Rattle.fish_value.specs.Limits.{longest_payload};
 ghost use Rattle.fish_value.specs.Seen.{field_seen};
-ghost use Rattle.fish_csv.specs.Reading.{field_in, row_of, row_reading};
+ghost use Rattle.fish_csv.specs.Reading.{csv_field_in, row_of, row_reading};
 
 use crate::column::field_at;
 use crate::record::CsvRecordRefusal;
@@ -68,14 +68,14 @@ impl<'r> CsvRow<'r> {
     /// whole number of 64 bits is [`FieldView::Int`], any other text is [`FieldView::Text`]. It takes
     /// no memory.
     pub fn look(&self, path: &Path) -> FieldView<'_>
-        ensures { field_seen result ≡ field_in path.now (row_fields self.now) }
+        ensures { field_seen result ≡ csv_field_in path.now (row_fields self.now) }
     {
         field_at(self.row, path)
     }
 
     /// The same, its text copied.
     pub fn get(&self, alloc: Global, path: &Path) -> Result<Field, AllocError>
-        ensures { IfOk result (λ field. field ≡ field_in path.now (row_fields self.now)) }
+        ensures { IfOk result (λ field. field ≡ csv_field_in path.now (row_fields self.now)) }
     {
         self.look(path).to_field(alloc)
     }

@@ -19,20 +19,20 @@ use Rattle.fish_rule.proofs.laws.Versions.{definitions_next, length_registered, 
 use Rattle.fish_rule.specs.RegistrySteps.{after_load_registry}
 use Rattle.fish_rule.specs.Logs.{Learns}
 use Rattle.fish_rule.specs.Registry.{HasRead, KnowsDefinitions, KnowsRow, definitions_at, made, op_at, row_at, row_in}
-use Rattle.fish_rule.specs.Table.{Stands}
+use Rattle.fish_rule.specs.Table.{IsOfMoment}
 use Rattle.fish_rule.specs.Views.{Among}
 use Rattle.fish_rule.specs.declared.view.Key.{Key}
 use Rattle.fish_rule.specs.declared.view.RegistryWord.{RegistryWord}
 use Rattle.fish_rule.specs.declared.view.View.{View}
 use Rattle.fish_epoch.specs.Definitions.{IsKnownOf, version_of}
-use Rattle.fish_epoch.specs.Rows.{OnlyReads}
+use Rattle.fish_epoch.specs.Rows.{OnlyLearns}
 use Rattle.fish_epoch.specs.within.Rows.{HasRow, HasRowWords}
 use Rattle.fish_epoch.specs.declared.definitions.Known.{Known}
 
 -- ---- views
 
 -- and what only reads of what only reads
-pub reads_both : (a b c : View) → OnlyReads a b → OnlyReads b c → OnlyReads a c
+pub reads_both : (a b c : View) → OnlyLearns a b → OnlyLearns b c → OnlyLearns a c
 reads_both a b c e f = record {
   extends = extends_both a b c e.extends f.extends;
   version = f.version ∙ e.version;
@@ -42,8 +42,8 @@ reads_both a b c e f = record {
 }
 
 -- a load of a word that lasts
-pub reads_word : (v u : View) (p x : ℕ) → u ≡ after_load_registry v p x → OnlyReads v u
-reads_word v u p x e = subst (OnlyReads v) (sym e) (record {
+pub reads_word : (v u : View) (p x : ℕ) → u ≡ after_load_registry v p x → OnlyLearns v u
+reads_word v u p x e = subst (OnlyLearns v) (sym e) (record {
   extends = record {
     learns = assumption (learns_self v, ahead (record { index = p; value = x }) v.learned.words);
     clock = later_ticked v.clock;
@@ -158,13 +158,13 @@ row_read u id f l words is g read = is ∙ listed_same f (row_in g id) id true (
 -- ---- the rows of the start
 
 -- each row of the start has its position as its id
-start_ids : (v : View) → Stands v → (id : ℕ) (row : CatRow) → slice_get v.about.rows.value id ≡ Some row → row.id ≡ id
+start_ids : (v : View) → IsOfMoment v → (id : ℕ) (row : CatRow) → slice_get v.about.rows.value id ≡ Some row → row.id ≡ id
 start_ids v s id row there =
     (s.rule.registry.versions.listings 0 (omega arith)).ids id (listed_of row)
     (slice_get-map listed_of v.about.rows.value id ∙ ap (option_map listed_of) there)
 
 -- the words of a row of the start spell its definition
-pub first_listed : (v u : View) (id : ℕ) (f : ℕ → ℕ) (l : Listed) (active : Bool) → Stands v → u.about ≡ v.about
+pub first_listed : (v u : View) (id : ℕ) (f : ℕ → ℕ) (l : Listed) (active : Bool) → IsOfMoment v → u.about ≡ v.about
     → id < length v.about.rows.value → HasRowWords u id 39 f → active ≡ was_active (f 2) → l ≡ listed_in f id active
     → slice_get (map listed_of v.about.rows.value) id ≡ Some l
 first_listed v u id f l active s about less words on is =
@@ -243,6 +243,6 @@ operation_read v u p x e = subst (λ (z : View). Among (record { index = p; valu
 -- ---- by their laws
 
 -- definitions that are known are a listing
-pub known_listing : (v : View) (n : ℕ) (ls : List Listed) → Stands v
+pub known_listing : (v : View) (n : ℕ) (ls : List Listed) → IsOfMoment v
     → KnowsDefinitions v.about v.learned n ls → IsListing ls
 known_listing = listing_law

@@ -4,7 +4,7 @@ use Rattle.fish_rule.specs.Logs.{Extends}
 use Rattle.fish_rule.specs.declared.view.View.{View}
 
 -- the second view is the first but for what it learned of the registry since; no word of the log was loaded
-pub record OnlyReads (v u : View) : Type 0 where
+pub record OnlyLearns (v u : View) : Type 0 where
   pub extends : Extends v u
   pub version : u.learned.version ≡ v.learned.version
   pub count : u.learned.count ≡ v.learned.count

@@ -4,7 +4,7 @@ ghost use Rattle.std.specs.Prelude.{◌≡◌, ◌≤◌, All, IfOk, OnErr, OnOk
 ghost use Rattle.fish_catalog.specs.Canonical.{IsCanonical};
 ghost use Rattle.fish_catalog.specs.Listing.{IsListing, active_texts};
 ghost use Rattle.fish_rule.specs.Keys.{IsWritten, text_of};
-ghost use Rattle.fish_epoch.specs.Rows.{OnlyReads};
+ghost use Rattle.fish_epoch.specs.Rows.{OnlyLearns};
 ghost use Rattle.fish_rule.specs.Passes.{IsPassOf, view};
 
 use crate::rows::read_rows;
@@ -73,7 +73,7 @@ impl Defs {
         requires reached { version ≤ (view pass.old).learned.version }
         requires defs { IsDefsOf (view pass.old) self.old }
         ensures pass { IsPassOf log.now pass.new }
-        ensures reads { OnlyReads (view pass.old) (view pass.new) }
+        ensures reads { OnlyLearns (view pass.old) (view pass.new) }
         ensures read { OnOk result (AreRead (view pass.new) self.new.known) }
         ensures version { OnOk result (version_of self.new.known ≡ version) }
         ensures once { self.old.known.read ≡ true → version_of self.old.known ≡ version
@@ -129,7 +129,7 @@ impl Known {
         requires reached { version ≤ (view pass.old).learned.version }
         requires defs { IsKnownOf (view pass.old) self.old }
         ensures pass { IsPassOf log.now pass.new }
-        ensures reads { OnlyReads (view pass.old) (view pass.new) }
+        ensures reads { OnlyLearns (view pass.old) (view pass.new) }
         ensures read { OnOk result (AreRead (view pass.new) self.new) }
         ensures version { OnOk result (version_of self.new ≡ version) }
         ensures once { self.old.read ≡ true → version_of self.old ≡ version → view pass.new ≡ view pass.old }

@@ -3,7 +3,7 @@
 
 ghost use Rattle.std.specs.Prelude.{◌≡◌, ◌<◌, ◌≤◌, ℕ, suc, IfOk, OnOk, Some, length, map, slice_get, slice_index};
 ghost use Rattle.fish_catalog.specs.Listing.{IsListing, ended_at, listed_of};
-ghost use Rattle.fish_epoch.specs.Rows.{OnlyReads};
+ghost use Rattle.fish_epoch.specs.Rows.{OnlyLearns};
 ghost use Rattle.fish_epoch.specs.within.Rows.{HasRow, HasRowWords};
 ghost use Rattle.fish_rule.specs.Passes.{IsPassOf, view};
 ghost use Rattle.fish_rule.specs.Registry.{KnowsDefinitions, KnowsRow};
@@ -24,7 +24,7 @@ pub(crate) fn read_rows(
     requires from { log.now.key.version ≤ version }
     requires reached { version ≤ (view pass.old).learned.version }
     ensures pass { IsPassOf log.now pass.new }
-    ensures reads { OnlyReads (view pass.old) (view pass.new) }
+    ensures reads { OnlyLearns (view pass.old) (view pass.new) }
     ensures rows { IfOk result (λ rows.
         KnowsDefinitions (view pass.new).about (view pass.new).learned version rows.items) }
 {
@@ -40,7 +40,7 @@ pub(crate) fn read_rows(
 fn first_rows(alloc: Global, log: &Log, pass: &mut Pass) -> Result<Vec<Listed>, AllocError>
     requires pass { IsPassOf log.now pass.old }
     ensures pass { IsPassOf log.now pass.new }
-    ensures reads { OnlyReads (view pass.old) (view pass.new) }
+    ensures reads { OnlyLearns (view pass.old) (view pass.new) }
     ensures rows { IfOk result (λ rows. rows.items ≡ map listed_of (view pass.old).about.rows.value) }
 {
     let count = load_opened(log, pass);
@@ -56,7 +56,7 @@ fn first_row(alloc: Global, log: &Log, pass: &mut Pass, id: u64) -> Result<Liste
     requires pass { IsPassOf log.now pass.old }
     requires there { id < length (view pass.old).about.rows.value }
     ensures pass { IsPassOf log.now pass.new }
-    ensures reads { OnlyReads (view pass.old) (view pass.new) }
+    ensures reads { OnlyLearns (view pass.old) (view pass.new) }
     ensures row { IfOk result (λ l. slice_get (map listed_of (view pass.old).about.rows.value) id ≡ Some l) }
 {
     let words = read_words(log, pass, id);
@@ -76,7 +76,7 @@ fn make(
     requires reached { version < (view pass.old).learned.version }
     requires rows { KnowsDefinitions (view pass.old).about (view pass.old).learned version rows.old.items }
     ensures pass { IsPassOf log.now pass.new }
-    ensures reads { OnlyReads (view pass.old) (view pass.new) }
+    ensures reads { OnlyLearns (view pass.old) (view pass.new) }
     ensures rows { OnOk result (KnowsDefinitions (view pass.new).about (view pass.new).learned
         (suc version) rows.new.items) }
 {
@@ -95,7 +95,7 @@ fn registered_row(alloc: Global, log: &Log, pass: &mut Pass, id: u64) -> Result<
     requires pass { IsPassOf log.now pass.old }
     requires row { KnowsRow (view pass.old).about (view pass.old).learned id }
     ensures pass { IsPassOf log.now pass.new }
-    ensures reads { OnlyReads (view pass.old) (view pass.new) }
+    ensures reads { OnlyLearns (view pass.old) (view pass.new) }
     ensures row { IfOk result (HasRow (view pass.new) id) }
 {
     let words = read_words(log, pass, id);
@@ -119,7 +119,7 @@ fn read_words(log: &Log, pass: &mut Pass, id: u64) -> [u64; ROW_WORDS]
     requires pass { IsPassOf log.now pass.old }
     requires row { KnowsRow (view pass.old).about (view pass.old).learned id }
     ensures pass { IsPassOf log.now pass.new }
-    ensures reads { OnlyReads (view pass.old) (view pass.new) }
+    ensures reads { OnlyLearns (view pass.old) (view pass.new) }
     ensures words { HasRowWords (view pass.new) id 39 (slice_index result) }
 {
     let mut words = [0; ROW_WORDS];

@@ -5,7 +5,7 @@ use Rattle.std.specs.Prelude.{IfSome}
 use Rattle.fish_feed.proofs.Queues.{queue_on}
 use Rattle.fish_feed.proofs.Reading.{on_none}
 use Rattle.fish_feed.specs.OpenFiles.{CanRead}
-use Rattle.fish_feed.specs.Queues.{AreFit, AreFitTodos, HasQueue, IsFit, IsQueue, current_left, left_of, left_of_all, todos_left}
+use Rattle.fish_feed.specs.Queues.{AreFit, AreFitTodos, HasQueue, IsFitQueue, IsQueue, current_left, left_of, left_of_all, todos_left}
 use Rattle.fish_feed.specs.Works.{Triples}
 use Rattle.fish_feed.specs.declared.part.OpenFile.{OpenFile}
 use Rattle.fish_feed.specs.declared.queue.Queue.{Queue}
@@ -29,7 +29,7 @@ module _ {F : Type 0} (left : F → Option (List ℕ)) (faults : F → ℕ) wher
       by (Some o) d more k = subst (λ (z : Option (OpenFile F)). HasQueue told left ss given z q.todos.items) (sym more.1)
           (queue_on left told ss given o more.0 q.todos.items k more.2)
 
-  one_fit : (first : Bool) (q r : Queue F) → IsReadOn left faults q r → IsFit faults first q → IsFit faults first r
+  one_fit : (first : Bool) (q r : Queue F) → IsReadOn left faults q r → IsFitQueue faults first q → IsFitQueue faults first r
   one_fit first q r on fit = record {
     current = by q.current r.current on.current fit.current;
     todos = subst (λ (z : List (Todo F)). AreFitTodos faults first z) (ap (λ (z : _). z.items) (sym on.todos_is)) fit.todos;

@@ -2,8 +2,8 @@
 use Rattle.std.proofs.Common.{◌≡◌, ◌⊎◌, ℕ, List, [], ◌∷◌, ◌++◌, append_assoc, inl, inr, refl, sym, ap, ◌∙◌, subst}
 use Rattle.std.proofs.Common.{Bool, false, Option, None, Some, ◌+◌, ◌<◌, arith}
 use Rattle.std.specs.Prelude.{Err, IfErr, IfOk, IsErr, Ok, Result, option_to_list}
-use Rattle.fish_feed.specs.Queues.{AreFit, AreFitTodos, IsFit, IsFitTodo, IsQueue, MayDo, MayDoAll, MayEnd}
-use Rattle.fish_feed.specs.Works.{AreAnew, AreAnewAfterFirst, IsAnew, StoresNone, bytes_in, bytes_of}
+use Rattle.fish_feed.specs.Queues.{AreFit, AreFitTodos, IsFitQueue, IsFitTodo, IsQueue, MayDo, MayDoAll, MayEndFeed}
+use Rattle.fish_feed.specs.Works.{AreAnew, AreAnewAfterFirst, IsAnew, StoresNone, bytes_in_work, bytes_in_works}
 use Rattle.fish_feed.specs.declared.queue.Queue.{Queue}
 use Rattle.fish_feed.specs.declared.queue.Todo.{Todo}
 use Rattle.fish_lanes.specs.declared.work.Work.{Work}
@@ -20,7 +20,7 @@ may_push first (x ∷ ws) w h one = (h.0, may_push first ws w h.1 one)
 pub stores_anew : (w : Work) → StoresNone w → IsAnew w
 stores_anew w h = λ form name file. h form After name file
 
-pub stores_bytes : (w : Work) → StoresNone w → bytes_in w ≡ 0
+pub stores_bytes : (w : Work) → StoresNone w → bytes_in_work w ≡ 0
 stores_bytes (work.Register name def) h = refl
 stores_bytes (work.Deregister name) h = refl
 stores_bytes (work.Ingest form begin name file) h = absurd (h form begin name file refl)
@@ -33,7 +33,7 @@ anew_push [] w h one = (one, tt)
 anew_push (x ∷ ws) w h one = (h.0, anew_push ws w h.1 one)
 
 -- the bytes of one more
-pub bytes_push : (ws : List Work) (w : Work) → bytes_of (ws ++ w ∷ []) ≡ bytes_of ws + bytes_in w
+pub bytes_push : (ws : List Work) (w : Work) → bytes_in_works (ws ++ w ∷ []) ≡ bytes_in_works ws + bytes_in_work w
 bytes_push [] w = omega arith
 bytes_push (x ∷ ws) w = (let more = bytes_push ws w in omega (more, arith))
 
@@ -77,14 +77,14 @@ module _ {F : Type 0} (faults : F → ℕ) where
   todos_push first (x ∷ ts) t h one = (h.0, todos_push first ts t h.1 one)
 
   -- a queue more, which is the first one or another
-  pub fit_push : (first : Bool) (qs : List (Queue F)) (q : Queue F) → AreFit faults first qs → IsFit faults (is_first first qs) q
+  pub fit_push : (first : Bool) (qs : List (Queue F)) (q : Queue F) → AreFit faults first qs → IsFitQueue faults (is_first first qs) q
       → AreFit faults first (qs ++ q ∷ [])
   fit_push first [] q h one = (one, tt)
-  fit_push first (x ∷ qs) q h one = (h.0, fit_push false qs q h.1 (subst (λ (b : Bool). IsFit faults b q) (sym (never_first qs)) one))
+  fit_push first (x ∷ qs) q h one = (h.0, fit_push false qs q h.1 (subst (λ (b : Bool). IsFitQueue faults b q) (sym (never_first qs)) one))
 
 module _ {F : Type 0} (told : Option Files) (left : F → Option (List ℕ)) (ss : List Statement) (given : List Work) (q : Queue F) where
   -- these works may be lost
-  pub may_queue : (ws : List Work) → IsQueue told left ss (given ++ ws) q → MayEnd told left ss given q
+  pub may_queue : (ws : List Work) → IsQueue told left ss (given ++ ws) q → MayEndFeed told left ss given q
   may_queue ws h = (ws, inl h)
 
 -- ---- results

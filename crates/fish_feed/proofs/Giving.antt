@@ -4,11 +4,12 @@ use Rattle.std.proofs.Common.{length, get_or, inl, inr}
 use Rattle.std.proofs.Common.{append-nil, append_assoc, refl, sym, ap, ◌∙◌, subst, arith}
 use Rattle.std.specs.Prelude.{Err, IfSome, IsErrOf, IsSome, Result}
 use Rattle.fish_feed.proofs.Queues.{dones_later, queue_end, queue_later, queue_none}
-use Rattle.fish_feed.specs.Queues.{AreIdle, GoesDown, HasQueue, IsGiven, IsQueue, LanesMayDo, MayDoAll, MayEnd, both}
+use Rattle.fish_feed.specs.Queues.{AreIdle, GoesDown, HasQueue, IsGiven, IsQueue, LanesMayDo, MayDoAll, MayEndFeed, both}
 use Rattle.fish_feed.specs.Queues.{current_left, left_of, left_of_all, todos_left}
 use Rattle.fish_outside.specs.Reading.{HasReadCause}
 use Rattle.fish_feed.specs.Parts.{longest_given}
-use Rattle.fish_feed.specs.Works.{AreAnewAfterFirst, AreDone, AreFirstOf, Pairs, Triples, bytes_of}
+use Rattle.fish_feed.specs.Works.{AreAnewAfterFirst, AreStatementsDone, AreFirstOf, Triples, bytes_in_works}
+use Rattle.fish_script.specs.Laws.{Pairs}
 use Rattle.fish_feed.specs.declared.part.OpenFile.{OpenFile}
 use Rattle.fish_feed.specs.declared.queue.Queue.{Queue}
 use Rattle.fish_feed.specs.declared.queue.Todo.{Todo}
@@ -53,25 +54,25 @@ module _ {F : Type 0} (left : F → Option (List ℕ)) where
   queue_since old new still ss given q h = queue_later left old new still ss given q.current q.todos.items h
 
   pub end_since : (old new : Option Files) → SameFiles old new → (ss : List Statement) (given : List Work) (q : Queue F)
-      → MayEnd old left ss given q → MayEnd new left ss given q
+      → MayEndFeed old left ss given q → MayEndFeed new left ss given q
   end_since old new still ss given q h = (h.0, by h.1)
     where
-      by : IsQueue old left ss (given ++ h.0) q ⊎ AreDone old ss (given ++ h.0)
-          → IsQueue new left ss (given ++ h.0) q ⊎ AreDone new ss (given ++ h.0)
+      by : IsQueue old left ss (given ++ h.0) q ⊎ AreStatementsDone old ss (given ++ h.0)
+          → IsQueue new left ss (given ++ h.0) q ⊎ AreStatementsDone new ss (given ++ h.0)
       by (inl k) = inl (queue_since old new still ss (given ++ h.0) q k)
       by (inr k) = inr (dones_later old new still ss (given ++ h.0) k)
 
   -- what is to be given may end
   pub queue_may : (told : Option Files) (ss : List Statement) (given : List Work) (q : Queue F) → IsQueue told left ss given q
-      → MayEnd told left ss given q
+      → MayEndFeed told left ss given q
   queue_may told ss given q h = ([], inl (subst (λ (z : List Work). IsQueue told left ss z q) (sym (append-nil given)) h))
 
   -- the first was closed, and the others were
   pub closed_all : (old mid new : Option Files) → SameFiles old mid → SameFiles mid new → (q : Queue F) (qs : List (Queue F))
-      → ((ss : List Statement) (given : List Work) → MayEnd old left ss given q → AreFirstOf mid ss given)
-      → ((texts : List (List Statement)) (given : List (List Work)) → Triples (MayEnd mid left) texts given qs
+      → ((ss : List Statement) (given : List Work) → MayEndFeed old left ss given q → AreFirstOf mid ss given)
+      → ((texts : List (List Statement)) (given : List (List Work)) → Triples (MayEndFeed mid left) texts given qs
       → Pairs (AreFirstOf new) texts given)
-      → (texts : List (List Statement)) (given : List (List Work)) → Triples (MayEnd old left) texts given (q ∷ qs)
+      → (texts : List (List Statement)) (given : List (List Work)) → Triples (MayEndFeed old left) texts given (q ∷ qs)
       → Pairs (AreFirstOf new) texts given
   closed_all old mid new first then q qs one others [] [] h = elim h [ ]
   closed_all old mid new first then q qs one others [] (g ∷ given) h = elim h [ ]
@@ -80,26 +81,26 @@ module _ {F : Type 0} (left : F → Option (List ℕ)) where
       let end = one ss g h.0 in (
         (end.0, dones_later mid new then ss (g ++ end.0) end.1),
         others texts given
-            (triples_map (MayEnd old left) (MayEnd mid left) (λ s z x. end_since old mid first s z x) texts given qs h.1),
+            (triples_map (MayEndFeed old left) (MayEndFeed mid left) (λ s z x. end_since old mid first s z x) texts given qs h.1),
       )
 
   -- works may follow, where the feed went back of what was open
   pub first_of_end : (old new : Option Files) → SameFiles old new → (ss : List Statement) (given : List Work) (q : Queue F)
-      (c : Option (OpenFile F)) → q.current ≡ c → IfSome c (λ o. IsSome new → IsSome (left o.feed)) → MayEnd old left ss given q
+      (c : Option (OpenFile F)) → q.current ≡ c → IfSome c (λ o. IsSome new → IsSome (left o.feed)) → MayEndFeed old left ss given q
       → AreFirstOf new ss given
   first_of_end old new still ss given q c is feed h = by h.1
     where
-      by : IsQueue old left ss (given ++ h.0) q ⊎ AreDone old ss (given ++ h.0) → AreFirstOf new ss given
+      by : IsQueue old left ss (given ++ h.0) q ⊎ AreStatementsDone old ss (given ++ h.0) → AreFirstOf new ss given
       by (inl k) =
           let end = queue_end left old ss (given ++ h.0) new still c q.todos.items
           (subst (λ (z : Option (OpenFile F)). HasQueue old left ss (given ++ h.0) z q.todos.items) is k) feed in
-          (h.0 ++ end.0, subst (λ (z : List Work). AreDone new ss z) (append_assoc given h.0 end.0) end.1)
+          (h.0 ++ end.0, subst (λ (z : List Work). AreStatementsDone new ss z) (append_assoc given h.0 end.0) end.1)
       by (inr k) = (h.0, dones_later old new still ss (given ++ h.0) k)
 
   -- ---- nothing is left
 
   none_left : (told : Option Files) (ss : List Statement) (given : List Work) (c : Option (OpenFile F)) (todos : List (Todo F))
-      → current_left c + todos_left todos ≡ 0 → HasQueue told left ss given c todos → AreDone told ss given
+      → current_left c + todos_left todos ≡ 0 → HasQueue told left ss given c todos → AreStatementsDone told ss given
   none_left told ss given None [] none h = queue_none left told ss given h
   none_left told ss given None (todo.Work w ∷ todos) none h = absurd (omega (none, arith))
   none_left told ss given None (todo.File o ∷ todos) none h = absurd (omega (none, arith))
@@ -107,8 +108,8 @@ module _ {F : Type 0} (left : F → Option (List ℕ)) where
 
   -- where nothing is left of queues, all statements are done
   pub nones_left : (told : Option Files) (qs : List (Queue F)) → left_of_all qs ≡ 0 → (texts : List (List Statement))
-      (given : List (List Work)) → Triples (IsQueue told left) texts given qs → Pairs (AreDone told) texts given
-  nones_left told [] none texts given h = pairs_none (IsQueue told left) (AreDone told) texts given h
+      (given : List (List Work)) → Triples (IsQueue told left) texts given qs → Pairs (AreStatementsDone told) texts given
+  nones_left told [] none texts given h = pairs_none (IsQueue told left) (AreStatementsDone told) texts given h
   nones_left told (q ∷ qs) none [] [] h = elim h [ ]
   nones_left told (q ∷ qs) none [] (g ∷ given) h = elim h [ ]
   nones_left told (q ∷ qs) none (ss ∷ texts) [] h = elim h [ ]
@@ -168,7 +169,7 @@ idle_given (x ∷ lanes) h = (
     none = h.0;
     is = refl;
     one = subst AreAnewAfterFirst (sym h.0) tt;
-    few = subst (λ (ws : List Work). bytes_of ws ≤ longest_given) (sym h.0) (omega arith);
+    few = subst (λ (ws : List Work). bytes_in_works ws ≤ longest_given) (sym h.0) (omega arith);
   },
   idle_given lanes h.1,
 )

@@ -4,8 +4,8 @@ use Rattle.std.proofs.lemmas.Result.{on_err_weaker, on_ok_weaker}
 use Rattle.std.specs.Prelude.{Err, Ok, OnErr, OnOk, Result}
 use Rattle.std.specs.Result.{result_and}
 use Rattle.fish_feed.proofs.Giving.{both_down, cause_after, end_since, queue_may, queue_since, triples_map}
-use Rattle.fish_feed.specs.Giving.{Gives}
-use Rattle.fish_feed.specs.Queues.{GoesDown, IsFit, IsGiven, IsQueue, MayDoAll, MayEnd, both, left_of, left_of_all, works_of}
+use Rattle.fish_feed.specs.Giving.{GivesWorks}
+use Rattle.fish_feed.specs.Queues.{GoesDown, IsFitQueue, IsGiven, IsQueue, MayDoAll, MayEndFeed, both, left_of, left_of_all, works_of}
 use Rattle.fish_feed.specs.Works.{Triples}
 use Rattle.fish_feed.specs.declared.queue.Queue.{Queue}
 use Rattle.fish_lanes.specs.declared.lane.Lane.{Lane}
@@ -19,18 +19,18 @@ use Rattle.fish_script.specs.declared.script.Statement.{Statement}
 module _ {F : Type 0} (left : F → Option (List ℕ)) where
   -- lanes that were given works, or of which a read failed, may end
   pub gives_may : (faults : F → ℕ) (told new : Option Files) (old now : List (Queue F)) (before lanes : List Lane)
-      (r : Result (Unit {0}) FeedRefusal) → Gives left faults told new old now before lanes r → (texts : List (List Statement))
+      (r : Result (Unit {0}) FeedRefusal) → GivesWorks left faults told new old now before lanes r → (texts : List (List Statement))
       (given : List (List Work)) → Triples (IsQueue told left) texts given old
-      → Triples (MayEnd new left) texts (both given (works_of lanes)) now
+      → Triples (MayEndFeed new left) texts (both given (works_of lanes)) now
   gives_may faults told new old now before lanes r gives texts given h = by r gives.given gives.failed
     where
       Due : (List Statement → List Work → Queue F → Type 0) → Type 0
       Due R = (texts : List (List Statement)) (given : List (List Work)) → Triples (IsQueue told left) texts given old
           → Triples R texts (both given (works_of lanes)) now
 
-      by : (r : Result (Unit {0}) FeedRefusal) → OnOk r (Due (IsQueue new left)) → OnErr r (Due (MayEnd new left))
-          → Triples (MayEnd new left) texts (both given (works_of lanes)) now
-      by (Ok x) ok err = triples_map (IsQueue new left) (MayEnd new left) (λ s z q. queue_may left new s z q) texts
+      by : (r : Result (Unit {0}) FeedRefusal) → OnOk r (Due (IsQueue new left)) → OnErr r (Due (MayEndFeed new left))
+          → Triples (MayEndFeed new left) texts (both given (works_of lanes)) now
+      by (Ok x) ok err = triples_map (IsQueue new left) (MayEndFeed new left) (λ s z q. queue_may left new s z q) texts
           (both given (works_of lanes)) now (ok texts given h)
       by (Err e) ok err = err texts given h
 
@@ -54,11 +54,11 @@ module _ {F : Type 0} (left : F → Option (List ℕ)) where
 
       -- the first was or a read failed, and so of the others
       pub failed_all : (y : Lane) (ys : List Lane)
-          → ((ss : List Statement) (given : List Work) → IsQueue old left ss given q → MayEnd mid left ss (given ++ y.works) q')
+          → ((ss : List Statement) (given : List Work) → IsQueue old left ss given q → MayEndFeed mid left ss (given ++ y.works) q')
           → ((texts : List (List Statement)) (given : List (List Work)) → Triples (IsQueue mid left) texts given qs
-          → Triples (MayEnd new left) texts (both given (works_of ys)) qs')
+          → Triples (MayEndFeed new left) texts (both given (works_of ys)) qs')
           → (texts : List (List Statement)) (given : List (List Work)) → Triples (IsQueue old left) texts given (q ∷ qs)
-          → Triples (MayEnd new left) texts (both given (works_of (y ∷ ys))) (q' ∷ qs')
+          → Triples (MayEndFeed new left) texts (both given (works_of (y ∷ ys))) (q' ∷ qs')
       failed_all y ys one others [] [] h = elim h [ ]
       failed_all y ys one others [] (g ∷ given) h = elim h [ ]
       failed_all y ys one others (ss ∷ texts) [] h = elim h [ ]
@@ -73,12 +73,12 @@ module _ {F : Type 0} (left : F → Option (List ℕ)) (faults : F → ℕ) (old
   -- what two calls leave, of which the first may have been refused, and the second
   pub gives_all : (one others : Result (Unit {0}) FeedRefusal)
       → OnOk one ((ss : List Statement) (given : List Work) → IsQueue old left ss given q → IsQueue mid left ss (given ++ y.works) r)
-      → OnErr one ((ss : List Statement) (given : List Work) → IsQueue old left ss given q → MayEnd mid left ss (given ++ y.works) r)
+      → OnErr one ((ss : List Statement) (given : List Work) → IsQueue old left ss given q → MayEndFeed mid left ss (given ++ y.works) r)
       → IsGiven x y
-      → ((first : Bool) → IsFit faults first q → IsFit faults first r × MayDoAll first y.works)
+      → ((first : Bool) → IsFitQueue faults first q → IsFitQueue faults first r × MayDoAll first y.works)
       → OnOk one (GoesDown (left_of q) (left_of r))
-      → Gives left faults mid new qs rs xs ys others
-      → Gives left faults old new (q ∷ qs) (r ∷ rs) (x ∷ xs) (y ∷ ys) (result_and one others)
+      → GivesWorks left faults mid new qs rs xs ys others
+      → GivesWorks left faults old new (q ∷ qs) (r ∷ rs) (x ∷ xs) (y ∷ ys) (result_and one others)
   gives_all (Ok z) others given failed got fit less more = record {
     given = on_ok_weaker others (λ all. given_all left old mid new then last q r qs rs y ys given all) more.given;
     failed = on_err_weaker others

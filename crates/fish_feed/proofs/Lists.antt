@@ -2,7 +2,7 @@
 use Rattle.std.proofs.Common.{◌≡◌, ℕ, ◌<◌, ◌≤◌, zero, suc, List, [], ◌∷◌, ◌++◌, length, take, get_or, refl, ap, subst, arith}
 use Rattle.std.proofs.Common.{Some, slice_get}
 use Rattle.std.proofs.lemmas.Option.{slice_get_read}
-use Rattle.fish_feed.specs.Works.{Pairs}
+use Rattle.fish_script.specs.Laws.{Pairs}
 
 module _ {A B : Type 0} (R : A → B → Type 0) where
   -- one more of each

@@ -3,7 +3,7 @@ use Rattle.std.proofs.Common.{◌≡◌, ◌<◌, ℕ, zero, suc, List, [], ◌�
 use Rattle.fish_feed.proofs.Fit.{is_first}
 use Rattle.fish_feed.proofs.Queues.{queue_later}
 use Rattle.fish_feed.specs.Queues.{IsQueue}
-use Rattle.fish_feed.specs.Works.{Pairs}
+use Rattle.fish_script.specs.Laws.{Pairs}
 use Rattle.fish_feed.specs.declared.queue.Queue.{Queue}
 use Rattle.fish_outside.specs.Content.{Files, SameFiles}
 use Rattle.fish_script.specs.Script.{AreFree, is_control}

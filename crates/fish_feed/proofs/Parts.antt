@@ -1,6 +1,6 @@
 -- Parts of a file, one more, and over longer ones.
 use Rattle.std.proofs.Common.{◌≡◌, ℕ, List, [], ◌∷◌, ◌++◌, append-nil, append_assoc, refl, sym, ap, ◌∙◌, subst, take, length, ◌<◌}
-use Rattle.fish_feed.specs.Parts.{AreParts, EndsLine, HasNoMoreParts, IsRead, IsTooLong, begin_after, longest_read}
+use Rattle.fish_feed.specs.Parts.{AreParts, EndsLine, HasNoMoreParts, IsFileRead, IsTooLong, begin_after, longest_csv_read}
 use Rattle.fish_lanes.specs.declared.work.Work.{Work}
 use Rattle.fish_lanes.specs.declared.work.Work.TheVariants as work
 use Rattle.fish_lines.specs.declared.resuming.Begin.{Begin}
@@ -58,9 +58,9 @@ parts_then form begin name b ws part w h json line is =
 
 -- and all that is left after them
 pub parts_rest : (form : Form) (begin : Begin) (name b : List ℕ) (ws : List Work) (rest bytes : List ℕ) (w : Work)
-    → AreParts form begin name b ws [] → bytes ≡ take longest_read rest → w ≡ work.Ingest form (begin_after begin ws) name bytes
+    → AreParts form begin name b ws [] → bytes ≡ take longest_csv_read rest → w ≡ work.Ingest form (begin_after begin ws) name bytes
     → (longest_file < length rest → IsTooLong form (b ++ rest) × HasNoMoreParts form (b ++ rest) rest)
-    → IsRead form begin name (b ++ rest) (ws ++ w ∷ [])
+    → IsFileRead form begin name (b ++ rest) (ws ++ w ∷ [])
 parts_rest form begin name b ws rest bytes w h bytes_are is long = record {
   parts = ws;
   rest = rest;

@@ -7,11 +7,12 @@ use Rattle.std.specs.Prelude.{IfSome, IsSome}
 use Rattle.fish_feed.proofs.Long.{read_all, too_long}
 use Rattle.fish_feed.proofs.Parts.{after_push, parts_rest, parts_then}
 use Rattle.fish_feed.proofs.Told.{told_later}
-use Rattle.fish_feed.specs.Parts.{AreParts, longest_read}
-use Rattle.fish_feed.specs.OpenFiles.{IsPartOf, IsRestOf, IsStuck}
-use Rattle.fish_feed.specs.within.OpenFiles.{ReadsOn}
-use Rattle.fish_feed.specs.Queues.{GoesOn, HasQueue, IsDue, IsOpen}
-use Rattle.fish_feed.specs.Works.{AreDone, AreFirstOf, IsDone, IsWorkOf, Pairs}
+use Rattle.fish_feed.specs.Parts.{AreParts, longest_csv_read}
+use Rattle.fish_feed.specs.OpenFiles.{IsFilePart, IsRestOf, IsStuck}
+use Rattle.fish_feed.specs.within.OpenFiles.{ReadsOnFile}
+use Rattle.fish_feed.specs.Queues.{GoesOnFeed, HasQueue, IsDue, IsOpenOf}
+use Rattle.fish_feed.specs.Works.{AreStatementsDone, AreFirstOf, IsDone, IsWorkOf}
+use Rattle.fish_script.specs.Laws.{Pairs}
 use Rattle.fish_feed.specs.declared.part.OpenFile.{OpenFile}
 use Rattle.fish_feed.specs.declared.queue.Todo.{Todo}
 use Rattle.fish_feed.specs.declared.queue.Todo.TheVariants as todo
@@ -36,15 +37,16 @@ done_later old new still (does.Scan name value from to way) ws h = h
 done_later old new still (does.Explain name value from to way) ws h = h
 done_later old new still does.Checkpoint ws h = h
 
-pub dones_later : (old new : Option Files) → SameFiles old new → (ss : List Statement) (ws : List Work) → AreDone old ss ws
-    → AreDone new ss ws
+pub dones_later : (old new : Option Files) → SameFiles old new → (ss : List Statement) (ws : List Work) → AreStatementsDone old ss ws
+    → AreStatementsDone new ss ws
 dones_later old new still [] ws h = h
 dones_later old new still (s ∷ ss) ws h =
     (h.0, h.1, h.2, done_later old new still s h.0 h.3, dones_later old new still ss h.1 h.4)
 
-pub dones_join : (told : Option Files) (ss more : List Statement) (ws then : List Work) → AreDone told ss ws → AreDone told more then
-    → AreDone told (ss ++ more) (ws ++ then)
-dones_join told [] more ws then h k = subst (λ (z : List Work). AreDone told more (z ++ then)) (sym h) k
+pub dones_join : (told : Option Files) (ss more : List Statement) (ws then : List Work) → AreStatementsDone told ss ws
+    → AreStatementsDone told more then
+    → AreStatementsDone told (ss ++ more) (ws ++ then)
+dones_join told [] more ws then h k = subst (λ (z : List Work). AreStatementsDone told more (z ++ then)) (sym h) k
 dones_join told (s ∷ ss) more ws then h k = (
   h.0,
   h.1 ++ then,
@@ -53,7 +55,7 @@ dones_join told (s ∷ ss) more ws then h k = (
   dones_join told ss more h.1 then h.4 k,
 )
 
-dones_one : (told : Option Files) (s : Statement) (ws : List Work) → IsDone told s ws → AreDone told (s ∷ []) ws
+dones_one : (told : Option Files) (s : Statement) (ws : List Work) → IsDone told s ws → AreStatementsDone told (s ∷ []) ws
 dones_one told s ws h = (ws, [], sym (append-nil ws), h, refl)
 
 -- a statement without a file is done by its work
@@ -73,7 +75,7 @@ module _ {F : Type 0} (left : F → Option (List ℕ)) where
   -- ---- a file
 
   open_later : (old new : Option Files) → SameFiles old new → (s : Statement) (given : List Work) (o : OpenFile F)
-      → IsOpen old left s given o → IsOpen new left s given o
+      → IsOpenOf old left s given o → IsOpenOf new left s given o
   open_later old new still s given o h = record {
     header = h.header;
     is = h.is;
@@ -85,8 +87,9 @@ module _ {F : Type 0} (left : F → Option (List ℕ)) where
   }
 
   -- more of it came
-  open_on : (told : Option Files) (s : Statement) (given : List Work) (o u : OpenFile F) → IsOpen told left s given o → ReadsOn left o u
-      → IsOpen told left s given u
+  open_on : (told : Option Files) (s : Statement) (given : List Work) (o u : OpenFile F) → IsOpenOf told left s given o
+      → ReadsOnFile left o u
+      → IsOpenOf told left s given u
   open_on told s given o u h r = record {
     header = h.header;
     is = h.is ∙ (λ i. does.Ingest (sym r.form_is i) h.header (sym r.name_is i));
@@ -130,7 +133,7 @@ module _ {F : Type 0} (left : F → Option (List ℕ)) where
 
   -- one more part of it was given
   pub open_part : (told : Option Files) (s : Statement) (given : List Work) (o : OpenFile F) (w : Work) (u : OpenFile F)
-      → IsOpen told left s given o → IsPartOf left o w u → IsOpen told left s (given ++ w ∷ []) u
+      → IsOpenOf told left s given o → IsFilePart left o w u → IsOpenOf told left s (given ++ w ∷ []) u
   open_part told s given o w u h p = record {
     header = h.header;
     is = h.is ∙ (λ i. does.Ingest (sym p.form_is i) h.header (sym p.name_is i));
@@ -167,9 +170,9 @@ module _ {F : Type 0} (left : F → Option (List ℕ)) where
       by (Some files) k = by_left files (left o.feed) (left u.feed) p.took k
 
   module _ (told new : Option Files) (still : SameFiles told new) (s : Statement) (given : List Work) (o : OpenFile F)
-      (h : IsOpen told left s given o) where
+      (h : IsOpenOf told left s given o) where
     -- given some last works, where the file is known to have these bytes
-    ends_with : (rest bytes : List ℕ) (w : Work) → bytes ≡ take longest_read rest → w ≡ work.Ingest o.form o.begin o.name bytes
+    ends_with : (rest bytes : List ℕ) (w : Work) → bytes ≡ take longest_csv_read rest → w ≡ work.Ingest o.form o.begin o.name bytes
         → (longest_file < length rest → IsStuck o.form o.room bytes)
         → IfSome new (λ files. files o.name ≡ Some (h.before ++ rest)) → IsDone new s (given ++ w ∷ [])
     ends_with rest bytes w bytes_are is stuck file = subst (λ (z : Statement). IsDone new z (given ++ w ∷ [])) (sym h.is) (
@@ -200,17 +203,17 @@ module _ {F : Type 0} (left : F → Option (List ℕ)) where
     open_rest w u r feed = by new refl (left u.feed) refl r.all
       where
         known : (files : Files) → new ≡ Some files
-            → (l : List ℕ) × (left o.feed ≡ Some l) × (r.bytes ≡ take longest_read (o.rest ++ l)) → IsDone new s (given ++ w ∷ [])
+            → (l : List ℕ) × (left o.feed ≡ Some l) × (r.bytes ≡ take longest_csv_read (o.rest ++ l)) → IsDone new s (given ++ w ∷ [])
         known files new_is k = ends_with (o.rest ++ k.0) r.bytes w k.2 r.is
-            (λ long. r.stuck (omega (ap length k.2, length-take longest_read (o.rest ++ k.0), long, arith)))
+            (λ long. r.stuck (omega (ap length k.2, length-take longest_csv_read (o.rest ++ k.0), long, arith)))
             (subst (λ (z : Option Files). IfSome z (λ f. f o.name ≡ Some (h.before ++ (o.rest ++ k.0)))) (sym new_is)
             (let has = file_has files new_is k.0 k.1 in
             has.2 ∙ ap (λ (z : List ℕ). Some (h.before ++ (o.rest ++ z))) (has.1 r.whole)))
 
         by : (n : Option Files) → new ≡ n → (x : Option (List ℕ)) → left u.feed ≡ x
-            → IfSome x (λ _. (l : List ℕ) × (left o.feed ≡ Some l) × (r.bytes ≡ take longest_read (o.rest ++ l)))
+            → IfSome x (λ _. (l : List ℕ) × (left o.feed ≡ Some l) × (r.bytes ≡ take longest_csv_read (o.rest ++ l)))
             → IsDone new s (given ++ w ∷ [])
-        by None new_is x left_is all = ends_with r.bytes r.bytes w (sym (take_all longest_read r.bytes r.few)) r.is r.stuck
+        by None new_is x left_is all = ends_with r.bytes r.bytes w (sym (take_all longest_csv_read r.bytes r.few)) r.is r.stuck
             (subst (λ (z : Option Files). IfSome z (λ f. f o.name ≡ Some (h.before ++ r.bytes))) (sym new_is) tt)
         by (Some files) new_is None left_is all = absurd (
             let told_now : IsSome (left u.feed) = feed (subst IsSome (sym new_is) refl) in
@@ -259,7 +262,7 @@ module _ {F : Type 0} (left : F → Option (List ℕ)) where
       told_now (Some files) still_ some = subst (λ (z : Option Files). IfSome z (λ _. IsSome (left o.feed))) still_ h.1
 
   dues_end : (old new : Option Files) → SameFiles old new → (ss : List Statement) (todos : List (Todo F))
-      → Pairs (IsDue old left) ss todos → (ws : List Work) × AreDone new ss ws
+      → Pairs (IsDue old left) ss todos → (ws : List Work) × AreStatementsDone new ss ws
   dues_end old new still [] [] h = ([], refl)
   dues_end old new still [] (t ∷ todos) h = elim h [ ]
   dues_end old new still (s ∷ ss) [] h = elim h [ ]
@@ -271,7 +274,7 @@ module _ {F : Type 0} (left : F → Option (List ℕ)) where
   -- ---- a queue
 
   goes_later : (old new : Option Files) → SameFiles old new → (c : Option (OpenFile F)) (ss : List Statement) (given : List Work)
-      (todos : List (Todo F)) → GoesOn old left c ss given todos → GoesOn new left c ss given todos
+      (todos : List (Todo F)) → GoesOnFeed old left c ss given todos → GoesOnFeed new left c ss given todos
   goes_later old new still None ss given todos h = (h.0, dues_later old new still ss todos h.1)
   goes_later old new still (Some o) [] given todos h = elim h [ ]
   goes_later old new still (Some o) (s ∷ ss) given todos h =
@@ -296,7 +299,7 @@ module _ {F : Type 0} (left : F → Option (List ℕ)) where
         → HasQueue told left ss (given ++ w ∷ []) None todos
     queue_work w todos h = by h.next refl h.goes
       where
-        by : (next : List Statement) → h.next ≡ next → GoesOn told left None next h.then (todo.Work w ∷ todos)
+        by : (next : List Statement) → h.next ≡ next → GoesOnFeed told left None next h.then (todo.Work w ∷ todos)
             → HasQueue told left ss (given ++ w ∷ []) None todos
         by [] is goes = elim goes.1 [ ]
         by (s ∷ next) is goes = record {
@@ -316,7 +319,7 @@ module _ {F : Type 0} (left : F → Option (List ℕ)) where
         → HasQueue told left ss given (Some o) todos
     queue_file o todos h = by h.next refl h.goes
       where
-        by : (next : List Statement) → h.next ≡ next → GoesOn told left None next h.then (todo.File o ∷ todos)
+        by : (next : List Statement) → h.next ≡ next → GoesOnFeed told left None next h.then (todo.File o ∷ todos)
             → HasQueue told left ss given (Some o) todos
         by [] is goes = elim goes.1 [ ]
         by (s ∷ next) is goes = record {
@@ -327,11 +330,11 @@ module _ {F : Type 0} (left : F → Option (List ℕ)) where
           statements = h.statements ∙ ap (λ (z : List Statement). h.done ++ z) is;
           works = h.works;
           are = h.are;
-          goes = (subst (λ (z : List Work). IsOpen told left s z o) (sym goes.0) goes.1.0.0, goes.1.1);
+          goes = (subst (λ (z : List Work). IsOpenOf told left s z o) (sym goes.0) goes.1.0.0, goes.1.1);
         }
 
     -- more of it came
-    pub queue_on : (o u : OpenFile F) (todos : List (Todo F)) → HasQueue told left ss given (Some o) todos → ReadsOn left o u
+    pub queue_on : (o u : OpenFile F) (todos : List (Todo F)) → HasQueue told left ss given (Some o) todos → ReadsOnFile left o u
         → HasQueue told left ss given (Some u) todos
     queue_on o u todos h r = record {
       done = h.done;
@@ -344,13 +347,13 @@ module _ {F : Type 0} (left : F → Option (List ℕ)) where
       goes = by h.next h.goes;
     }
       where
-        by : (next : List Statement) → GoesOn told left (Some o) next h.then todos → GoesOn told left (Some u) next h.then todos
+        by : (next : List Statement) → GoesOnFeed told left (Some o) next h.then todos → GoesOnFeed told left (Some u) next h.then todos
         by [] goes = elim goes [ ]
         by (s ∷ next) goes = (open_on told s h.then o u goes.0 r, goes.1)
 
     -- a part of it was given
     pub queue_part : (o u : OpenFile F) (w : Work) (todos : List (Todo F)) → HasQueue told left ss given (Some o) todos
-        → IsPartOf left o w u → HasQueue told left ss (given ++ w ∷ []) (Some u) todos
+        → IsFilePart left o w u → HasQueue told left ss (given ++ w ∷ []) (Some u) todos
     queue_part o u w todos h p = record {
       done = h.done;
       next = h.next;
@@ -362,8 +365,8 @@ module _ {F : Type 0} (left : F → Option (List ℕ)) where
       goes = by h.next h.goes;
     }
       where
-        by : (next : List Statement) → GoesOn told left (Some o) next h.then todos
-            → GoesOn told left (Some u) next (h.then ++ w ∷ []) todos
+        by : (next : List Statement) → GoesOnFeed told left (Some o) next h.then todos
+            → GoesOnFeed told left (Some u) next (h.then ++ w ∷ []) todos
         by [] goes = elim goes [ ]
         by (s ∷ next) goes = (open_part told s h.then o w u goes.0 p, goes.1)
 
@@ -373,7 +376,7 @@ module _ {F : Type 0} (left : F → Option (List ℕ)) where
           → IsRestOf left o w u → (IsSome new → IsSome (left u.feed)) → HasQueue new left ss (given ++ w ∷ []) None todos
       queue_rest o u w todos h r feed = by h.next refl h.goes
         where
-          by : (next : List Statement) → h.next ≡ next → GoesOn told left (Some o) next h.then todos
+          by : (next : List Statement) → h.next ≡ next → GoesOnFeed told left (Some o) next h.then todos
               → HasQueue new left ss (given ++ w ∷ []) None todos
           by [] is goes = elim goes [ ]
           by (s ∷ next) is goes = record {
@@ -395,7 +398,7 @@ module _ {F : Type 0} (left : F → Option (List ℕ)) where
       queue_end c todos h feed =
           let rest = by c h.next h.goes feed in (
             rest.0,
-            subst (λ (z : List Statement × List Work). AreDone new z.0 z.1)
+            subst (λ (z : List Statement × List Work). AreStatementsDone new z.0 z.1)
                 (λ i. (
                   sym h.statements i,
                   (sym (append_assoc h.first h.then rest.0) ∙ ap (λ (z : List Work). z ++ rest.0) (sym h.works)) i,
@@ -403,11 +406,11 @@ module _ {F : Type 0} (left : F → Option (List ℕ)) where
                 (dones_join new h.done h.next h.first (h.then ++ rest.0) (dones_later told new still h.done h.first h.are) rest.1),
           )
         where
-          by : (d : Option (OpenFile F)) (next : List Statement) → GoesOn told left d next h.then todos
-              → IfSome d (λ o. IsSome new → IsSome (left o.feed)) → (more : List Work) × AreDone new next (h.then ++ more)
+          by : (d : Option (OpenFile F)) (next : List Statement) → GoesOnFeed told left d next h.then todos
+              → IfSome d (λ o. IsSome new → IsSome (left o.feed)) → (more : List Work) × AreStatementsDone new next (h.then ++ more)
           by None next goes known =
               let all = dues_end told new still next todos goes.1 in
-              (all.0, subst (λ (z : List Work). AreDone new next (z ++ all.0)) (sym goes.0) all.1)
+              (all.0, subst (λ (z : List Work). AreStatementsDone new next (z ++ all.0)) (sym goes.0) all.1)
           by (Some o) [] goes known = elim goes [ ]
           by (Some o) (s ∷ next) goes known =
               let one = open_end told new still s h.then o goes.0 known in
@@ -415,11 +418,11 @@ module _ {F : Type 0} (left : F → Option (List ℕ)) where
               (one.0 ++ all.0, (h.then ++ one.0, all.0, sym (append_assoc h.then one.0 all.0), one.1, all.1))
 
     -- where nothing is to be given, all statements are done
-    pub queue_none : HasQueue told left ss given None [] → AreDone told ss given
+    pub queue_none : HasQueue told left ss given None [] → AreStatementsDone told ss given
     queue_none h = by h.next refl h.goes
       where
-        by : (next : List Statement) → h.next ≡ next → GoesOn told left None next h.then [] → AreDone told ss given
-        by [] is goes = subst (λ (z : List Statement × List Work). AreDone told z.0 z.1)
+        by : (next : List Statement) → h.next ≡ next → GoesOnFeed told left None next h.then [] → AreStatementsDone told ss given
+        by [] is goes = subst (λ (z : List Statement × List Work). AreStatementsDone told z.0 z.1)
             (λ i. (
               sym (h.statements ∙ ap (λ (z : List Statement). h.done ++ z) is ∙ append-nil h.done) i,
               sym (h.works ∙ ap (λ (z : List Work). h.first ++ z) goes.0 ∙ append-nil h.first) i,

@@ -5,9 +5,9 @@ use Rattle.std.proofs.Common.{sym, ap, ◌∙◌, subst, Option, Some, None, ari
 use Rattle.std.proofs.lemmas.List.{take_all}
 use Rattle.std.proofs.lemmas.Option.{same_Some}
 use Rattle.std.specs.Prelude.{IfSome}
-use Rattle.fish_feed.specs.Parts.{longest_read}
-use Rattle.fish_feed.specs.OpenFiles.{CanRead, GivesPart, IsPartOf, IsRestOf, IsStuck}
-use Rattle.fish_feed.specs.within.OpenFiles.{HasRead, IsCutOff, ReadsOn}
+use Rattle.fish_feed.specs.Parts.{longest_csv_read}
+use Rattle.fish_feed.specs.OpenFiles.{CanRead, GivesPart, IsFilePart, IsRestOf, IsStuck}
+use Rattle.fish_feed.specs.within.OpenFiles.{HasReadMore, IsCutOff, ReadsOnFile}
 use Rattle.fish_feed.specs.declared.part.OpenFile.{OpenFile}
 use Rattle.fish_feed.specs.declared.part.Part.{Part}
 use Rattle.fish_lanes.specs.declared.work.Work.{Work}
@@ -25,7 +25,7 @@ take_front zero (x ∷ xs) ys is = absurd cc
 take_front {A = A} (suc n) (x ∷ xs) ys is = ap (λ (zs : List A). x ∷ zs) (take_front n xs ys (omega (is, arith)))
 
 -- what was cut off is no longer than the whole
-pub cut_short : (n : ℕ) (part rest : List ℕ) → n ≡ length (part ++ rest) → n ≤ longest_read → length part ≤ longest_read
+pub cut_short : (n : ℕ) (part rest : List ℕ) → n ≡ length (part ++ rest) → n ≤ longest_csv_read → length part ≤ longest_csv_read
 cut_short n part rest is short = (let all = length-append part rest in omega (all, is, short, arith))
 
 -- and one of which lines were cut off
@@ -42,7 +42,7 @@ can_cut faults o u w can c = record {
 pub can_none : {F : Type 0} (faults : F → ℕ) (o u : OpenFile F) → CanRead faults o → u.rest ≡ [] → u.feed ≡ o.feed → u.failed ≡ o.failed
     → CanRead faults u
 can_none faults o u can none feed failed = record {
-  short = subst (λ (z : List ℕ). length z ≤ longest_read) (sym none) (omega arith);
+  short = subst (λ (z : List ℕ). length z ≤ longest_csv_read) (sym none) (omega arith);
   failed = λ is. subst (λ (z : _). Rose 0 (faults z)) (sym feed) (can.failed (sym failed ∙ is));
 }
 
@@ -53,7 +53,7 @@ took_none (Some l) = refl
 
 module _ {F : Type 0} (left : F → Option (List ℕ)) where
   -- nothing came of a file that stays as it is
-  pub on_none : (o : OpenFile F) → ReadsOn left o o
+  pub on_none : (o : OpenFile F) → ReadsOnFile left o o
   on_none o = record {
     more = [];
     gone = [];
@@ -68,7 +68,7 @@ module _ {F : Type 0} (left : F → Option (List ℕ)) where
   }
 
   -- what was read was read on, and nothing lost
-  pub on_read : (o u : OpenFile F) → HasRead left o u → ReadsOn left o u
+  pub on_read : (o u : OpenFile F) → HasReadMore left o u → ReadsOnFile left o u
   on_read o u h = record {
     more = h.more;
     gone = [];
@@ -83,7 +83,7 @@ module _ {F : Type 0} (left : F → Option (List ℕ)) where
   }
 
   -- what was read on after something was read was so since then
-  pub on_after : (o m u : OpenFile F) → HasRead left o m → ReadsOn left m u → ReadsOn left o u
+  pub on_after : (o m u : OpenFile F) → HasReadMore left o m → ReadsOnFile left m u → ReadsOnFile left o u
   on_after o m u h k = record {
     more = h.more ++ k.more;
     gone = k.gone;
@@ -98,7 +98,7 @@ module _ {F : Type 0} (left : F → Option (List ℕ)) where
     room_is = k.room_is ∙ h.room_is;
   }
 
-  pub read_both : (o m u : OpenFile F) → HasRead left o m → HasRead left m u → HasRead left o u
+  pub read_both : (o m u : OpenFile F) → HasReadMore left o m → HasReadMore left m u → HasReadMore left o u
   read_both o m u h k = record {
     more = h.more ++ k.more;
     took = Took_trans (left o.feed) (left m.feed) (left u.feed) h.more k.more h.took k.took;
@@ -111,7 +111,7 @@ module _ {F : Type 0} (left : F → Option (List ℕ)) where
   }
 
   -- lines were cut off once bytes had come
-  pub part_of : (o m u : OpenFile F) (w : Work) → HasRead left o m → IsCutOff m u w → IsPartOf left o w u
+  pub part_of : (o m u : OpenFile F) (w : Work) → HasReadMore left o m → IsCutOff m u w → IsFilePart left o w u
   part_of o m u w h c = record {
     part = c.part;
     more = h.more;
@@ -128,7 +128,7 @@ module _ {F : Type 0} (left : F → Option (List ℕ)) where
   }
 
   -- a part was given once bytes had come
-  part_later : (o m u : OpenFile F) (w : Work) → HasRead left o m → IsPartOf left m w u → IsPartOf left o w u
+  part_later : (o m u : OpenFile F) (w : Work) → HasReadMore left o m → IsFilePart left m w u → IsFilePart left o w u
   part_later o m u w h p = record {
     part = p.part;
     more = h.more ++ p.more;
@@ -145,7 +145,7 @@ module _ {F : Type 0} (left : F → Option (List ℕ)) where
   }
 
   -- or all that was left
-  rest_later : (o m u : OpenFile F) (w : Work) → HasRead left o m → IsRestOf left m w u → IsRestOf left o w u
+  rest_later : (o m u : OpenFile F) (w : Work) → HasReadMore left o m → IsRestOf left m w u → IsRestOf left o w u
   rest_later o m u w h r = record {
     bytes = r.bytes;
     few = r.few;
@@ -156,35 +156,35 @@ module _ {F : Type 0} (left : F → Option (List ℕ)) where
   }
     where
       by : (y x : Option (List ℕ)) → Took (left o.feed) x h.more
-          → IfSome y (λ _. (l : List ℕ) × (x ≡ Some l) × (r.bytes ≡ take longest_read (m.rest ++ l)))
-          → IfSome y (λ _. (l : List ℕ) × (left o.feed ≡ Some l) × (r.bytes ≡ take longest_read (o.rest ++ l)))
+          → IfSome y (λ _. (l : List ℕ) × (x ≡ Some l) × (r.bytes ≡ take longest_csv_read (m.rest ++ l)))
+          → IfSome y (λ _. (l : List ℕ) × (left o.feed ≡ Some l) × (r.bytes ≡ take longest_csv_read (o.rest ++ l)))
       by None x took all = tt
       by (Some y) None took all = absurd (let bad : None ≡ Some all.0 = all.1 in cc)
       by (Some y) (Some z) took all = (
         h.more ++ z,
         took,
-        all.2 ∙ ap (λ (k : List ℕ). take longest_read (m.rest ++ k)) (sym (same_Some z all.0 all.1))
-            ∙ ap (λ (k : List ℕ). take longest_read (k ++ z)) h.rest_is
-            ∙ ap (take longest_read) (append_assoc o.rest h.more z),
+        all.2 ∙ ap (λ (k : List ℕ). take longest_csv_read (m.rest ++ k)) (sym (same_Some z all.0 all.1))
+            ∙ ap (λ (k : List ℕ). take longest_csv_read (k ++ z)) h.rest_is
+            ∙ ap (take longest_csv_read) (append_assoc o.rest h.more z),
       )
 
-  pub gives_later : (o m u : OpenFile F) (p : Part) → HasRead left o m → GivesPart left m p u → GivesPart left o p u
+  pub gives_later : (o m u : OpenFile F) (p : Part) → HasReadMore left o m → GivesPart left m p u → GivesPart left o p u
   gives_later o m u p h g = record {
     few = g.few;
     one = λ is. part_later o m u p.work h (g.one is);
     rest = λ is. rest_later o m u p.work h (g.rest is);
   }
 
-  module _ (o m u : OpenFile F) (w : Work) (h : HasRead left o m) (few : length m.rest ≤ longest_read)
+  module _ (o m u : OpenFile F) (w : Work) (h : HasReadMore left o m) (few : length m.rest ≤ longest_csv_read)
       (is : w ≡ work.Ingest m.form m.begin m.name m.rest) (feed : u.feed ≡ m.feed) where
     is_here : w ≡ work.Ingest o.form o.begin o.name m.rest
     is_here = is ∙ (λ i. work.Ingest (h.form_is i) (h.begin_is i) (h.name_is i) m.rest)
 
     abbrev All : Option (List ℕ) → Type 0
-    All x = IfSome x (λ z. (l : List ℕ) × (left o.feed ≡ Some l) × (m.rest ≡ take longest_read (o.rest ++ l)))
+    All x = IfSome x (λ z. (l : List ℕ) × (left o.feed ≡ Some l) × (m.rest ≡ take longest_csv_read (o.rest ++ l)))
 
     -- all that came is the rest, where no more comes
-    pub rest_at_end : IsAtEnd (left m.feed) → length m.rest < longest_read → IsRestOf left o w u
+    pub rest_at_end : IsAtEnd (left m.feed) → length m.rest < longest_csv_read → IsRestOf left o w u
     rest_at_end end less = record {
       bytes = m.rest;
       few = few;
@@ -199,13 +199,13 @@ module _ {F : Type 0} (left : F → Option (List ℕ)) where
         by (Some z) took end = (
           h.more ++ z,
           took,
-          sym (ap (λ (y : List ℕ). take longest_read (o.rest ++ (h.more ++ y))) end
-              ∙ ap (λ (y : List ℕ). take longest_read (o.rest ++ y)) (append-nil h.more)
-              ∙ ap (take longest_read) (sym h.rest_is) ∙ take_all longest_read m.rest few),
+          sym (ap (λ (y : List ℕ). take longest_csv_read (o.rest ++ (h.more ++ y))) end
+              ∙ ap (λ (y : List ℕ). take longest_csv_read (o.rest ++ y)) (append-nil h.more)
+              ∙ ap (take longest_csv_read) (sym h.rest_is) ∙ take_all longest_csv_read m.rest few),
         )
 
     -- or where no more may be given at once
-    pub rest_full : longest_read ≤ length m.rest → IsStuck m.form m.room m.rest → IsRestOf left o w u
+    pub rest_full : longest_csv_read ≤ length m.rest → IsStuck m.form m.room m.rest → IsRestOf left o w u
     rest_full many stuck = record {
       bytes = m.rest;
       few = few;
@@ -220,6 +220,6 @@ module _ {F : Type 0} (left : F → Option (List ℕ)) where
         by (Some z) took = (
           h.more ++ z,
           took,
-          sym (ap (take longest_read) (sym (append_assoc o.rest h.more z) ∙ ap (λ (y : List ℕ). y ++ z) (sym h.rest_is))
-              ∙ take_front longest_read m.rest z (omega (few, many, arith))),
+          sym (ap (take longest_csv_read) (sym (append_assoc o.rest h.more z) ∙ ap (λ (y : List ℕ). y ++ z) (sym h.rest_is))
+              ∙ take_front longest_csv_read m.rest z (omega (few, many, arith))),
         )

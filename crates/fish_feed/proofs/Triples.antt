@@ -1,6 +1,7 @@
 -- Three lists side by side.
 use Rattle.std.proofs.Common.{List, [], ◌∷◌}
-use Rattle.fish_feed.specs.Works.{Pairs, Triples}
+use Rattle.fish_feed.specs.Works.{Triples}
+use Rattle.fish_script.specs.Laws.{Pairs}
 
 -- what is so of each two and each next three is so of the first and the last two
 pub pairs_triples : {A B C G : Type 0} (R : A → B → Type 0) (S : B → C → G → Type 0) (T : A → C → G → Type 0)

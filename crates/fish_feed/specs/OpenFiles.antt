@@ -2,8 +2,8 @@
 -- gives, and faults how often it failed.
 use Rattle.std.specs.Prelude.{ℕ, ◌≡◌, ◌≢◌, ◌+◌, ◌<◌, ◌≤◌, ◌⊎◌, List, [], ◌++◌, true, false}
 use Rattle.std.specs.Prelude.{Option, Some, IfSome, length, take}
-use Rattle.fish_feed.specs.Parts.{EndsLine, HasNoEnd, longest_in_parts, longest_read}
-use Rattle.fish_feed.specs.Works.{bytes_in}
+use Rattle.fish_feed.specs.Parts.{EndsLine, HasNoEnd, longest_in_parts, longest_csv_read}
+use Rattle.fish_feed.specs.Works.{bytes_in_work}
 use Rattle.fish_feed.specs.declared.part.OpenFile.{OpenFile}
 use Rattle.fish_feed.specs.declared.part.Part.{Part}
 use Rattle.fish_lanes.specs.declared.work.Work.{Work}
@@ -17,7 +17,7 @@ use Rattle.fish_value.specs.declared.field.Form.{Form}
 use Rattle.fish_value.specs.declared.field.Form.TheVariants.{Json}
 
 -- nothing was read of it
-pub record IsUnread {F : Type 0} (form : Form) (begin : Begin) (name : List ℕ) (feed : F) (o : OpenFile F)
+pub record IsFileUnread {F : Type 0} (form : Form) (begin : Begin) (name : List ℕ) (feed : F) (o : OpenFile F)
     : Type 0 where
   pub form_is : o.form ≡ form
   pub begin_is : o.begin ≡ begin
@@ -28,16 +28,16 @@ pub record IsUnread {F : Type 0} (form : Form) (begin : Begin) (name : List ℕ)
   pub whole : o.lost ≡ false
 
 -- a part of it was given
-abbrev pub IsBegun : {F : Type 0} → OpenFile F → Type 0
-IsBegun o = o.begin ≡ After
+abbrev pub HasPassedHeader : {F : Type 0} → OpenFile F → Type 0
+HasPassedHeader o = o.begin ≡ After
 
 -- it holds no more than may be given at once, and a read that failed was counted
 pub record CanRead {F : Type 0} (faults : F → ℕ) (o : OpenFile F) : Type 0 where
-  pub short : length o.rest ≤ longest_read
+  pub short : length o.rest ≤ longest_csv_read
   pub failed : o.failed ≡ true → Rose 0 (faults o.feed)
 
 -- a part of it was given, perhaps once more bytes had come
-pub record IsPartOf {F : Type 0} (left : F → Option (List ℕ)) (o : OpenFile F) (w : Work) (u : OpenFile F)
+pub record IsFilePart {F : Type 0} (left : F → Option (List ℕ)) (o : OpenFile F) (w : Work) (u : OpenFile F)
     : Type 0 where
   pub part : List ℕ
   pub more : List ℕ
@@ -60,16 +60,16 @@ IsStuck form room b = (form ≢ Json) ⊎ (HasNoEnd b ⊎ (room < length b))
 pub record IsRestOf {F : Type 0} (left : F → Option (List ℕ)) (o : OpenFile F) (w : Work) (u : OpenFile F)
     : Type 0 where
   pub bytes : List ℕ
-  pub few : length bytes ≤ longest_read
+  pub few : length bytes ≤ longest_csv_read
   pub is : w ≡ work.Ingest o.form o.begin o.name bytes
   pub stuck : longest_file < length bytes → IsStuck o.form o.room bytes
   pub whole : o.lost ≡ false
   pub all : IfSome (left u.feed) (λ _. (l : List ℕ) × (left o.feed ≡ Some l)
-      × (bytes ≡ take longest_read (o.rest ++ l)))
+      × (bytes ≡ take longest_csv_read (o.rest ++ l)))
 
 -- few bytes of it were given: a part, or the rest
 pub record GivesPart {F : Type 0} (left : F → Option (List ℕ)) (o : OpenFile F) (p : Part) (u : OpenFile F)
     : Type 0 where
-  pub few : bytes_in p.work ≤ longest_read
-  pub one : p.last ≡ false → IsPartOf left o p.work u
+  pub few : bytes_in_work p.work ≤ longest_csv_read
+  pub one : p.last ≡ false → IsFilePart left o p.work u
   pub rest : p.last ≡ true → IsRestOf left o p.work u

@@ -9,8 +9,8 @@ use Rattle.fish_value.specs.declared.field.Form.{Form}
 use Rattle.fish_value.specs.declared.field.Form.TheVariants.{Csv, Json}
 
 -- how many bytes of a file are given at once at most: one more than are stored at once
-abbrev pub longest_read : ℕ
-longest_read = 67108865
+abbrev pub longest_csv_read : ℕ
+longest_csv_read = 67108865
 
 -- how many bytes of files a lane is given at once at most: fewer than 1,048,576, and then what is given at once of one
 abbrev pub longest_given : ℕ
@@ -59,14 +59,14 @@ AreParts form begin name b (w ∷ ws) rest =
 -- once; or with as many, parts would have more than parts may have
 abbrev pub HasNoMoreParts : Form → List ℕ → List ℕ → Type 0
 HasNoMoreParts Csv b rest = ⊤
-HasNoMoreParts Json b rest = HasNoEnd (take longest_read rest)
-    ⊎ (longest_in_parts < (length b - length rest) + longest_read)
+HasNoMoreParts Json b rest = HasNoEnd (take longest_csv_read rest)
+    ⊎ (longest_in_parts < (length b - length rest) + longest_csv_read)
 
 -- these works are all of it: parts, and then what is left, up to so many bytes; more than may be stored at once only
 -- of a file that is too long, once no further part is given
-pub record IsRead (form : Form) (begin : Begin) (name b : List ℕ) (ws : List Work) : Type 0 where
+pub record IsFileRead (form : Form) (begin : Begin) (name b : List ℕ) (ws : List Work) : Type 0 where
   pub parts : List Work
   pub rest : List ℕ
   pub are : AreParts form begin name b parts rest
-  pub is : ws ≡ parts ++ work.Ingest form (begin_after begin parts) name (take longest_read rest) ∷ []
+  pub is : ws ≡ parts ++ work.Ingest form (begin_after begin parts) name (take longest_csv_read rest) ∷ []
   pub long : longest_file < length rest → IsTooLong form b × HasNoMoreParts form b rest

@@ -2,9 +2,9 @@
 -- still gives, and faults how often it failed.
 use Rattle.std.specs.Prelude.{ℕ, ◌≡◌, ◌+◌, ◌<◌, ◌≤◌, ◌⊎◌, List, [], ◌∷◌, ◌++◌, Bool, true, false}
 use Rattle.std.specs.Prelude.{Option, None, Some, IfSome, IsSome, length, map, slice_get, ⊤}
-use Rattle.fish_feed.specs.OpenFiles.{CanRead, IsBegun}
+use Rattle.fish_feed.specs.OpenFiles.{CanRead, HasPassedHeader}
 use Rattle.fish_feed.specs.Parts.{AreParts, begin_after, longest_given, longest_in_parts}
-use Rattle.fish_feed.specs.Works.{AreAnewAfterFirst, AreDone, IsWorkOf, Pairs, StoresNone, bytes_of}
+use Rattle.fish_feed.specs.Works.{AreAnewAfterFirst, AreStatementsDone, IsWorkOf, StoresNone, bytes_in_works}
 use Rattle.fish_feed.specs.declared.part.OpenFile.{OpenFile}
 use Rattle.fish_feed.specs.declared.queue.Queue.{Queue}
 use Rattle.fish_feed.specs.declared.queue.Todo.{Todo}
@@ -15,6 +15,7 @@ use Rattle.fish_lanes.specs.declared.lane.Lane.{Lane}
 use Rattle.fish_lanes.specs.declared.work.Work.{Work}
 use Rattle.fish_lines.specs.declared.resuming.Begin.TheVariants.{Start}
 use Rattle.fish_outside.specs.Content.{Files}
+use Rattle.fish_script.specs.Laws.{Pairs}
 use Rattle.fish_script.specs.Runnable.{AreRunnable}
 use Rattle.fish_script.specs.Script.{AreFree}
 use Rattle.fish_script.specs.declared.script.Statement.{Statement}
@@ -23,7 +24,7 @@ use Rattle.fish_script.specs.declared.script.Statement.TheVariants as does
 -- ---- statements that are to be given
 
 -- this much was given of the file that a statement names; what came and what is left, but for lost bytes, is to come
-pub record IsOpen {F : Type 0} (told : Option Files) (left : F → Option (List ℕ)) (s : Statement) (given : List Work)
+pub record IsOpenOf {F : Type 0} (told : Option Files) (left : F → Option (List ℕ)) (s : Statement) (given : List Work)
     (o : OpenFile F) : Type 0 where
   pub header : Bool
   pub is : s ≡ does.Ingest o.form header o.name
@@ -37,15 +38,14 @@ pub record IsOpen {F : Type 0} (told : Option Files) (left : F → Option (List 
 -- the statement is to be given
 abbrev pub IsDue : {F : Type 0} → Option Files → (F → Option (List ℕ)) → Statement → Todo F → Type 0
 IsDue told left s (todo.Work w) = IsWorkOf s w
-IsDue told left s (todo.File o) = IsOpen told left s [] o × IfSome told (λ files. IsSome (left o.feed))
+IsDue told left s (todo.File o) = IsOpenOf told left s [] o × IfSome told (λ files. IsSome (left o.feed))
 
 -- the first statement has the file that is being read, if one is, of which so much was given; the others are to come
-abbrev pub GoesOn
-    : {F : Type 0} → Option Files → (F → Option (List ℕ)) → Option (OpenFile F) → List Statement → List Work
-    → List (Todo F) → Type 0
-GoesOn told left None ss given todos = (given ≡ []) × Pairs (IsDue told left) ss todos
-GoesOn told left (Some o) [] given todos = ⊥
-GoesOn told left (Some o) (s ∷ ss) given todos = IsOpen told left s given o × Pairs (IsDue told left) ss todos
+abbrev pub GoesOnFeed : {F : Type 0} → Option Files → (F → Option (List ℕ)) → Option (OpenFile F) → List Statement
+    → List Work → List (Todo F) → Type 0
+GoesOnFeed told left None ss given todos = (given ≡ []) × Pairs (IsDue told left) ss todos
+GoesOnFeed told left (Some o) [] given todos = ⊥
+GoesOnFeed told left (Some o) (s ∷ ss) given todos = IsOpenOf told left s given o × Pairs (IsDue told left) ss todos
 
 -- a lane of these statements was given these works, and is to be given what is open and what follows
 pub record HasQueue {F : Type 0} (told : Option Files) (left : F → Option (List ℕ)) (ss : List Statement)
@@ -56,18 +56,18 @@ pub record HasQueue {F : Type 0} (told : Option Files) (left : F → Option (Lis
   pub then : List Work
   pub statements : ss ≡ done ++ next
   pub works : given ≡ first ++ then
-  pub are : AreDone told done first
-  pub goes : GoesOn told left current next then todos
+  pub are : AreStatementsDone told done first
+  pub goes : GoesOnFeed told left current next then todos
 
 abbrev pub IsQueue
     : {F : Type 0} → Option Files → (F → Option (List ℕ)) → List Statement → List Work → Queue F → Type 0
 IsQueue told left ss given q = HasQueue told left ss given q.current q.todos.items
 
 -- it was given these works, and perhaps others that were lost
-abbrev pub MayEnd
+abbrev pub MayEndFeed
     : {F : Type 0} → Option Files → (F → Option (List ℕ)) → List Statement → List Work → Queue F → Type 0
-MayEnd told left ss given q =
-    (more : List Work) × (IsQueue told left ss (given ++ more) q ⊎ AreDone told ss (given ++ more))
+MayEndFeed told left ss given q =
+    (more : List Work) × (IsQueue told left ss (given ++ more) q ⊎ AreStatementsDone told ss (given ++ more))
 
 -- ---- before a block
 
@@ -76,8 +76,8 @@ abbrev pub AllRunnable : List (List Statement) → Type 0
 AllRunnable texts = (i : ℕ) (ss : List Statement) → slice_get texts i ≡ Some ss → AreRunnable ss
 
 -- and what the first lane alone may hold stands in no other
-abbrev pub AllFree : List (List Statement) → Type 0
-AllFree texts = (i : ℕ) (ss : List Statement) → 0 < i → slice_get texts i ≡ Some ss → AreFree ss
+abbrev pub OthersAreFree : List (List Statement) → Type 0
+OthersAreFree texts = (i : ℕ) (ss : List Statement) → 0 < i → slice_get texts i ≡ Some ss → AreFree ss
 
 -- ---- works that a lane may do
 
@@ -88,20 +88,20 @@ MayDo false w = IsShared w
 
 abbrev pub IsFitTodo : {F : Type 0} → (F → ℕ) → Bool → Todo F → Type 0
 IsFitTodo faults first (todo.Work w) = MayDo first w × StoresNone w
-IsFitTodo faults first (todo.File o) = CanRead faults o × (IsBegun o → ⊥)
+IsFitTodo faults first (todo.File o) = CanRead faults o × (HasPassedHeader o → ⊥)
 
 abbrev pub AreFitTodos : {F : Type 0} → (F → ℕ) → Bool → List (Todo F) → Type 0
 AreFitTodos faults first [] = ⊤
 AreFitTodos faults first (t ∷ todos) = IsFitTodo faults first t × AreFitTodos faults first todos
 
 -- the queue is one for the first lane, or for another
-pub record IsFit {F : Type 0} (faults : F → ℕ) (first : Bool) (q : Queue F) : Type 0 where
+pub record IsFitQueue {F : Type 0} (faults : F → ℕ) (first : Bool) (q : Queue F) : Type 0 where
   pub current : IfSome q.current (CanRead faults)
   pub todos : AreFitTodos faults first q.todos.items
 
 abbrev pub AreFit : {F : Type 0} → (F → ℕ) → Bool → List (Queue F) → Type 0
 AreFit faults first [] = ⊤
-AreFit faults first (q ∷ queues) = IsFit faults first q × AreFit faults false queues
+AreFit faults first (q ∷ queues) = IsFitQueue faults first q × AreFit faults false queues
 
 -- the statements of a lane are such, and of lanes
 abbrev pub MayDoAll : Bool → List Work → Type 0
@@ -129,7 +129,7 @@ pub record IsGiven (x y : Lane) : Type 0 where
   pub none : x.works ≡ []
   pub is : y ≡ record x { works = y.works }
   pub one : AreAnewAfterFirst y.works
-  pub few : bytes_of y.works ≤ longest_given
+  pub few : bytes_in_works y.works ≤ longest_given
 
 -- no lane has a statement
 abbrev pub AreIdle : List Lane → Type 0

@@ -1,6 +1,6 @@
 -- What the statements of a script have a lane do, over files that are told.
 use Rattle.std.specs.Prelude.{ℕ, ◌≡◌, ◌≢◌, ◌+◌, List, [], ◌∷◌, ◌++◌, length, Option, Some, IfSome, ⊤}
-use Rattle.fish_feed.specs.Parts.{IsRead}
+use Rattle.fish_feed.specs.Parts.{IsFileRead}
 use Rattle.fish_lang.specs.Definition.{definition_of}
 use Rattle.fish_lang.specs.declared.definition.Def.{Def}
 use Rattle.fish_lanes.specs.declared.work.Work.{Work}
@@ -11,6 +11,7 @@ use Rattle.fish_outside.specs.Content.{Files}
 use Rattle.fish_scan.specs.declared.ask.Ask.{Ask}
 use Rattle.fish_scan.specs.declared.ask.How.{How}
 use Rattle.fish_scan.specs.declared.ask.How.TheVariants as how
+use Rattle.fish_script.specs.Laws.{Pairs}
 use Rattle.fish_script.specs.declared.script.By.{By}
 use Rattle.fish_script.specs.declared.script.By.TheVariants as by
 use Rattle.fish_script.specs.declared.script.Statement.{Statement}
@@ -20,14 +21,7 @@ use Rattle.fish_value.specs.declared.value.Value.{Value}
 
 -- ---- lists side by side
 
--- the two lists are as long, and R holds of each two at one position
-abbrev pub Pairs : {A B : Type 0} → (A → B → Type 0) → List A → List B → Type 0
-Pairs R [] [] = Unit {0}
-Pairs R [] (y ∷ ys) = ⊥
-Pairs R (x ∷ xs) [] = ⊥
-Pairs R (x ∷ xs) (y ∷ ys) = R x y × Pairs R xs ys
-
--- the same of three
+-- the three lists are as long, and R holds of each three elements at one position
 abbrev pub Triples : {A B C : Type 0} → (A → B → C → Type 0) → List A → List B → List C → Type 0
 Triples R [] [] [] = Unit {0}
 Triples R (x ∷ xs) (y ∷ ys) (z ∷ zs) = R x y z × Triples R xs ys zs
@@ -58,17 +52,18 @@ IsWorkOf does.Checkpoint w = w ≡ work.Checkpoint
 -- these works do a statement: they are its file, perhaps in parts, or it is one without a file
 abbrev pub IsDone : Option Files → Statement → List Work → Type 0
 IsDone told (does.Ingest form header name) ws =
-    (b : List ℕ) × IsRead form (Start header) name b ws × IfSome told (λ files. files name ≡ Some b)
+    (b : List ℕ) × IsFileRead form (Start header) name b ws × IfSome told (λ files. files name ≡ Some b)
 IsDone told s ws = (w : Work) × (ws ≡ w ∷ []) × IsWorkOf s w
 
 -- they do these statements, one after the other
-abbrev pub AreDone : Option Files → List Statement → List Work → Type 0
-AreDone told [] ws = ws ≡ []
-AreDone told (s ∷ ss) ws = (now then : List Work) × (ws ≡ now ++ then) × IsDone told s now × AreDone told ss then
+abbrev pub AreStatementsDone : Option Files → List Statement → List Work → Type 0
+AreStatementsDone told [] ws = ws ≡ []
+AreStatementsDone told (s ∷ ss) ws = (now then : List Work) × (ws ≡ now ++ then) × IsDone told s now
+    × AreStatementsDone told ss then
 
 -- they are the first ones of works that do
 abbrev pub AreFirstOf : Option Files → List Statement → List Work → Type 0
-AreFirstOf told ss ws = (more : List Work) × AreDone told ss (ws ++ more)
+AreFirstOf told ss ws = (more : List Work) × AreStatementsDone told ss (ws ++ more)
 
 -- ---- works that are given at once
 
@@ -77,13 +72,13 @@ abbrev pub StoresNone : Work → Type 0
 StoresNone w = (form : Form) (begin : Begin) (name file : List ℕ) → w ≢ work.Ingest form begin name file
 
 -- how many bytes of a file it stores, and works do
-abbrev pub bytes_in : Work → ℕ
-bytes_in (work.Ingest form begin name file) = length file
-bytes_in w = 0
+abbrev pub bytes_in_work : Work → ℕ
+bytes_in_work (work.Ingest form begin name file) = length file
+bytes_in_work w = 0
 
-abbrev pub bytes_of : List Work → ℕ
-bytes_of [] = 0
-bytes_of (w ∷ ws) = bytes_in w + bytes_of ws
+abbrev pub bytes_in_works : List Work → ℕ
+bytes_in_works [] = 0
+bytes_in_works (w ∷ ws) = bytes_in_work w + bytes_in_works ws
 
 -- the work is no later part of a file
 abbrev pub IsAnew : Work → Type 0

@@ -1,10 +1,11 @@
 //! The lanes of a block, as a script has them, with the files that they store.
 
 ghost use Rattle.std.specs.Prelude.{◌≡◌, [], Bool, IfOk, false, true};
-ghost use Rattle.fish_feed.specs.Queues.{AllFree, AllRunnable, AreFit, IsDue, IsFit, IsFitTodo, IsQueue};
+ghost use Rattle.fish_feed.specs.Queues.{OthersAreFree, AllRunnable, AreFit, IsDue, IsFitQueue, IsFitTodo, IsQueue};
 ghost use Rattle.fish_feed.specs.within.Queues.{HasNoFile};
 ghost use Rattle.fish_outside.specs.Reading.{HasReadCause};
-ghost use Rattle.fish_feed.specs.Works.{IsWorkOf, Pairs, ask_of, how_of};
+ghost use Rattle.fish_feed.specs.Works.{IsWorkOf, ask_of, how_of};
+ghost use Rattle.fish_script.specs.Laws.{Pairs};
 ghost use Rattle.fish_lang.specs.Definition.{definition_of};
 ghost use Rattle.fish_outside.specs.Content.{SameFiles};
 ghost use Rattle.fish_registry.specs.Refusing.{IsSaid};
@@ -33,7 +34,7 @@ pub fn open_lanes<H: Host>(
 where
     H::Feed: Drop,
     requires runnable { AllRunnable texts.now }
-    requires free { AllFree texts.now }
+    requires free { OthersAreFree texts.now }
     ensures queues { IfOk result (λ queues. Pairs (λ ss q. IsQueue (H.files host.new) H.Feed.left ss [] q) texts.now
         queues.items) }
     ensures fit { IfOk result (λ queues. AreFit H.Feed.faults true queues.items) }
@@ -71,7 +72,7 @@ where
     requires runnable { AreRunnable statements.now }
     ensures queue { IfOk result (IsQueue (H.files host.new) H.Feed.left statements.now []) }
     ensures fit { IfOk result (λ q. (first : Bool) → (first ≡ false → AreFree statements.now)
-        → IsFit H.Feed.faults first q) }
+        → IsFitQueue H.Feed.faults first q) }
     ensures content { SameFiles (H.files host.old) (H.files host.new) }
     ensures cause { HasReadCause (H.faults host.old) (H.faults host.new) result }
 {

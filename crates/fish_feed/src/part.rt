@@ -2,9 +2,9 @@
 
 ghost use Rattle.std.specs.Prelude.{◌≡◌, ◌<◌, ◌≤◌, ◌+◌, [], None, length, take, true, false};
 ghost use Rattle.std.specs.Prelude.{IfOk, IfSome, IsErrOf, IsSome, OnErr, OnOk};
-ghost use Rattle.fish_feed.specs.Parts.{EndsLine, HasNoEnd, longest_read};
-ghost use Rattle.fish_feed.specs.OpenFiles.{CanRead, GivesPart, IsStuck, IsUnread};
-ghost use Rattle.fish_feed.specs.within.OpenFiles.{HasRead, IsCutOff, IsFull, ReadsOn};
+ghost use Rattle.fish_feed.specs.Parts.{EndsLine, HasNoEnd, longest_csv_read};
+ghost use Rattle.fish_feed.specs.OpenFiles.{CanRead, GivesPart, IsStuck, IsFileUnread};
+ghost use Rattle.fish_feed.specs.within.OpenFiles.{HasReadMore, IsCutOff, HoldsWanted, ReadsOnFile};
 ghost use Rattle.fish_lanes.specs.declared.work.Work.TheVariants as work;
 ghost use Rattle.fish_outside.specs.Causes.{Rose, counted_on};
 ghost use Rattle.fish_outside.specs.Content.{IsAtEnd, SameFiles};
@@ -66,7 +66,7 @@ pub fn open_file<F: Source>(
     name: Text,
     feed: F,
 ) -> OpenFile<F>
-    ensures file { IsUnread form begin name feed result }
+    ensures file { IsFileUnread form begin name feed result }
     ensures can { CanRead F.faults result }
 {
     OpenFile {
@@ -89,7 +89,7 @@ pub fn read_part<F: Source>(
     most: usize,
 ) -> Result<Part, FeedRefusal>
     requires can { CanRead F.faults file.old }
-    requires most { most ≤ longest_read }
+    requires most { most ≤ longest_csv_read }
     ensures part { IfOk result (λ p. GivesPart F.left file.old p file.new) }
     ensures can { OnOk result (CanRead F.faults file.new) }
     ensures content { IsSome (F.left file.new.feed) → IsSome (F.left file.old.feed) }
@@ -115,10 +115,10 @@ fn read_until<F: Source>(
     wanted: usize,
 ) -> Result<Option<Part>, AllocError>
     requires can { CanRead F.faults file.old }
-    requires wanted { wanted ≤ longest_read }
+    requires wanted { wanted ≤ longest_csv_read }
     ensures some { IfOk result (λ found. IfSome found (λ p. GivesPart F.left file.old p file.new)) }
-    ensures none { IfOk result (λ found. found ≡ None → HasRead F.left file.old file.new) }
-    ensures full { IfOk result (λ found. found ≡ None → IsFull wanted file.new
+    ensures none { IfOk result (λ found. found ≡ None → HasReadMore F.left file.old file.new) }
+    ensures full { IfOk result (λ found. found ≡ None → HoldsWanted wanted file.new
         × IsStuck file.new.form file.new.room file.new.rest) }
     ensures can { OnOk result (CanRead F.faults file.new) }
     ensures content { IsSome (F.left file.new.feed) → IsSome (F.left file.old.feed) }
@@ -140,12 +140,12 @@ fn read_ahead<F: Source>(
     wanted: usize,
 ) -> Result<bool, AllocError>
     requires can { CanRead F.faults file.old }
-    requires wanted { wanted ≤ longest_read }
-    ensures read { OnOk result (HasRead F.left file.old file.new) }
-    ensures on { ReadsOn F.left file.old file.new }
+    requires wanted { wanted ≤ longest_csv_read }
+    ensures read { OnOk result (HasReadMore F.left file.old file.new) }
+    ensures on { ReadsOnFile F.left file.old file.new }
     ensures end { IfOk result (λ end. end ≡ true → IsAtEnd (F.left file.new.feed)
         × (length file.new.rest < wanted)) }
-    ensures full { IfOk result (λ end. end ≡ false → IsFull wanted file.new) }
+    ensures full { IfOk result (λ end. end ≡ false → HoldsWanted wanted file.new) }
     ensures can { CanRead F.faults file.new }
 {
     if file.lost {
@@ -174,8 +174,8 @@ fn read_some<F: Source>(
     part: &mut [u8],
 ) -> Result<Option<usize>, AllocError>
     requires whole { file.old.lost ≡ false }
-    ensures read { OnOk result (HasRead F.left file.old file.new) }
-    ensures on { ReadsOn F.left file.old file.new }
+    ensures read { OnOk result (HasReadMore F.left file.old file.new) }
+    ensures on { ReadsOnFile F.left file.old file.new }
     ensures some { IfOk result (λ found. IfSome found (λ n. (n ≤ length part.old)
         × (length file.new.rest ≡ length file.old.rest + n) × (file.new.failed ≡ file.old.failed)
         × (0 < length part.old → n ≡ 0 → IsAtEnd (F.left file.new.feed)))) }
@@ -204,7 +204,7 @@ fn read_some<F: Source>(
 /// Reads on in a file, until as much of it has come as a lane is given at once. A failure shows once that is given.
 pub(crate) fn read_on<F: Source>(alloc: Global, file: &mut OpenFile<F>)
     requires can { CanRead F.faults file.old }
-    ensures on { ReadsOn F.left file.old file.new }
+    ensures on { ReadsOnFile F.left file.old file.new }
     ensures can { CanRead F.faults file.new }
 {
     match read_ahead(alloc, file, AT_ONCE) {

@@ -3,14 +3,17 @@
 ghost use Rattle.std.specs.Prelude.{◌≡◌, ◌+◌, ◌++◌, ◌∷◌, ◌<◌, ◌≤◌, ℕ, List, Option, [], Bool, true, false, None};
 ghost use Rattle.std.specs.Prelude.{IfErr, IfOk, IfSome};
 ghost use Rattle.std.specs.Prelude.{IsSome, OnErr, OnOk, length, option_to_list};
-ghost use Rattle.fish_feed.specs.Giving.{Gives};
-ghost use Rattle.fish_feed.specs.OpenFiles.{CanRead, IsBegun};
-ghost use Rattle.fish_feed.specs.Parts.{longest_read};
-ghost use Rattle.fish_feed.specs.Queues.{AreFit, AreIdle, GoesDown, IsFit, IsGiven, IsQueue, MayDo, MayDoAll, MayEnd};
+ghost use Rattle.fish_feed.specs.Giving.{GivesWorks};
+ghost use Rattle.fish_feed.specs.OpenFiles.{CanRead, HasPassedHeader};
+ghost use Rattle.fish_feed.specs.Parts.{longest_csv_read};
+ghost use Rattle.fish_feed.specs.Queues.{AreFit, AreIdle, GoesDown, IsFitQueue, IsGiven, IsQueue, MayDo, MayDoAll};
+ghost use Rattle.fish_feed.specs.Queues.{MayEndFeed};
 ghost use Rattle.fish_feed.specs.Queues.{left_of, left_of_all};
 ghost use Rattle.fish_feed.specs.within.Queues.{AreReadOn, IsReadOn};
 ghost use Rattle.fish_outside.specs.Reading.{HasReadCause};
-ghost use Rattle.fish_feed.specs.Works.{AreAnew, AreDone, AreFirstOf, IsAnew, Pairs, StoresNone, Triples, bytes_in};
+ghost use Rattle.fish_feed.specs.Works.{AreAnew, AreStatementsDone, AreFirstOf, IsAnew, StoresNone, Triples};
+ghost use Rattle.fish_feed.specs.Works.{bytes_in_work};
+ghost use Rattle.fish_script.specs.Laws.{Pairs};
 ghost use Rattle.fish_lanes.specs.declared.work.Work.{Work as Does};
 ghost use Rattle.fish_outside.specs.Content.{Files, SameFiles};
 ghost use Rattle.fish_script.specs.declared.script.Statement.{Statement};
@@ -57,7 +60,7 @@ where
     requires many { length lanes.old ≡ length queues.old }
     requires empty { AreIdle lanes.old }
     requires fit { (first : Bool) × AreFit H.Feed.faults first queues.old }
-    ensures gives { Gives H.Feed.left H.Feed.faults (H.files host.old) (H.files host.new) queues.old queues.new
+    ensures gives { GivesWorks H.Feed.left H.Feed.faults (H.files host.old) (H.files host.new) queues.old queues.new
         lanes.old lanes.new result }
     ensures content { SameFiles (H.files host.old) (H.files host.new) }
     ensures cause { HasReadCause (H.faults host.old) (H.faults host.new) result }
@@ -128,7 +131,7 @@ where
     requires many { length lanes.old ≡ length queues.old }
     requires empty { AreIdle lanes.old }
     requires fit { (first : Bool) × AreFit H.Feed.faults first queues.old }
-    ensures gives { Gives H.Feed.left H.Feed.faults (H.files host.old) (H.files host.new) queues.old queues.new
+    ensures gives { GivesWorks H.Feed.left H.Feed.faults (H.files host.old) (H.files host.new) queues.old queues.new
         lanes.old lanes.new result }
     ensures content { SameFiles (H.files host.old) (H.files host.new) }
     ensures cause { HasReadCause (H.faults host.old) (H.faults host.new) result }
@@ -154,16 +157,16 @@ fn give_one<H: Host>(
 where
     H::Feed: Drop,
     requires empty { lane.old.works ≡ [] }
-    requires fit { (first : Bool) × IsFit H.Feed.faults first queue.old }
+    requires fit { (first : Bool) × IsFitQueue H.Feed.faults first queue.old }
     ensures given { OnOk result ((ss : List Statement) (given : List Does)
         → IsQueue (H.files host.old) H.Feed.left ss given queue.old
         → IsQueue (H.files host.new) H.Feed.left ss (given ++ lane.new.works) queue.new) }
     ensures failed { OnErr result ((ss : List Statement) (given : List Does)
         → IsQueue (H.files host.old) H.Feed.left ss given queue.old
-        → MayEnd (H.files host.new) H.Feed.left ss (given ++ lane.new.works) queue.new) }
+        → MayEndFeed (H.files host.new) H.Feed.left ss (given ++ lane.new.works) queue.new) }
     ensures lane { IsGiven lane.old lane.new }
-    ensures fit { (first : Bool) → IsFit H.Feed.faults first queue.old
-        → IsFit H.Feed.faults first queue.new × MayDoAll first lane.new.works }
+    ensures fit { (first : Bool) → IsFitQueue H.Feed.faults first queue.old
+        → IsFitQueue H.Feed.faults first queue.new × MayDoAll first lane.new.works }
     ensures less { OnOk result (GoesDown (left_of queue.old) (left_of queue.new)) }
     ensures content { SameFiles (H.files host.old) (H.files host.new) }
     ensures cause { HasReadCause (H.faults host.old) (H.faults host.new) result }
@@ -189,7 +192,7 @@ where
 fn room_after(most: usize, work: &Work, is_part: bool) -> usize
     ensures less { result ≤ most }
     ensures part { is_part ≡ true → result ≡ 0 }
-    ensures used { 0 < result → result + bytes_in work.now ≤ most }
+    ensures used { 0 < result → result + bytes_in_work work.now ≤ most }
 {
     if is_part {
         return 0;
@@ -208,17 +211,17 @@ fn next<H: Host>(
 ) -> Result<Option<Work>, FeedRefusal>
 where
     H::Feed: Drop,
-    requires fit { (first : Bool) × IsFit H.Feed.faults first queue.old }
+    requires fit { (first : Bool) × IsFitQueue H.Feed.faults first queue.old }
     ensures given { IfOk result (λ w. (ss : List Statement) (given : List Does)
         → IsQueue (H.files host.old) H.Feed.left ss given queue.old
         → IsQueue (H.files host.new) H.Feed.left ss (given ++ option_to_list w) queue.new) }
     ensures failed { IfErr result (λ _. (ss : List Statement) (given : List Does)
         → IsQueue (H.files host.old) H.Feed.left ss given queue.old
-        → MayEnd (H.files host.new) H.Feed.left ss given queue.new) }
-    ensures fit { (first : Bool) → IsFit H.Feed.faults first queue.old → IsFit H.Feed.faults first queue.new
+        → MayEndFeed (H.files host.new) H.Feed.left ss given queue.new) }
+    ensures fit { (first : Bool) → IsFitQueue H.Feed.faults first queue.old → IsFitQueue H.Feed.faults first queue.new
         × IfOk result (λ w. MayDoAll first (option_to_list w)
         × (queue.old.current ≡ None → AreAnew (option_to_list w))) }
-    ensures some { IfOk result (λ w. IfSome w (λ x. (bytes_in x ≤ longest_read)
+    ensures some { IfOk result (λ w. IfSome w (λ x. (bytes_in_work x ≤ longest_csv_read)
         × (left_of queue.new < left_of queue.old))) }
     ensures none { IfOk result (λ w. w ≡ None → (left_of queue.old ≡ 0) × (left_of queue.new ≡ 0)) }
     ensures content { SameFiles (H.files host.old) (H.files host.new) }
@@ -237,9 +240,9 @@ where
 fn open_next<F: Source + Drop>(queue: &mut Queue<F>) -> Option<Work>
     ensures queue { (told : Option Files) (ss : List Statement) (given : List Does)
         → IsQueue told F.left ss given queue.old → IsQueue told F.left ss (given ++ option_to_list result) queue.new }
-    ensures fit { (first : Bool) → IsFit F.faults first queue.old
-        → IsFit F.faults first queue.new × MayDoAll first (option_to_list result) × IfSome result StoresNone
-        × (queue.old.current ≡ None → IfSome queue.new.current (λ o. IsBegun o → ⊥)) }
+    ensures fit { (first : Bool) → IsFitQueue F.faults first queue.old
+        → IsFitQueue F.faults first queue.new × MayDoAll first (option_to_list result) × IfSome result StoresNone
+        × (queue.old.current ≡ None → IfSome queue.new.current (λ o. HasPassedHeader o → ⊥)) }
     ensures some { IfSome result (λ _. left_of queue.new < left_of queue.old) }
     ensures down { left_of queue.new ≤ left_of queue.old }
     ensures none { result ≡ None → queue.new.current ≡ None
@@ -267,17 +270,17 @@ fn read_open<H: Host>(
 where
     H::Feed: Drop,
     requires current { IsSome queue.old.current }
-    requires fit { (first : Bool) × IsFit H.Feed.faults first queue.old }
+    requires fit { (first : Bool) × IsFitQueue H.Feed.faults first queue.old }
     ensures given { IfOk result (λ w. (ss : List Statement) (given : List Does)
         → IsQueue (H.files host.old) H.Feed.left ss given queue.old
         → IsQueue (H.files host.new) H.Feed.left ss (given ++ w ∷ []) queue.new) }
     ensures failed { IfErr result (λ _. (ss : List Statement) (given : List Does)
         → IsQueue (H.files host.old) H.Feed.left ss given queue.old
-        → MayEnd (H.files host.new) H.Feed.left ss given queue.new) }
-    ensures fit { (first : Bool) → IsFit H.Feed.faults first queue.old → IsFit H.Feed.faults first queue.new }
+        → MayEndFeed (H.files host.new) H.Feed.left ss given queue.new) }
+    ensures fit { (first : Bool) → IsFitQueue H.Feed.faults first queue.old → IsFitQueue H.Feed.faults first queue.new }
     ensures work { IfOk result (λ w. ((first : Bool) → MayDo first w)
-        × (IfSome queue.old.current (λ o. IsBegun o → ⊥) → IsAnew w)) }
-    ensures less { IfOk result (λ w. (bytes_in w ≤ longest_read) × (left_of queue.new < left_of queue.old)) }
+        × (IfSome queue.old.current (λ o. HasPassedHeader o → ⊥) → IsAnew w)) }
+    ensures less { IfOk result (λ w. (bytes_in_work w ≤ longest_csv_read) × (left_of queue.new < left_of queue.old)) }
     ensures content { SameFiles (H.files host.old) (H.files host.new) }
     ensures cause { HasReadCause (H.faults host.old) (H.faults host.new) result }
 {
@@ -305,7 +308,7 @@ pub fn has_more<F: Source>(queues: &[Queue<F>]) -> bool
     ensures some { result ≡ true → 0 < left_of_all queues.now }
     ensures zero { result ≡ false → left_of_all queues.now ≡ 0 }
     ensures none { result ≡ false → (texts : List (List Statement)) (given : List (List Does)) (told : Option Files)
-        → Triples (IsQueue told F.left) texts given queues.now → Pairs (AreDone told) texts given }
+        → Triples (IsQueue told F.left) texts given queues.now → Pairs (AreStatementsDone told) texts given }
 {
     for queue in queues {
         if queue.current.is_some() || queue.todos.len() > 0 {
@@ -320,7 +323,7 @@ pub fn close<H: Host>(host: &mut H, queues: &mut [Queue<H::Feed>])
 where
     H::Feed: Drop,
     ensures first { (texts : List (List Statement)) (given : List (List Does))
-        → Triples (MayEnd (H.files host.old) H.Feed.left) texts given queues.old
+        → Triples (MayEndFeed (H.files host.old) H.Feed.left) texts given queues.old
         → Pairs (AreFirstOf (H.files host.new)) texts given }
     ensures content { SameFiles (H.files host.old) (H.files host.new) }
     ensures later { H.faults host.old ≤ H.faults host.new }
@@ -337,7 +340,7 @@ fn close_one<H: Host>(host: &mut H, queue: &mut Queue<H::Feed>)
 where
     H::Feed: Drop,
     ensures first { (ss : List Statement) (given : List Does)
-        → MayEnd (H.files host.old) H.Feed.left ss given queue.old
+        → MayEndFeed (H.files host.old) H.Feed.left ss given queue.old
         → AreFirstOf (H.files host.new) ss given }
     ensures content { SameFiles (H.files host.old) (H.files host.new) }
     ensures later { H.faults host.old ≤ H.faults host.new }

@@ -8,7 +8,7 @@ use Rattle.fish_catalog.specs.PageStarts.{starts_after}
 use Rattle.fish_catalog.specs.declared.page_start.PageStart.{PageStart}
 use Rattle.fish_flush.proofs.RegionSteps.{holds_later, line_later, line_same, line_start, read_more}
 use Rattle.fish_flush.proofs.TableRegions.{ends_inside, some_lines}
-use Rattle.fish_flush.specs.within.Filling.{HasAdded, HasRoom, IsCopied, pending}
+use Rattle.fish_flush.specs.within.Filling.{HasAdded, HasBatchRoom, IsCopied, pending}
 use Rattle.fish_flush.specs.Reading.{IsLineAt}
 use Rattle.fish_flush.specs.within.Reading.{IsLooked, IsReadTo}
 use Rattle.fish_flush.specs.declared.batch.Batch.{Batch}
@@ -22,7 +22,7 @@ use Rattle.fish_rule.proofs.laws.Learning.{extends_to_read, read_here}
 use Rattle.fish_rule.proofs.laws.Steps.{header_law}
 use Rattle.fish_rule.specs.LoadSteps.{after_read_word}
 use Rattle.fish_rule.specs.Logs.{Extends, HasWords, Learns}
-use Rattle.fish_rule.specs.Table.{Stands}
+use Rattle.fish_rule.specs.Table.{IsOfMoment}
 use Rattle.fish_rule.specs.Views.{Among}
 use Rattle.fish_rule.specs.World.{last_line}
 use Rattle.fish_rule.specs.declared.view.Found.{Found}
@@ -42,7 +42,7 @@ pub record IsNext (k : Key) (at : ℕ) (f : Found) : Type 0 where
 
 -- a region that was read begins where all before it ends
 pub region_next : (k : Key) (v u : View) (n at : ℕ) (f : Found) (words : List ℕ) → f.number ≡ n → f.kind ≢ Mark
-    → Among f u.learned.found → HasWords u f words → IsLineAt v n at → Learns v u → Stands u → u.about ≡ k → IsNext k at f
+    → Among f u.learned.found → HasWords u f words → IsLineAt v n at → Learns v u → IsOfMoment u → u.about ≡ k → IsNext k at f
 region_next k v u n at f words number plain among has here on stands about =
     let end = ap (λ (z : Key). z.end) about in
     let inside = ends_inside stands.moment stands.rule stands.seat stands.at f among words has plain in
@@ -57,7 +57,7 @@ region_next k v u n at f words number plain among has here on stands about =
     }
 
 -- a region that was found has few lines
-pub few_lines : (v : View) (f : Found) → Stands v → Among f v.learned.found → f.lines ≤ 18625
+pub few_lines : (v : View) (f : Found) → IsOfMoment v → Among f v.learned.found → f.lines ≤ 18625
 few_lines v f s among =
     let one = all_among (IsFound v.about s.moment.count s.moment.dir s.rule.start) f v.learned.found
     (s.rule.facts s.seat v s.at).found among in
@@ -67,7 +67,7 @@ few_lines v f s among =
     omega arith
 
 -- a region that was looked at ends where its header says
-pub region_end : (m u : View) (n to line h lines : ℕ) (f : Found) → IsLooked m n line f → suc n ≡ to → Stands u
+pub region_end : (m u : View) (n to line h lines : ℕ) (f : Found) → IsLooked m n line f → suc n ≡ to → IsOfMoment u
     → u ≡ after_read_word m (line * 4 + 0) h → lines ≡ lines_of h → IsLineAt u to (line + lines)
 region_end m u n to line h lines f t next stands read size =
     let on = extends_to_read m u (line * 4 + 0) h read in
@@ -81,7 +81,7 @@ region_end m u n to line h lines f t next stands read size =
     inr (f, among, omega arith, omega arith)
 
 -- a later region begins no earlier
-pub line_order : (u : View) (m n a b : ℕ) → Stands u → u.about.number ≤ m → m ≤ n → n ≤ u.learned.settled → IsLineAt u m a
+pub line_order : (u : View) (m n a b : ℕ) → IsOfMoment u → u.about.number ≤ m → m ≤ n → n ≤ u.learned.settled → IsLineAt u m a
     → IsLineAt u n b → a ≤ b
 line_order u m n a b s above less settled first second =
     let one = line_start u m a s first in
@@ -92,7 +92,7 @@ line_order u m n a b s above less settled first second =
     omega arith
 
 -- there is room for the starts of the pages to come
-added_starts : (a b : Batch) → HasRoom a → a.line ≤ b.line → a.line ≤ a.end → b.page ≡ page_of a.line + 1 → b.end ≡ a.end
+added_starts : (a b : Batch) → HasBatchRoom a → a.line ≤ b.line → a.line ≤ a.end → b.page ≡ page_of a.line + 1 → b.end ≡ a.end
     → vec_len b.starts ≤ vec_len a.starts + 1 → (page_of a.line < a.page → vec_len b.starts ≡ vec_len a.starts)
     → vec_capacity b.starts ≡ vec_capacity a.starts
     → (vec_len b.starts + (page_of b.end - page_of b.line) ≤ vec_capacity b.starts)
@@ -111,7 +111,7 @@ added_starts a b room ordered within page end_is few kept capacity = by (dec_le 
 
 -- ---- one region more
 
-module _ (k : Key) (v u : View) (n : ℕ) (a : Batch) (on : Extends v u) (stands : Stands u) (about : u.about ≡ k)
+module _ (k : Key) (v u : View) (n : ℕ) (a : Batch) (on : Extends v u) (stands : IsOfMoment u) (about : u.about ≡ k)
     (above : k.number ≤ n) (line : IsLineAt v n a.line) (heads' words : List ℕ) (size : ℕ)
     (copied : IsCopied u n a.heads.items heads' size words) where
   -- the region that was copied begins where all before it ends
@@ -141,7 +141,7 @@ module _ (k : Key) (v u : View) (n : ℕ) (a : Batch) (on : Extends v u) (stands
 
   -- a batch with it
   pub added : (b : Batch) (to : ℕ) → n < to → to ≤ v.learned.settled → IsLineAt v to a.end → a.written ≤ a.line
-      → page_of a.written ≡ page_of a.line → HasRoom a → b.line ≡ a.line + size / 4 → b.written ≡ a.written → b.end ≡ a.end
+      → page_of a.written ≡ page_of a.line → HasBatchRoom a → b.line ≡ a.line + size / 4 → b.written ≡ a.written → b.end ≡ a.end
       → b.heads.items ≡ heads' → length heads' ≡ length a.heads.items → length b.bytes.items ≡ length a.bytes.items
       → words_in (take (32 * (a.line - a.written) + 8 * length (take size words)) b.bytes.items)
       ≡ words_in (pending a) ++ take size words

@@ -6,7 +6,7 @@ use Rattle.std.proofs.lemmas.Nat.{pow_pos}
 use Rattle.fish_catalog.specs.declared.commit.Commit.{Commit}
 use Rattle.fish_catalog.specs.declared.entry.Entry.{Entry}
 use Rattle.fish_catalog.specs.declared.row.CatRow.{CatRow}
-use Rattle.fish_flush.specs.Carrying.{Carries, HasSettled, Reads}
+use Rattle.fish_flush.specs.Carrying.{CarriesLog, HasSettled, ReadsLog}
 use Rattle.fish_flush.specs.within.Carrying.{Drafts, MayDraft, MaySave}
 use Rattle.fish_flush.specs.Causes.{HasFlushCause}
 use Rattle.fish_flush.specs.Rows.{HoldsRows}
@@ -28,7 +28,7 @@ use Rattle.fish_rule.specs.declared.view.Key.{Key}
 use Rattle.fish_rule.specs.declared.view.View.{View}
 use Rattle.fish_walk.proofs.Looking.{ends_later, stops_below, stops_within}
 use Rattle.fish_walk.specs.Looks.{IsTailCount}
-use Rattle.fish_walk.specs.Settling.{EndsAt, HasLoadedCount, HasTail, IsEnd, IsMark, OnlySettles, StopsAt}
+use Rattle.fish_walk.specs.Settling.{EndsAt, HasLoadedCount, HasTail, IsEnd, IsMark, OnlySettles, SettlesAt}
 
 -- one clock after another
 later_both : (a b c : Clock) → IsLater a b → IsLater b c → IsLater a c
@@ -46,7 +46,7 @@ later_both a b c first second =
 
 module _ (v m u : View) (settles : OnlySettles v m) (on : Extends m u) where
   -- the call only reads
-  pub reads_on : (count : ℕ) → HasTail m count → (IsAlone v → IsTailCount count v.tail) → Reads v u
+  pub reads_on : (count : ℕ) → HasTail m count → (IsAlone v → IsTailCount count v.tail) → ReadsLog v u
   reads_on count has rests = record {
     learns = learns_both v m u settles.learns on.learns;
     clock = later_both v.clock m.clock u.clock settles.clock on.clock;
@@ -60,8 +60,8 @@ module _ (v m u : View) (settles : OnlySettles v m) (on : Extends m u) where
 
   -- what settled the number is told of the whole call
   pub has_settled : (n count : ℕ) → v.learned.settled ≤ n → n ≤ m.learned.settled → HasLoadedCount v m count → v.learned.count ≤ count
-      → StopsAt IsEnd v m n count
-      → (IsAlone v → StopsAt IsMark v m n count) → (IsAlone v → EndsAt m n count) → (IsAlone v → IsTailCount count v.tail)
+      → SettlesAt IsEnd v m n count
+      → (IsAlone v → SettlesAt IsMark v m n count) → (IsAlone v → EndsAt m n count) → (IsAlone v → IsTailCount count v.tail)
       → HasSettled v u n
   has_settled n count rises settled loaded known stops alone ends rests = record {
     rises = rises;
@@ -80,13 +80,13 @@ module _ (v m u : View) (settles : OnlySettles v m) (on : Extends m u) where
   }
 
 -- the number is one that was counted
-pub settled_counted : (v m : View) (n count : ℕ) → StopsAt IsEnd v m n count → HasTail m count → n ≤ m.learned.count
+pub settled_counted : (v m : View) (n count : ℕ) → SettlesAt IsEnd v m n count → HasTail m count → n ≤ m.learned.count
 settled_counted v m n count stops tail = (let below = stops_below IsEnd v m n count stops in let same = tail.3 in omega arith)
 
 -- the flusher may draft
 pub may_draft : (images : List ℕ → Type 0) (v m : View) (f : Flusher) (s : Shape) (rows : List CatRow)
     (c : Commit) (old : List Entry) (to : ℕ)
-    → OnlySettles v m → v.learned.settled ≤ to → HoldsRows v rows → Carries images f v s rows c old → MayDraft m s f rows to
+    → OnlySettles v m → v.learned.settled ≤ to → HoldsRows v rows → CarriesLog images f v s rows c old → MayDraft m s f rows to
 may_draft images v m f s rows c old to settles rises holds h =
     let committed = h.rest.committed in
     let within = committed.is.told.commit.within in
@@ -119,7 +119,7 @@ may_draft images v m f s rows c old to settles rises holds h =
 unfoldable pub may_save : (images : List ℕ → Type 0) (v m u : View) (end : ℕ) (s : Shape) (f : Flusher) (d : Draft) (rows : List CatRow)
     (c : Commit) (old : List Entry) (to : ℕ)
     → OnlySettles v m → v.learned.settled ≤ to → to ≤ m.learned.settled → to ≤ m.learned.count → Extends m u → HoldsRows v rows
-    → Carries images f v s rows c old → Drafts u end s f rows to d → MaySave images u end s f d rows c old
+    → CarriesLog images f v s rows c old → Drafts u end s f rows to d → MaySave images u end s f d rows c old
 may_save images v m u end s f d rows c old to settles rises settled counted on holds h drafts =
     let may = may_draft images v m f s rows c old to settles rises holds h in
     let learns = learns_both v m u settles.learns on.learns in

@@ -8,7 +8,7 @@ use Rattle.fish_catalog.specs.declared.entry.Entry.{Entry}
 use Rattle.fish_catalog.specs.declared.row.CatRow.{CatRow}
 use Rattle.fish_disk.specs.Crash.{LeavesOnly}
 use Rattle.fish_disk.proofs.Moments.{leaves_more}
-use Rattle.fish_flush.specs.Carrying.{Carries, LeavesEither}
+use Rattle.fish_flush.specs.Carrying.{CarriesLog, LeavesEither}
 use Rattle.fish_flush.specs.within.Carrying.{IsDrafted, flusher_after}
 use Rattle.fish_flush.specs.Going.{ComesFrom, GoesOnFrom}
 use Rattle.fish_flush.specs.Kept.{IsAtRest, IsCommitted, commit_of}
@@ -22,13 +22,13 @@ use Rattle.fish_image.specs.Log.{Agrees, FollowsIn}
 use Rattle.fish_image.specs.Reached.{Reached}
 use Rattle.fish_image.specs.Reading.{IsBodyOf}
 use Rattle.fish_image.specs.Slot.{number}
-use Rattle.fish_image.specs.Stands.{IsLog, Stands}
+use Rattle.fish_image.specs.Stands.{IsLogOf, Stands}
 use Rattle.fish_rule.proofs.laws.Alone.{knows_as_later}
 use Rattle.fish_rule.specs.Logs.{AreKnown, Learns, KnowsAs}
 use Rattle.fish_rule.specs.declared.table.Shape.{Shape}
 use Rattle.fish_rule.specs.declared.view.Key.{Key}
 use Rattle.fish_rule.specs.declared.view.View.{View}
-use Rattle.fish_slots.specs.Commits.{HasCommit, Rests, next_turn, turn_of}
+use Rattle.fish_slots.specs.Commits.{HasCommit, SlotRests, next_turn, turn_of}
 use Rattle.fish_slots.specs.Offsets.{lines_at}
 use Rattle.fish_slots.specs.Slots.{line_count}
 
@@ -106,7 +106,7 @@ still_goes f c log images at i h =
       more = [];
       log = log;
       has = subst (λ (l : List ℕ). HasCommit at.body l i) same h;
-      is = subst (λ (l : List ℕ). IsLog c at.body l log) same at.committed.is;
+      is = subst (λ (l : List ℕ). IsLogOf c at.body l log) same at.committed.is;
       size = ap (λ (l : List ℕ). length l) (append-nil at.lines) ∙ at.committed.size;
       bits = refl;
       counts = omega arith;
@@ -136,7 +136,7 @@ module _ (images : List ℕ → Type 0) (f : Flusher) (v u : View) (s : Shape) (
       let whole = committed.size in
       let line = committed.line in
       record {
-        rests = λ i here. subst (λ (t : ℕ). Rests t at.body at.lines i) other (at.rests i here);
+        rests = λ i here. subst (λ (t : ℕ). SlotRests t at.body at.lines i) other (at.rests i here);
         long = at.long;
         before = before;
         whole = omega arith;
@@ -203,10 +203,10 @@ module _ (images : List ℕ → Type 0) (f : Flusher) (v u : View) (s : Shape) (
   -- and once it is committed, the file carries it
   pub draft_carries : (images' : List ℕ → Type 0) → Learns v u → v.about.number ≤ f.count → to ≤ u.learned.settled
       → AreKnown v v.about.number (drop v.about.number old)
-      → ((i : List ℕ) → images' i → Rests (1 - f.slot) d.body (at.lines ++ lines) i)
+      → ((i : List ℕ) → images' i → SlotRests (1 - f.slot) d.body (at.lines ++ lines) i)
       → ((i : List ℕ) → images' i → lines_at + 32 * d.line ≤ length i)
       → (length (old ++ draft_more.0) ≡ to)
-      × Carries images' (flusher_after f d) u s rows (commit_of (flusher_after f d) s rows) (old ++ draft_more.0)
+      × CarriesLog images' (flusher_after f d) u s rows (commit_of (flusher_after f d) s rows) (old ++ draft_more.0)
   draft_carries images' learns from settled told rests long =
       let m = draft_more in
       let le = at.slot_is in

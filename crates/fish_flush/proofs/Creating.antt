@@ -17,9 +17,9 @@ use Rattle.fish_image.specs.Progress.{AreHeads}
 use Rattle.fish_image.specs.Reached.{unread}
 use Rattle.fish_image.specs.Reading.{IsBodyOf}
 use Rattle.fish_rule.specs.declared.table.Shape.{Shape}
-use Rattle.fish_slots.specs.Commits.{Rests}
+use Rattle.fish_slots.specs.Commits.{SlotRests}
 use Rattle.fish_slots.specs.Offsets.{body_at, body_bytes, gate_at, lines_at}
-use Rattle.fish_slots.specs.Slots.{IsOpen, body_of, lines_of}
+use Rattle.fish_slots.specs.Slots.{IsOpen, body_in_slot, lines_in_slot}
 
 -- over nothing, a piece is all
 at_nothing : (z o : List ℕ) → length o ≡ 0 → put_at 0 z o ≡ z
@@ -62,7 +62,7 @@ module _ (n : ℕ) (z : List ℕ) (is : z ≡ replicate n 0) (long : lines_at �
   -- the body put there, and then the first gate's byte
   pub first_image : (x y : Option (List ℕ)) (b j e : List ℕ) → IfSome x (λ c. c ≡ z) → HasWritten x y (body_at 0) b
       → length b ≡ body_bytes → y ≡ Some j → Torn (gate_at 0) 1 j e
-      → (IsOpen 1 e → ⊥) × (body_of 0 e ≡ b) × (lines_at ≤ length e)
+      → (IsOpen 1 e → ⊥) × (body_in_slot 0 e ≡ b) × (lines_at ≤ length e)
   first_image x y b j e all written size_b told torn =
       let here = told_at (λ c. (o : List ℕ) × (x ≡ Some o) × (c ≡ put_at (body_at 0) b o)) y j told written in
       let o : List ℕ = here.0 in
@@ -89,17 +89,17 @@ few_heads b few =
 -- a store without a record is at rest
 pub first_rests : (images : List ℕ → Type 0) (f : Flusher) (s : Shape) (b : List ℕ) →
     f.slot ≡ 0 → f.turn ≡ 0 → f.count ≡ 0 → f.line ≡ 0 → f.page ≡ 0 → f.starts.items ≡ [] → IsBodyOf (first_commit s) b
-    → ((c : List ℕ) → images c → IsOnlyOpen 0 c × (body_of 0 c ≡ b)) → ((c : List ℕ) → images c → lines_at ≤ length c)
+    → ((c : List ℕ) → images c → IsOnlyOpen 0 c × (body_in_slot 0 c ≡ b)) → ((c : List ℕ) → images c → lines_at ≤ length c)
     → AreHeads (2 ^ s.bucket_bits) [] f.heads.items → IsAtRest images f (first_commit s) []
 first_rests images f s b slot turn count line page starts told alone long heads = record {
   slot_is = omega (arith, slot);
   body = b;
   lines = [];
-  rests = λ i image. subst (λ (k : ℕ). Rests k b [] i) (sym slot) (record {
+  rests = λ i image. subst (λ (k : ℕ). SlotRests k b [] i) (sym slot) (record {
     gate = (alone i image).0.0;
     closed = (alone i image).0.1;
     body_is = (alone i image).1;
-    lines_are = ap (λ (k : ℕ). lines_of k i) (body_lines (first_commit s) b told);
+    lines_are = ap (λ (k : ℕ). lines_in_slot k i) (body_lines (first_commit s) b told);
   });
   long = λ i image. (let l = long i image in omega (arith, l, line));
   committed = record {

@@ -11,7 +11,7 @@ use Rattle.fish_catalog.specs.declared.row.CatRow.{CatRow}
 use Rattle.fish_catalog.specs.Words.{bound_word}
 use Rattle.fish_catalog.specs.declared.page_start.PageStart.{PageStart}
 use Rattle.fish_flush.specs.within.Carrying.{Drafts, IsDrafted, MayDraft, flusher_after}
-use Rattle.fish_flush.specs.within.Filling.{HasCopied, IsReady}
+use Rattle.fish_flush.specs.within.Filling.{HasCopied, IsBatchReady}
 use Rattle.fish_flush.specs.Kept.{IsCommitted, commit_of}
 use Rattle.fish_flush.specs.declared.batch.Batch.{Batch}
 use Rattle.fish_flush.specs.declared.drafting.Draft.{Draft}
@@ -34,7 +34,7 @@ use Rattle.fish_flush.proofs.RuleFacts.{few_numbers, starts_above}
 use Rattle.fish_lang.specs.Definition.{Definition}
 use Rattle.fish_lang.specs.Language.{IsAccepted}
 use Rattle.fish_rule.specs.Start.{IsShape}
-use Rattle.fish_rule.specs.Table.{Stands}
+use Rattle.fish_rule.specs.Table.{IsOfMoment}
 use Rattle.fish_rule.specs.declared.table.Shape.{Shape}
 use Rattle.fish_rule.specs.declared.view.View.{View}
 
@@ -106,7 +106,7 @@ boundary None h = tt
 boundary (Some n) h = (let less = h n refl in omega arith)
 
 -- the numbers of a commit are within their limits
-pub within_limits : (v : View) (s : Stands v) (shape : Shape) (rows : List CatRow) (c : Commit) → IsShape shape → HoldsRows v rows
+pub within_limits : (v : View) (s : IsOfMoment v) (shape : Shape) (rows : List CatRow) (c : Commit) → IsShape shape → HoldsRows v rows
     → c.turn < 3 → c.pages ≡ shape.pages → c.bucket_bits ≡ shape.bucket_bits → c.rows ≡ rows → v.about.number ≤ c.count
     → c.count ≤ v.learned.settled → IsLineAt v c.count c.lines → IsWithin c
 within_limits v s shape rows c is holds turn pages bits rows_are above settled line =
@@ -155,7 +155,7 @@ within_limits v s shape rows c is holds turn pages bits rows_are above settled l
 
 -- its batch is ready
 pub drafted_ready : (v : View) (end : ℕ) (s : Shape) (f : Flusher) (rows : List CatRow) (to : ℕ) (d : Draft) → MayDraft v s f rows to
-    → Drafts v end s f rows to d → IsReady v f.count to d.batch
+    → Drafts v end s f rows to d → IsBatchReady v f.count to d.batch
 drafted_ready v end s f rows to d may drafts =
     let begins = drafts.begins in
     let some_ = may.some in
@@ -170,7 +170,7 @@ drafted_ready v end s f rows to d may drafts =
 
 -- it goes on from the last one, in a view that knows more
 module _ (m u : View) (end : ℕ) (s : Shape) (f : Flusher) (rows : List CatRow) (to : ℕ) (d : Draft) (b : Batch) (lines : List ℕ)
-    (may : MayDraft m s f rows to) (drafts : Drafts m end s f rows to d) (on : Extends m u) (stands : Stands u)
+    (may : MayDraft m s f rows to) (drafts : Drafts m end s f rows to d) (on : Extends m u) (stands : IsOfMoment u)
     (copied : HasCopied m u f.count to d.batch b lines) where
   -- the lines end where the draft's do
   drafted_line : b.line ≡ d.line

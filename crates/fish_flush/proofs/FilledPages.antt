@@ -7,7 +7,7 @@ use Rattle.fish_catalog.specs.declared.commit.Commit.{Commit}
 use Rattle.fish_catalog.specs.declared.entry.Entry.{Entry}
 use Rattle.fish_flush.proofs.RegionSteps.{holds_later, line_later}
 use Rattle.fish_flush.proofs.Words.{words_both}
-use Rattle.fish_flush.specs.within.Filling.{HasAdded, HasCopied, HasRoom, IsReady, buffer_bytes, pending}
+use Rattle.fish_flush.specs.within.Filling.{HasAdded, HasCopied, HasBatchRoom, IsBatchReady, buffer_bytes, pending}
 use Rattle.fish_flush.specs.Reading.{IsLineAt}
 use Rattle.fish_flush.specs.within.Reading.{IsReadTo}
 use Rattle.fish_flush.specs.Rows.{HoldsRows}
@@ -21,7 +21,7 @@ use Rattle.fish_rule.specs.declared.view.View.{View}
 pub record AreFilled (v u : View) (end from to n : ℕ) (a b : Batch) (lines : List ℕ) : Type 0 where
   pub line : IsLineAt u n b.line
   pub end_is : IsLineAt u to b.end
-  pub room : HasRoom b
+  pub room : HasBatchRoom b
   pub heads : length b.heads.items ≡ length a.heads.items
   pub upto : a.line ≤ b.written
   pub near : b.written ≤ b.line
@@ -42,7 +42,7 @@ none_pending : (b : Batch) → b.written ≡ b.line → pending b ≡ []
 none_pending b none = ap (λ (m : ℕ). take m b.bytes.items) (let zero_ : 32 * (b.line - b.written) ≡ 0 = omega arith in zero_)
 
 -- none yet
-pub filled_none : (v : View) (end from to : ℕ) (a : Batch) → IsReady v from to a → a.line ≤ end → AreFilled v v end from to from a a []
+pub filled_none : (v : View) (end from to : ℕ) (a : Batch) → IsBatchReady v from to a → a.line ≤ end → AreFilled v v end from to from a a []
 filled_none v end from to a ready within =
     let none = ready.none in
     let no_words : words_in ([] ++ pending a) ≡ [] = ap words_in (none_pending a none) in
@@ -72,7 +72,7 @@ both_words a b lines upto near size whole =
     words_both (4 * (b.written - a.line)) (4 * (b.line - b.written)) lines (pending b) (omega arith) (omega arith)
 
 -- so many lines are pending
-pub pending_size : (b : Batch) → HasRoom b → 32 * (b.line - b.written) ≤ buffer_bytes → length (pending b) ≡ 32 * (b.line - b.written)
+pub pending_size : (b : Batch) → HasBatchRoom b → 32 * (b.line - b.written) ≤ buffer_bytes → length (pending b) ≡ 32 * (b.line - b.written)
 pending_size b room fits = length-take-le (32 * (b.line - b.written)) b.bytes.items (let bytes = room.bytes in omega arith)
 
 -- one region more is pending

@@ -11,8 +11,8 @@ use Rattle.fish_flush.proofs.KeyedValues.{some_none, under_above}
 use Rattle.fish_flush.specs.Rows.{HaveGrown}
 use Rattle.fish_image.proofs.Agreement.{agrees_number}
 use Rattle.fish_image.proofs.Spelling.{parted}
-use Rattle.fish_image.specs.Log.{Agrees, FollowsIn, HasKeys, HasValues, values_under}
-use Rattle.fish_image.specs.Reached.{AreLinked, Reached, behind, with_keys}
+use Rattle.fish_image.specs.Log.{Agrees, FollowsIn, HasRowKeys, HasValues, values_under}
+use Rattle.fish_image.specs.Reached.{AreLinked, Reached, reached_after, with_keys}
 use Rattle.fish_lang.specs.Definition.{Definition}
 use Rattle.fish_lang.specs.Language.{IsAccepted}
 use Rattle.fish_layout.specs.declared.parts.BodyParts.{BodyParts}
@@ -27,7 +27,7 @@ grown_self n rows = record {
 
 -- where a record has the keys that the old rows ask, the text of each new row is a definition
 abbrev pub AreMeant : List CatRow → List CatRow → Type 0
-AreMeant old new = (m : ℕ) (p : BodyParts) → HasKeys old m p → (id : ℕ) (row : CatRow) → slice_get new id ≡ Some row
+AreMeant old new = (m : ℕ) (p : BodyParts) → HasRowKeys old m p → (id : ℕ) (row : CatRow) → slice_get new id ≡ Some row
     → (said : Definition) × IsAccepted row.def said
 
 -- those of rows that stay are
@@ -35,7 +35,7 @@ pub meant_self : (rows : List CatRow) → AreMeant rows rows
 meant_self rows m p has id row there = (let h = has.values id row there in (h.said, h.read))
 
 module _ (n m : ℕ) (old new : List CatRow) (p : BodyParts) (less : m < n) (grown : HaveGrown n old new) (meant : AreMeant old new)
-    (has : HasKeys old m p) where
+    (has : HasRowKeys old m p) where
   -- an old row that went on has the values that it had
   went_on : (id : ℕ) (row was : CatRow) → slice_get new id ≡ Some row → slice_get old id ≡ Some was
       → HasValues row m p (values_under id p.keys)
@@ -68,7 +68,7 @@ module _ (n m : ℕ) (old new : List CatRow) (p : BodyParts) (less : m < n) (gro
       }
 
   -- the keys that the old rows ask of a record are those that the new ones ask
-  grown_keys : HasKeys new m p
+  grown_keys : HasRowKeys new m p
   grown_keys = record {
     known = λ j k there.
         let t = parted old k.id (has.known j k there) in
@@ -105,7 +105,7 @@ module _ (c d : Commit) (n : ℕ) (bits : c.bucket_bits ≡ d.bucket_bits) (more
             links = subst (λ (b : ℕ). AreLinked (2 ^ b) s.line 0 v.0.keys s.places) bits kept.links;
           };
         },
-        subst (λ (b : ℕ). t ≡ behind s lines (with_keys (2 ^ b) s.line 0 v.0.keys s.places)
+        subst (λ (b : ℕ). t ≡ reached_after s lines (with_keys (2 ^ b) s.line 0 v.0.keys s.places)
             (Rattle.fish_catalog.specs.declared.entry.Entry.TheVariants.Stored v.0.lane v.0.form v.0.payload)) bits v.2,
       )
 

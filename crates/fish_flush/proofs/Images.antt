@@ -9,9 +9,9 @@ use Rattle.std.specs.Prelude.{Option, Some, IfSome}
 use Rattle.fish_disk.specs.Content.{WrittenThrough, part, put_at}
 use Rattle.fish_disk.specs.Crash.{Torn, TornFrom}
 use Rattle.fish_disk.proofs.Regions.{put_within, told_at, torn_apart}
-use Rattle.fish_slots.specs.Commits.{HasCommit, Rests, next_turn, turn_of}
+use Rattle.fish_slots.specs.Commits.{HasCommit, SlotRests, next_turn, turn_of}
 use Rattle.fish_slots.specs.Offsets.{body_at, body_bytes, gate_at, lines_at}
-use Rattle.fish_slots.specs.Slots.{GatesAreSynced, IsOpen, SameSlot, body_of, line_count, lines_of}
+use Rattle.fish_slots.specs.Slots.{GatesAreSynced, IsOpen, SameSlot, body_in_slot, line_count, lines_in_slot}
 use Rattle.fish_flush.specs.within.Writing.{AreSealed, EitherCommit, Grows, IsPut, IsSealed}
 
 -- ---- apart
@@ -40,7 +40,7 @@ part-add p n m c = take-add n m (drop p c) ∙ ap (λ (l : List ℕ). take n (dr
 
 -- lines that are written after those that a slot counts leave what it is
 pub rests_lines : (s line n : ℕ) (b w d c : List ℕ) → s ≤ 1 → line_count b ≤ line → Torn (lines_at + 32 * line) n d c
-    → Rests s b w d → Rests s b w c
+    → SlotRests s b w d → SlotRests s b w c
 rests_lines s line n b w d c le few torn h =
     let at : ℕ = lines_at + 32 * line in
     let own = torn_apart at n (gate_at s) 1 d c torn (inl (omega arith)) in
@@ -55,7 +55,7 @@ rests_lines s line n b w d c le few torn h =
     }
 
 -- so does a body that is written into the other slot
-pub rests_body : (s : ℕ) (b w d c : List ℕ) → s ≤ 1 → Torn (body_at s) body_bytes d c → Rests (1 - s) b w d → Rests (1 - s) b w c
+pub rests_body : (s : ℕ) (b w d c : List ℕ) → s ≤ 1 → Torn (body_at s) body_bytes d c → SlotRests (1 - s) b w d → SlotRests (1 - s) b w c
 rests_body s b w d c le torn h =
     let at : ℕ = body_at s in
     let own = torn_apart at body_bytes (gate_at (1 - s)) 1 d c torn (inl (omega arith)) in
@@ -146,10 +146,10 @@ slot_cases s (suc (suc t)) s_le t_le = absurd (omega arith)
 
 -- both slots have these bodies and their lines
 record HasBoth (s : ℕ) (b w d v c : List ℕ) : Type 0 where
-  pub old_body : body_of (1 - s) c ≡ b
-  pub old_lines : lines_of (line_count b) c ≡ w
-  pub new_body : body_of s c ≡ d
-  pub new_lines : lines_of (line_count d) c ≡ v
+  pub old_body : body_in_slot (1 - s) c ≡ b
+  pub old_lines : lines_in_slot (line_count b) c ≡ w
+  pub new_body : body_in_slot s c ≡ d
+  pub new_lines : lines_in_slot (line_count d) c ≡ v
 
 -- images that agree on both slots have synced gates
 both_gates : (images : List ℕ → Type 0) (s : ℕ) (b w d v : List ℕ) → s ≤ 1 → ((c : List ℕ) → images c → HasBoth s b w d v c)
@@ -160,12 +160,12 @@ both_gates images s b w d v le each t c e t_le here there opened =
     elim (slot_cases s t le t_le) [
       | inl same ↦ subst (λ (k : ℕ). SameSlot k c e) (sym same) (
         one.new_body ∙ sym other.new_body,
-        subst (λ (l : List ℕ). lines_of (line_count l) c ≡ lines_of (line_count l) e) (sym other.new_body)
+        subst (λ (l : List ℕ). lines_in_slot (line_count l) c ≡ lines_in_slot (line_count l) e) (sym other.new_body)
             (one.new_lines ∙ sym other.new_lines),
       )
       | inr same ↦ subst (λ (k : ℕ). SameSlot k c e) (sym same) (
         one.old_body ∙ sym other.old_body,
-        subst (λ (l : List ℕ). lines_of (line_count l) c ≡ lines_of (line_count l) e) (sym other.old_body)
+        subst (λ (l : List ℕ). lines_in_slot (line_count l) c ≡ lines_in_slot (line_count l) e) (sym other.old_body)
             (one.old_lines ∙ sym other.old_lines),
       )
     ]
@@ -178,7 +178,7 @@ sealed_gates images s b w d v le each = both_gates images s b w d v le (λ c her
     record { old_body = h.old_body; old_lines = h.old_lines; new_body = h.new_body; new_lines = h.new_lines })
 
 -- images in which one slot alone is open, with one body and its lines, have synced gates
-pub resting_gates : (images : List ℕ → Type 0) (s : ℕ) (b w : List ℕ) → s ≤ 1 → ((c : List ℕ) → images c → Rests (1 - s) b w c)
+pub resting_gates : (images : List ℕ → Type 0) (s : ℕ) (b w : List ℕ) → s ≤ 1 → ((c : List ℕ) → images c → SlotRests (1 - s) b w c)
     → GatesAreSynced images images
 resting_gates images s b w le each t c e t_le here there opened =
     let one = each c here in
@@ -187,7 +187,7 @@ resting_gates images s b w le each t c e t_le here there opened =
       | inl same ↦ absurd (one.closed (subst (λ (k : ℕ). IsOpen k c) (same ∙ sym (other_other s le)) opened))
       | inr same ↦ subst (λ (k : ℕ). SameSlot k c e) (sym same) (
         one.body_is ∙ sym other.body_is,
-        subst (λ (l : List ℕ). lines_of (line_count l) c ≡ lines_of (line_count l) e) (sym other.body_is)
+        subst (λ (l : List ℕ). lines_in_slot (line_count l) c ≡ lines_in_slot (line_count l) e) (sym other.body_is)
             (one.lines_are ∙ sym other.lines_are),
       )
     ]
@@ -238,7 +238,7 @@ module _ (s : ℕ) (b w d v m c : List ℕ) (le : s ≤ 1) (turn : turn_of d ≡
       }
 
   -- and once it is closed, it is alone
-  pub closed_new : (IsOpen (1 - s) c → ⊥) → Rests s d v c
+  pub closed_new : (IsOpen (1 - s) c → ⊥) → SlotRests s d v c
   closed_new closed =
       let kept = kept_both s (1 - s) b w d v m c le (omega arith) torn h in
       record { gate = still_open; closed = closed; body_is = kept.new_body; lines_are = kept.new_lines }
@@ -249,9 +249,9 @@ module _ (old new : Option (List ℕ)) (images images' : List ℕ → Type 0) (s
     (size : length d ≡ body_bytes) (grows : Grows images s line b w d more) (put : IfSome old (IsPut line more))
     (through : WrittenThrough old new images' (body_at s) d)
     (torn : (c : List ℕ) → images' c → TornFrom images (body_at s) body_bytes c)
-    (sealed : (c : List ℕ) → images' c → body_of s c ≡ d) where
+    (sealed : (c : List ℕ) → images' c → body_in_slot s c ≡ d) where
   -- the last commit is as it was
-  rests_now : (c : List ℕ) → images' c → Rests (1 - s) b w c
+  rests_now : (c : List ℕ) → images' c → SlotRests (1 - s) b w c
   rests_now c here = (let from = torn c here in rests_body s b w from.0 c le from.2 (grows.rests from.0 from.1))
 
   -- the new lines stand there
@@ -290,7 +290,7 @@ module _ (old new : Option (List ℕ)) (images images' : List ℕ → Type 0) (s
 
 -- each image rests on the last commit as it did
 pub rests_on : (images : List ℕ → Type 0) (s line n : ℕ) (b w d more : List ℕ) → s ≤ 1 → Grows images s line b w d more
-    → (c : List ℕ) → TornFrom images (lines_at + 32 * line) n c → Rests (1 - s) b w c
+    → (c : List ℕ) → TornFrom images (lines_at + 32 * line) n c → SlotRests (1 - s) b w c
 rests_on images s line n b w d more le grows c from =
     let before = grows.before in
     rests_lines (1 - s) line n b w from.0 c (omega arith) (omega arith) from.2 (grows.rests from.0 from.1)

@@ -7,7 +7,7 @@ use Rattle.fish_layout.specs.Cleared.{IsKeyWord}
 use Rattle.fish_layout.specs.Header.{keys_of, lines_of}
 use Rattle.fish_flush.proofs.AddedRegions.{few_lines}
 use Rattle.fish_rule.proofs.laws.Steps.{header_law}
-use Rattle.fish_rule.specs.Table.{Stands}
+use Rattle.fish_rule.specs.Table.{IsOfMoment}
 use Rattle.fish_rule.specs.declared.view.Kind.TheVariants.{Mark}
 use Rattle.fish_rule.specs.Logs.{Extends, HasWords}
 use Rattle.fish_rule.specs.Views.{Among}
@@ -49,7 +49,7 @@ pub record IsHeaded (v : View) (f : Found) (header : ℕ) : Type 0 where
   pub few : f.lines ≤ 18625
 
 pub loaded_header : (v u : View) (f : Found) (line header n : ℕ) (words : List ℕ) → Among f v.learned.found → f.line ≡ line
-    → f.kind ≢ Mark → Extends v u → Stands u → 0 < n → AreLoaded u line header n words → IsHeaded u f header
+    → f.kind ≢ Mark → Extends v u → IsOfMoment u → 0 < n → AreLoaded u line header n words → IsHeaded u f header
 loaded_header v u f line header n words among at plain on stands some h =
     let there = on.learns.found f among in
     let known = subst (λ (z : ℕ). Among (record { place = z * 4; value = header }) u.learned.known) (sym at)

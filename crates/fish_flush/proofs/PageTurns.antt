@@ -6,7 +6,7 @@ use Rattle.fish_disk.specs.Content.{HasWritten}
 use Rattle.fish_disk.specs.Crash.{LeavesOnly, TornFrom}
 use Rattle.fish_flush.proofs.FilledPages.{AreFilled, filled_more, filled_none, filled_written, pending_size}
 use Rattle.fish_flush.proofs.PageWrites.{AreWritten, written_more, written_none}
-use Rattle.fish_flush.specs.within.Filling.{HasAdded, IsReady, pending}
+use Rattle.fish_flush.specs.within.Filling.{HasAdded, IsBatchReady, pending}
 use Rattle.fish_flush.specs.declared.batch.Batch.{Batch}
 use Rattle.fish_layout.specs.Pages.{page_of}
 use Rattle.fish_rule.specs.Logs.{Extends}
@@ -25,7 +25,7 @@ module _ {D : Type 0} (content : D → Option (List ℕ)) (images : D → List �
     pub fewer : n < to → moment y ≤ moment x + (b.written / 32768 - a.line / 32768)
 
   -- none yet
-  pub turn_none : IsReady v from to a → a.line ≤ end → IfSome (content x) (λ c. lines_at + 32 * a.line ≤ length c) → IsTurn v from a x
+  pub turn_none : IsBatchReady v from to a → a.line ≤ end → IfSome (content x) (λ c. lines_at + 32 * a.line ≤ length c) → IsTurn v from a x
   turn_none ready within long =
       let none = ready.none in
       record {

@@ -30,7 +30,7 @@ use Rattle.fish_rule.proofs.laws.Alone.{seen_here}
 use Rattle.fish_rule.specs.Facts.{IsFound}
 use Rattle.fish_rule.specs.LoadSteps.{after_look_at, kind_told}
 use Rattle.fish_rule.specs.Logs.{HasWords, Learns, KnowsAs}
-use Rattle.fish_rule.specs.Table.{Sees, Stands}
+use Rattle.fish_rule.specs.Table.{Sees, IsOfMoment}
 use Rattle.fish_rule.specs.Views.{Among}
 use Rattle.fish_rule.specs.World.{high, low}
 use Rattle.fish_rule.specs.declared.view.Found.{Found}
@@ -39,13 +39,13 @@ use Rattle.fish_rule.specs.declared.view.Kind.{Kind}
 use Rattle.fish_rule.specs.declared.view.Kind.TheVariants.{Mark, Stored, Void}
 use Rattle.fish_rule.specs.declared.view.View.{View}
 use Rattle.fish_walk.proofs.Records.{settled_seen}
-use Rattle.fish_walk.specs.Looks.{IsEntryLook, look_of}
+use Rattle.fish_walk.specs.Looks.{IsEntryLook, look_of_word}
 use Rattle.fish_walk.specs.declared.outcome.Look.TheVariants as found
 
 -- ---- looks
 
 -- a word that tells of an entry isn't 0, and its kind is no mark
-entry_word : (word : ℕ) → IsEntryLook (look_of word) → (word ≢ 0) × (kind_told (high word) ≢ Mark)
+entry_word : (word : ℕ) → IsEntryLook (look_of_word word) → (word ≢ 0) × (kind_told (high word) ≢ Mark)
 entry_word zero (inl e) = absurd (cc)
 entry_word zero (inr e) = absurd (cc)
 entry_word (suc x) h = ((λ e. omega arith), by (kind_told (high (suc x))) h)
@@ -94,7 +94,7 @@ line_later v u n line learns (inl h) =
 line_later v u n line learns (inr h) = inr (h.0, learns.found h.0 h.1, h.2, h.3)
 
 -- and it is where the region was found
-pub line_same : (v : View) (f : Found) (line : ℕ) → Stands v → Among f v.learned.found → IsLineAt v f.number line → f.line ≡ line
+pub line_same : (v : View) (f : Found) (line : ℕ) → IsOfMoment v → Among f v.learned.found → IsLineAt v f.number line → f.line ≡ line
 line_same v f line s among (inl h) =
     let one = all_among (IsFound v.about s.moment.count s.moment.dir s.rule.start) f v.learned.found
     (s.rule.facts s.seat v s.at).found among in
@@ -106,7 +106,7 @@ line_same v f line s among (inr h) =
     sym one.line ∙ ap s.rule.start (sym h.2) ∙ other.lines ∙ h.3
 
 -- a region begins at the line where it is known to
-pub line_start : (v : View) (n line : ℕ) (s : Stands v) → IsLineAt v n line → s.rule.start n ≡ line
+pub line_start : (v : View) (n line : ℕ) (s : IsOfMoment v) → IsLineAt v n line → s.rule.start n ≡ line
 line_start v n line s (inl h) = ap s.rule.start h.0 ∙ s.rule.space.regions.first ∙ sym h.1
 line_start v n line s (inr h) =
     let one = all_among (IsFound v.about s.moment.count s.moment.dir s.rule.start) h.0 v.learned.found
@@ -114,7 +114,7 @@ line_start v n line s (inr h) =
     ap s.rule.start (sym h.2) ∙ one.lines ∙ h.3
 
 -- a settled region begins within the table
-pub line_inside : (v : View) (n line : ℕ) → Stands v → n ≤ v.learned.settled → IsLineAt v n line → line ≤ v.about.end
+pub line_inside : (v : View) (n line : ℕ) → IsOfMoment v → n ≤ v.learned.settled → IsLineAt v n line → line ≤ v.about.end
 line_inside v n line s settled (inl h) = (let some_ = s.rule.key_fits.some_lines in let is = h.1 in omega arith)
 line_inside v n line s settled (inr h) =
     let g : Found = h.0 in
@@ -133,7 +133,7 @@ line_inside v n line s settled (inr h) =
 -- ---- words
 
 -- the words of a region have room for its key entries
-pub entries_room : (v : View) (f : Found) (words : List ℕ) → Stands v → Among f v.learned.found → f.kind ≢ Mark → HasWords v f words
+pub entries_room : (v : View) (f : Found) (words : List ℕ) → IsOfMoment v → Among f v.learned.found → f.kind ≢ Mark → HasWords v f words
     → 3 * keys_of (get_or words 0 0) < length words
 entries_room v f words s among plain has = by f.kind refl
   where
@@ -164,7 +164,7 @@ pub next_starts : (c : Commit) (s : Reached) (lines : ℕ) (r : List ℕ) (t : R
 next_starts c s lines r t (inl v) = ap (λ (z : Reached). z.starts) v.1
 next_starts c s lines r t (inr v) = ap (λ (z : Reached). z.starts) v.2
 
-module _ (v : View) (s : Stands v) (f : Found) (among : Among f v.learned.found) (plain : f.kind ≢ Mark) (words : List ℕ)
+module _ (v : View) (s : IsOfMoment v) (f : Found) (among : Among f v.learned.found) (plain : f.kind ≢ Mark) (words : List ℕ)
     (has : HasWords v f words) (heads heads' out : List ℕ) (spelled : AreSpelled f.line words heads heads' out) where
   -- the region follows an image that has all before it
   next_region : (c : Commit) (at : Reached) → HoldsRows v c.rows → 2 ^ c.bucket_bits ≡ length heads → at.number ≡ f.number

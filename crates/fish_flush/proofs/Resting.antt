@@ -15,7 +15,7 @@ use Rattle.fish_flush.proofs.Images.{resting_gates, rests_lines}
 use Rattle.fish_image.specs.Stands.{Stands}
 use Rattle.fish_rule.specs.declared.view.View.{View}
 use Rattle.fish_slots.proofs.Commits.{rests_commit}
-use Rattle.fish_slots.specs.Commits.{HasCommit, Rests}
+use Rattle.fish_slots.specs.Commits.{HasCommit, SlotRests}
 use Rattle.fish_slots.specs.Offsets.{lines_at}
 use Rattle.fish_slots.specs.Slots.{GatesAreSynced, line_count}
 use Rattle.fish_flush.proofs.Committed.{body_lines, still_goes}
@@ -37,7 +37,7 @@ rest_gates images f c log at =
     let le = at.slot_is in
     let other : f.slot ≡ 1 - (1 - f.slot) = omega arith in
     resting_gates images (1 - f.slot) at.body at.lines (omega arith)
-    (λ i here. subst (λ (t : ℕ). Rests t at.body at.lines i) other (at.rests i here))
+    (λ i here. subst (λ (t : ℕ). SlotRests t at.body at.lines i) other (at.rests i here))
 
 -- where nothing was written, every image stands for the log that it stood for
 pub nothing_leaves : {D : Type 0} (im : D → List ℕ → Type 0) (since : D → ℕ → List ℕ → Type 0) (moment : D → ℕ) (x : D) (f : Flusher)
@@ -59,7 +59,7 @@ nothing_leaves im since moment x f u rows c old at = record {
 pub torn_rests : {D : Type 0} (im : D → List ℕ → Type 0) (since : D → ℕ → List ℕ → Type 0) (moment : D → ℕ) (x y : D) (f : Flusher)
     (c : Commit) (old : List Entry) (n : ℕ) (at : IsAtRest (im x) f c old)
     → LeavesOnly im since moment x y (TornFrom (im x) (lines_at + 32 * f.line) n)
-    → (i : List ℕ) → TornFrom (im x) (lines_at + 32 * f.line) n i → Rests f.slot at.body at.lines i
+    → (i : List ℕ) → TornFrom (im x) (lines_at + 32 * f.line) n i → SlotRests f.slot at.body at.lines i
 torn_rests im since moment x y f c old n at leaves i from =
     let committed = at.committed in
     let before : line_count at.body ≡ f.line = body_lines c at.body committed.is.told ∙ committed.line in
@@ -94,11 +94,11 @@ torn_gates im since moment x y f c old n at leaves =
     let le = at.slot_is in
     let other : f.slot ≡ 1 - (1 - f.slot) = omega arith in
     resting_gates (im y) (1 - f.slot) at.body at.lines (omega arith)
-    (λ i here. subst (λ (t : ℕ). Rests t at.body at.lines i) other
+    (λ i here. subst (λ (t : ℕ). SlotRests t at.body at.lines i) other
     (torn_rests im since moment x y f c old n at leaves i (leaves.now i here)))
 
 -- an image that has all lines of a body is long enough for them
-pub long_rests : (slot : ℕ) (b w i : List ℕ) (m n : ℕ) → Rests slot b w i → length w ≡ 32 * n → lines_at + m ≤ length i
+pub long_rests : (slot : ℕ) (b w i : List ℕ) (m n : ℕ) → SlotRests slot b w i → length w ≡ 32 * n → lines_at + m ≤ length i
     → lines_at + 32 * n ≤ length i
 long_rests slot b w i m n h size long =
     let same = ap (λ (l : List ℕ). length l) h.lines_are in

@@ -12,7 +12,7 @@ use Rattle.fish_flush.proofs.Drafted.{drafted}
 use Rattle.fish_flush.proofs.Images.{grows_on}
 use Rattle.fish_flush.proofs.PageWrites.{put_is, told_in}
 use Rattle.fish_flush.specs.Going.{ComesFrom}
-use Rattle.fish_flush.specs.Carrying.{Carries, LeavesEither}
+use Rattle.fish_flush.specs.Carrying.{CarriesLog, LeavesEither}
 use Rattle.fish_flush.specs.within.Carrying.{IsDrafted, MaySave, flusher_after}
 use Rattle.fish_flush.specs.within.Filling.{HasCopied}
 use Rattle.fish_flush.specs.Kept.{commit_of}
@@ -21,16 +21,16 @@ use Rattle.fish_flush.specs.declared.batch.Batch.{Batch}
 use Rattle.fish_flush.specs.declared.drafting.Draft.{Draft}
 use Rattle.fish_flush.specs.declared.flusher.Flusher.{Flusher}
 use Rattle.fish_rule.specs.Logs.{Extends}
-use Rattle.fish_rule.specs.Table.{Stands}
+use Rattle.fish_rule.specs.Table.{IsOfMoment}
 use Rattle.fish_rule.specs.declared.table.Shape.{Shape}
 use Rattle.fish_rule.specs.declared.view.View.{View}
 use Rattle.fish_slots.proofs.Commits.{rests_commit}
-use Rattle.fish_slots.specs.Commits.{Rests}
+use Rattle.fish_slots.specs.Commits.{SlotRests}
 use Rattle.fish_slots.specs.Offsets.{lines_at}
 
 module _ {D : Type 0} (content : D → Option (List ℕ)) (images : D → List ℕ → Type 0) (since : D → ℕ → List ℕ → Type 0)
     (moment : D → ℕ) (as_read : (z : D) (c : List ℕ) → content z ≡ Some c → images z c) (x y : D) (m u : View) (end : ℕ) (s : Shape)
-    (f : Flusher) (d : Draft) (b : Batch) (lines : List ℕ) (n : ℕ) (on : Extends m u) (stands : Stands u)
+    (f : Flusher) (d : Draft) (b : Batch) (lines : List ℕ) (n : ℕ) (on : Extends m u) (stands : IsOfMoment u)
     (copied : HasCopied m u f.count d.count d.batch b lines) (put : HasPut (content x) (content y) (lines_at + 32 * d.batch.line) lines)
     (crash : LeavesOnly images since moment x y (TornFrom (images x) (lines_at + 32 * d.batch.line) n))
     (rows : List CatRow) (c : Commit) (old : List Entry) (may : MaySave (images x) m end s f d rows c old) where
@@ -70,10 +70,11 @@ module _ {D : Type 0} (content : D → Option (List ℕ)) (images : D → List �
       (λ i here. (let mid = was i here in let from = saved_torn.now mid.0 mid.1 in (from.0, from.1)))
 
   -- and once the body counts alone, the file carries the log with its entries
-  pub saved_carries : (z : D) → ((i : List ℕ) → images z i → Rests (1 - f.slot) d.body (may.rest.lines ++ lines) i)
+  pub saved_carries : (z : D) → ((i : List ℕ) → images z i → SlotRests (1 - f.slot) d.body (may.rest.lines ++ lines) i)
       → ((k : ℕ) → ((i : List ℕ) → images y i → k ≤ length i) → (i : List ℕ) → images z i → k ≤ length i)
       → (more : List Entry) × (length (old ++ more) ≡ d.count)
-      × Carries (images z) (flusher_after f (record d { batch = b })) u s rows (commit_of (flusher_after f (record d { batch = b })) s rows)
+      × CarriesLog (images z) (flusher_after f (record d { batch = b })) u s rows
+      (commit_of (flusher_after f (record d { batch = b })) s rows)
       (old ++ more)
   saved_carries z rests longer =
       let all = draft_more (images x) f m u s rows d.count (record d { batch = b }) lines saved_draft c old may.rest may.bits may.grown in

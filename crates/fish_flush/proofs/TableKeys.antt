@@ -27,7 +27,7 @@ use Rattle.fish_lang.specs.Language.{IsAccepted}
 use Rattle.fish_layout.specs.declared.parts.BodyParts.{BodyParts}
 use Rattle.fish_layout.specs.declared.parts.KeyPart.{KeyPart}
 use Rattle.fish_psf.specs.Eval.{Fields, values}
-use Rattle.fish_psf.specs.Keys.{keys_of, keys_under}
+use Rattle.fish_psf.specs.Keys.{keys_for, keys_under}
 use Rattle.fish_psf.specs.Records.{fields_of_payload}
 use Rattle.fish_psf.specs.declared.key.ActiveDef.{ActiveDef}
 use Rattle.fish_rule.proofs.laws.Intervals.{among_active}
@@ -136,7 +136,7 @@ module _ {v : View} (w : World) (r : Rule v.about w) (seat : ℕ) (at : get_elem
 
     -- the entries of an id have the values that are given under it
     given : (id : ℕ) → values_under id p.keys ≡ under id (flat_map (keys_under fields) keyed.keys.defs)
-    unfolding keys_of
+    unfolding keys_for
     given id = under_property id p.keys ∙ ap (under id) keyed.keys.keys
 
     -- the ids of the definitions ascend
@@ -155,7 +155,7 @@ module _ {v : View} (w : World) (r : Rule v.about w) (seat : ℕ) (at : get_elem
 
     -- so each key entry is of a row
     known : (j : ℕ) (key : KeyPart) → slice_get p.keys j ≡ Some key → key.id < length rows
-    unfolding keys_of
+    unfolding keys_for
     known j key there =
         let g = w.registry in
         let k : Key = v.about in
@@ -238,5 +238,5 @@ module _ {v : View} (w : World) (r : Rule v.about w) (seat : ℕ) (at : get_elem
           by (Some l) at = on_or_off l at l.active refl
 
     -- so it has the keys that an image asks of it
-    pub table_keys : image.HasKeys rows n p
+    pub table_keys : image.HasRowKeys rows n p
     table_keys = record { known = known; values = row_values }

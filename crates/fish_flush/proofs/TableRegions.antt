@@ -10,14 +10,14 @@ use Rattle.fish_catalog.specs.declared.commit.Commit.{Commit}
 use Rattle.fish_catalog.specs.declared.entry.Entry.{Entry}
 use Rattle.fish_catalog.specs.declared.entry.Entry.TheVariants as entry
 use Rattle.fish_catalog.specs.declared.row.CatRow.{CatRow}
-use Rattle.fish_flush.specs.within.Linking.{IsLinked}
+use Rattle.fish_flush.specs.within.Linking.{IsRegionLinked}
 use Rattle.fish_flush.specs.Rows.{HoldsRows}
 use Rattle.fish_flush.proofs.KeyedValues.{under_unlink}
 use Rattle.fish_flush.proofs.TableKeys.{table_keys}
 use Rattle.fish_image.proofs.Regions.{keyless}
-use Rattle.fish_image.specs.Log.{AreSomeOf, FollowsIn, HasKeys, behind_record, values_under, void_words}
+use Rattle.fish_image.specs.Log.{AreSomeOf, FollowsIn, HasRowKeys, behind_record, values_under, void_words}
 use Rattle.fish_image.specs.Progress.{AreHeads}
-use Rattle.fish_image.specs.Reached.{AreLinked, Reached, behind, with_keys}
+use Rattle.fish_image.specs.Reached.{AreLinked, Reached, reached_after, with_keys}
 use Rattle.fish_layout.specs.Pages.{page_of}
 use Rattle.fish_layout.proofs.Clearing.{choose_first, choose_second}
 use Rattle.fish_layout.proofs.Headers.{keys_of-void, lines_of-void}
@@ -37,11 +37,11 @@ use Rattle.fish_rule.proofs.laws.Regions.{kind-inside, region_found, word_known}
 use Rattle.fish_rule.proofs.laws.Lists.{all_among}
 use Rattle.fish_rule.proofs.laws.Alone.{knows_void}
 use Rattle.fish_rule.proofs.laws.Entries.{body_read, knows_entry}
-use Rattle.fish_rule.specs.Facts.{IsFound, IsKnown}
+use Rattle.fish_rule.specs.Facts.{IsFound, IsFactKnown}
 use Rattle.fish_rule.specs.Keys.{IsKeyedOf}
 use Rattle.fish_rule.specs.Logs.{HasWords, KnowsAs}
 use Rattle.fish_rule.specs.Registry.{AreActiveAt}
-use Rattle.fish_rule.specs.Regions.{Holds, kind_of, kind_within, void_body}
+use Rattle.fish_rule.specs.Regions.{HoldsRegion, kind_of, kind_within, void_body}
 use Rattle.fish_rule.specs.Rule.{Rule}
 use Rattle.fish_rule.specs.Views.{Among}
 use Rattle.fish_rule.specs.World.{World, body}
@@ -61,7 +61,7 @@ unlink_get (x ∷ ks) zero k found =
 unlink_get (x ∷ ks) (suc c) k found = unlink_get ks c k found
 
 -- what is asked of keys doesn't speak of previous nodes
-keys_unlinked : (rows : List CatRow) (n : ℕ) (p : BodyParts) → HasKeys rows n (unlinked p) → HasKeys rows n p
+keys_unlinked : (rows : List CatRow) (n : ℕ) (p : BodyParts) → HasRowKeys rows n (unlinked p) → HasRowKeys rows n p
 keys_unlinked rows n p has = record {
   known = λ j k there. has.known j (record k { prev = 0 }) (unlink_get p.keys j k there);
   values = λ id row there.
@@ -104,7 +104,7 @@ void_crosses a b is = by (dec_lt (a / 32768) ((b - 1) / 32768)) is
     by (no h) e = absurd (cc)
 
 -- what a kind's words hold
-holds_void : (kind : Kind) (lane n lines : ℕ) (e : ℕ → ℕ) → kind ≡ Void → Holds kind lane n lines e → e ≡ void_body lines
+holds_void : (kind : Kind) (lane n lines : ℕ) (e : ℕ → ℕ) → kind ≡ Void → HoldsRegion kind lane n lines e → e ≡ void_body lines
 holds_void Stored lane n lines e q h = absurd (cc)
 holds_void Void lane n lines e q h = h
 holds_void Mark lane n lines e q h = absurd (cc)
@@ -164,7 +164,7 @@ module _ {v : View} (w : World) (rule : Rule v.about w) (seat : ℕ) (at : get_e
   known_word i less plain =
       let full = has.full in
       word_known rule f i (get_or words i 0) found less
-      (all_among (IsKnown v.about w.count w.dir w.log rule.start) _ v.learned.known (rule.facts seat v at).known
+      (all_among (IsFactKnown v.about w.count w.dir w.log rule.start) _ v.learned.known (rule.facts seat v at).known
       (has.read i (omega arith) plain))
 
   module _ (is_void : f.kind ≡ Void) where
@@ -216,7 +216,7 @@ module _ {v : View} (w : World) (rule : Rule v.about w) (seat : ℕ) (at : get_e
         ∙ is_void) in
         record {
           e = entry.Void;
-          t = behind s f.lines s.places entry.Void;
+          t = reached_after s f.lines s.places entry.Void;
           follows = inl (
             record {
               some = some_;
@@ -255,14 +255,14 @@ module _ {v : View} (w : World) (rule : Rule v.about w) (seat : ℕ) (at : get_e
         (subst (Spells keyed.0) (body_read w rule seat at f among is_stored words has) record_of.spells)
 
     -- the keys that the rows ask
-    record_keys : HasKeys rows f.number keyed.0
+    record_keys : HasRowKeys rows f.number keyed.0
     record_keys = table_keys w rule seat at rows holds f.number found.above found.below keyed.0
         (rule.start (suc f.number) - rule.start f.number) (body w.log (rule.start f.number)) keyed.1
 
     -- a record follows, whatever its previous nodes are made
     pub record_next : (c : Commit) (s : Reached) (heads heads' out : List ℕ) → c.rows ≡ rows → 2 ^ c.bucket_bits ≡ length heads
         → s.number ≡ f.number → s.line ≡ f.line → f.line + f.lines ≤ c.lines
-        → IsLinked f.line record_words.0 words heads heads' out s.places → IsNextRegion c s v f.number f.lines out heads heads'
+        → IsRegionLinked f.line record_words.0 words heads heads' out s.places → IsNextRegion c s v f.number f.lines out heads heads'
     record_next c s heads heads' out rows_are buckets number line within linked =
         let p : BodyParts = linked.p in
         let q : BodyParts = record_words.0 in
@@ -291,9 +291,9 @@ module _ {v : View} (w : World) (rule : Rule v.about w) (seat : ℕ) (at : get_e
                     (sym parts) record_of.reads;
                 in_page = subst (λ (z : ℕ). page_of (z + f.lines - 1) ≡ page_of z) (sym line) page;
                 within = omega arith;
-                keys = subst (λ (z : List CatRow). HasKeys z s.number p) (sym rows_are)
-                    (subst (λ (z : ℕ). HasKeys rows z p) (sym number)
-                    (keys_unlinked rows f.number p (subst (HasKeys rows f.number) (sym parts) record_keys)));
+                keys = subst (λ (z : List CatRow). HasRowKeys z s.number p) (sym rows_are)
+                    (subst (λ (z : ℕ). HasRowKeys rows z p) (sym number)
+                    (keys_unlinked rows f.number p (subst (HasRowKeys rows f.number) (sym parts) record_keys)));
                 links = subst (λ (z : ℕ × ℕ). AreLinked z.0 z.1 0 p.keys s.places) (λ i. (sym buckets i, sym line i)) linked.links;
               };
             },

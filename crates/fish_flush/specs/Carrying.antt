@@ -17,11 +17,11 @@ use Rattle.fish_rule.specs.World.{high, low}
 use Rattle.fish_rule.specs.declared.table.Shape.{Shape}
 use Rattle.fish_rule.specs.declared.view.View.{View}
 use Rattle.fish_walk.specs.Looks.{IsTailCount}
-use Rattle.fish_walk.specs.Settling.{EndsAt, HasLoadedCount, IsEnd, IsMark, StopsAt}
+use Rattle.fish_walk.specs.Settling.{EndsAt, HasLoadedCount, IsEnd, IsMark, SettlesAt}
 
 -- every image stands for this log by this commit, which the flusher keeps; the log is a settled prefix of the table's,
 -- as the pass knows, and the rows have gone on since
-pub record Carries (images : List ℕ → Type 0) (f : Flusher) (v : View) (s : Shape) (rows : List CatRow) (c : Commit)
+pub record CarriesLog (images : List ℕ → Type 0) (f : Flusher) (v : View) (s : Shape) (rows : List CatRow) (c : Commit)
     (log : List Entry) : Type 0 where
   pub rest : IsAtRest images f c log
   pub pages : c.pages ≡ s.pages
@@ -40,7 +40,7 @@ IsTailAt v count = (tail : ℕ) × (v.tail ≡ Some (record { number = high tail
 
 -- the second view is the first but for the tail and what was learned since; where the pass is alone, the tail stays
 -- where it was
-pub record Reads (v u : View) : Type 0 where
+pub record ReadsLog (v u : View) : Type 0 where
   pub learns : Learns v u
   pub clock : IsLater v.clock u.clock
   pub frame : u ≡ record v { tail = u.tail; learned = u.learned; clock = u.clock }
@@ -54,8 +54,8 @@ pub record HasSettled (v u : View) (n : ℕ) : Type 0 where
   pub count : ℕ
   pub loaded : HasLoadedCount v u count
   pub known : v.learned.count ≤ count
-  pub stops : StopsAt IsEnd v u n count
-  pub alone : IsAlone v → StopsAt IsMark v u n count
+  pub stops : SettlesAt IsEnd v u n count
+  pub alone : IsAlone v → SettlesAt IsMark v u n count
   pub ends : IsAlone v → EndsAt u n count
   pub rests : IsAlone v → IsTailCount count v.tail
 
@@ -67,9 +67,9 @@ pub record HasCommitted (images images' : List ℕ → Type 0) (f f' : Flusher) 
   pub live : f'.shut ≡ false
   pub count : f'.count ≡ n
   pub counted : n ≤ u.learned.count
-  pub carries : (c : Commit) (old : List Entry) → Carries images f v s rows c old
+  pub carries : (c : Commit) (old : List Entry) → CarriesLog images f v s rows c old
       → (more : List Entry) × (length (old ++ more) ≡ n)
-      × Carries images' f' u s rows (commit_of f' s rows) (old ++ more)
+      × CarriesLog images' f' u s rows (commit_of f' s rows) (old ++ more)
 
 -- a crash at any moment leaves an image that stands for the log of the last commit or of a new one: one that goes on by
 -- entries that the pass knows, with these rows, and by lines after these of the last one; and there is an image only

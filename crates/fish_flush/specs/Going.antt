@@ -3,7 +3,7 @@ use Rattle.std.specs.Prelude.{ℕ, ◌≡◌, ◌*◌, ◌≤◌, List, ◌++◌
 use Rattle.fish_catalog.specs.declared.commit.Commit.{Commit}
 use Rattle.fish_catalog.specs.declared.entry.Entry.{Entry}
 use Rattle.fish_flush.specs.Rows.{HaveGrown}
-use Rattle.fish_image.specs.Stands.{IsLog}
+use Rattle.fish_image.specs.Stands.{IsLogOf}
 use Rattle.fish_slots.specs.Commits.{HasCommit}
 
 -- there is an image only where there was one
@@ -18,7 +18,7 @@ pub record GoesOnFrom (c : Commit) (lines image : List ℕ) : Type 0 where
   pub more : List ℕ
   pub log : List Entry
   pub has : HasCommit body (lines ++ more) image
-  pub is : IsLog commit body (lines ++ more) log
+  pub is : IsLogOf commit body (lines ++ more) log
   pub size : length (lines ++ more) ≡ 32 * commit.lines
   pub bits : c.bucket_bits ≡ commit.bucket_bits
   pub counts : c.count ≤ commit.count

@@ -8,9 +8,9 @@ use Rattle.fish_catalog.specs.declared.row.CatRow.{CatRow}
 use Rattle.fish_flush.specs.declared.flusher.Flusher.{Flusher}
 use Rattle.fish_image.specs.Progress.{AreHeads}
 use Rattle.fish_catalog.specs.PageStarts.{page_after}
-use Rattle.fish_image.specs.Stands.{IsLog}
+use Rattle.fish_image.specs.Stands.{IsLogOf}
 use Rattle.fish_rule.specs.declared.table.Shape.{Shape}
-use Rattle.fish_slots.specs.Commits.{Rests}
+use Rattle.fish_slots.specs.Commits.{SlotRests}
 use Rattle.fish_slots.specs.Offsets.{lines_at}
 
 -- the commit of a store without a record
@@ -51,7 +51,7 @@ pub record IsKeptOf (slot : ℕ) (c : Commit) (heads : List ℕ) (starts : List 
 
 -- the last commit is this one, with this body and these lines, which tell this log
 pub record IsCommitted (f : Flusher) (c : Commit) (body lines : List ℕ) (log : List Entry) : Type 0 where
-  pub is : IsLog c body lines log
+  pub is : IsLogOf c body lines log
   pub size : length lines ≡ 32 * c.lines
   pub turn : c.turn ≡ f.turn
   pub count : c.count ≡ f.count
@@ -65,6 +65,6 @@ pub record IsAtRest (images : List ℕ → Type 0) (f : Flusher) (c : Commit) (l
   pub slot_is : f.slot ≤ 1
   pub body : List ℕ
   pub lines : List ℕ
-  pub rests : (i : List ℕ) → images i → Rests f.slot body lines i
+  pub rests : (i : List ℕ) → images i → SlotRests f.slot body lines i
   pub long : (i : List ℕ) → images i → lines_at + 32 * f.line ≤ length i
   pub committed : IsCommitted f c body lines log

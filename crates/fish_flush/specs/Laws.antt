@@ -7,7 +7,7 @@ use Rattle.fish_catalog.specs.Rows.{IsActiveNamed}
 use Rattle.fish_catalog.specs.declared.commit.Commit.{Commit}
 use Rattle.fish_catalog.specs.declared.entry.Entry.{Entry}
 use Rattle.fish_catalog.specs.declared.row.CatRow.{CatRow}
-use Rattle.fish_flush.specs.Carrying.{Carries}
+use Rattle.fish_flush.specs.Carrying.{CarriesLog}
 use Rattle.fish_flush.specs.Kept.{IsAtRest, first_commit}
 use Rattle.fish_flush.specs.Rows.{HaveGrown, HoldsRows}
 use Rattle.fish_flush.specs.declared.flusher.Flusher.{Flusher}
@@ -16,7 +16,7 @@ use Rattle.fish_image.specs.Reached.{Reached}
 use Rattle.fish_lang.specs.declared.definition.Def.{Def}
 use Rattle.fish_registry.specs.Changing.{Changes}
 use Rattle.fish_registry.specs.Knowing.{Knows}
-use Rattle.fish_registry.specs.Refusing.{HasBegun, PollSays}
+use Rattle.fish_registry.specs.Refusing.{HasBegunChange, PollSays}
 use Rattle.fish_registry.specs.declared.outcome.Poll.{Poll}
 use Rattle.fish_registry.specs.declared.registrar.Registrar.{Registrar}
 use Rattle.fish_rule.specs.Logs.{Learns}
@@ -30,12 +30,12 @@ use Rattle.fish_rule.specs.declared.view.View.{View}
 -- a store that was made carries the first view of an empty log that begins at number 0 and line 0, whatever rows it has
 abbrev pub FirstCarries : (List ℕ → Type 0) → Type 0
 FirstCarries images = (f : Flusher) (s : Shape) (k : Key) (rows : List CatRow) → IsAtRest images f (first_commit s) []
-    → k.number ≡ 0 → k.line ≡ 0 → Carries images f (first_view k) s rows (first_commit s) []
+    → k.number ≡ 0 → k.line ≡ 0 → CarriesLog images f (first_view k) s rows (first_commit s) []
 
 -- what is carried stays so, whatever the pass learns, while the rows go on
 abbrev pub CarriesOn : (List ℕ → Type 0) → Type 0
 CarriesOn images = (f : Flusher) (v u : View) (s : Shape) (old new : List CatRow) (c : Commit) (log : List Entry)
-    → Carries images f v s old c log → Learns v u → HaveGrown c.count c.rows new → Carries images f u s new c log
+    → CarriesLog images f v s old c log → Learns v u → HaveGrown c.count c.rows new → CarriesLog images f u s new c log
 
 -- ---- rows of the catalogue
 
@@ -57,7 +57,7 @@ HoldsOn = (v u : View) (rows : List CatRow) → u.lane ≡ v.lane → u.rows ≡
 -- a registration that begins keeps them going on
 abbrev pub GrownBegins : Type 0
 GrownBegins = (n : ℕ) (old : List CatRow) (v u : View) (r s : Registrar) (name : List ℕ) (def : Def) (id : ℕ)
-    → HaveGrown n old r.catalog → HasBegun v r name def u s id → HaveGrown n old s.catalog
+    → HaveGrown n old r.catalog → HasBegunChange v r name def u s id → HaveGrown n old s.catalog
 
 -- so does a look at the lanes, by a pass that has counted those entries
 abbrev pub GrownPolls : Type 0

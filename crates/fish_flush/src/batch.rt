@@ -11,7 +11,7 @@ ghost use Rattle.fish_image.specs.Stands.{words_in};
 ghost use Rattle.fish_layout.specs.Pages.{page_of};
 ghost use Rattle.fish_rule.specs.Logs.{Extends, KnowsAs};
 ghost use Rattle.fish_rule.specs.Passes.{IsPassOf, view};
-ghost use Rattle.fish_flush.specs.within.Filling.{Begins, HasAdded, HasRoom};
+ghost use Rattle.fish_flush.specs.within.Filling.{Begins, HasAdded, HasBatchRoom};
 ghost use Rattle.fish_flush.specs.Reading.{IsLineAt};
 
 use crate::flusher::Flusher;
@@ -88,7 +88,7 @@ pub(crate) fn add_region(log: &Log, pass: &mut Pass, number: u32, batch: &mut Ba
         batch.old.end }
     requires some { 0 < length batch.old.heads.items }
     requires page { (batch.old.written ≤ batch.old.line) × (page_of batch.old.written ≡ page_of batch.old.line) }
-    requires room { HasRoom batch.old }
+    requires room { HasBatchRoom batch.old }
     ensures pass { IsPassOf log.now pass.new }
     ensures extends { Extends (view pass.old) (view pass.new) }
     ensures added { HasAdded (view pass.old) (view pass.new) log.now.key.end number batch.old batch.new }

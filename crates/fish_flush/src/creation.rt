@@ -7,7 +7,7 @@ ghost use Rattle.fish_outside.specs.Causes.{HasCause};
 ghost use Rattle.fish_image.specs.Progress.{AreHeads};
 ghost use Rattle.fish_image.specs.Reading.{IsBodyOf};
 ghost use Rattle.fish_slots.specs.Offsets.{body_bytes, lines_at};
-ghost use Rattle.fish_slots.specs.Slots.{GatesAreSynced, body_of};
+ghost use Rattle.fish_slots.specs.Slots.{GatesAreSynced, body_in_slot};
 ghost use Rattle.fish_rule.specs.Start.{IsShape};
 ghost use Rattle.fish_flush.specs.Kept.{IsAtRest, first_commit};
 ghost use Rattle.fish_flush.specs.Causes.{HasFlushCause};
@@ -94,7 +94,7 @@ fn put_first<D: Disk>(disk: &mut D, zeros: &[u8], body: &[u8]) -> Result<(), Fai
     requires empty { IfSome (D.content disk.old) (λ c. length c ≡ 0) }
     requires zeros { zeros.now ≡ replicate lines_at 0 }
     requires size { length body.now ≡ body_bytes }
-    ensures rests { OnOk result ((c : List ℕ) → D.images disk.new c → IsOnlyOpen 0 c × (body_of 0 c ≡ body.now)) }
+    ensures rests { OnOk result ((c : List ℕ) → D.images disk.new c → IsOnlyOpen 0 c × (body_in_slot 0 c ≡ body.now)) }
     ensures long { OnOk result ((c : List ℕ) → D.images disk.new c → lines_at ≤ length c) }
     ensures crash { LeavesOnly D.images D.since D.moment disk.old disk.new (λ _. (i : List ℕ) × D.images disk.old i) }
     ensures calls { D.moment disk.new ≤ D.moment disk.old + 6 }

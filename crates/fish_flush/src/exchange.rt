@@ -3,7 +3,7 @@
 ghost use Rattle.std.specs.Prelude.{◌≡◌, ◌≤◌, ◌+◌, ◌++◌, ℕ, List, length, IfSome, OnOk};
 ghost use Rattle.fish_outside.specs.Causes.{HasCause};
 ghost use Rattle.fish_disk.specs.Crash.{LeavesOnly};
-ghost use Rattle.fish_slots.specs.Commits.{Rests};
+ghost use Rattle.fish_slots.specs.Commits.{SlotRests};
 ghost use Rattle.fish_slots.specs.Offsets.{body_bytes, gate_at};
 ghost use Rattle.fish_slots.specs.Slots.{GatesAreSynced};
 ghost use Rattle.fish_flush.specs.Going.{ComesFrom};
@@ -21,7 +21,7 @@ pub(crate) fn put_body<D: Disk>(disk: &mut D, slot: u8, body: &[u8]) -> Result<(
     requires rests { (line : ℕ) × (b w more : List ℕ) × GrowsBy D.content D.images disk.old slot line b w body.now
         more }
     ensures done { OnOk result ((line : ℕ) (b w more : List ℕ) → GrowsBy D.content D.images disk.old slot line b w
-        body.now more → (c : List ℕ) → D.images disk.new c → Rests slot body.now (w ++ more) c) }
+        body.now more → (c : List ℕ) → D.images disk.new c → SlotRests slot body.now (w ++ more) c) }
     ensures crash { (line : ℕ) (b w more : List ℕ) → GrowsBy D.content D.images disk.old slot line b w body.now more
         → LeavesOnly D.images D.since D.moment disk.old disk.new
         (EitherCommit b w body.now (w ++ more)) }
@@ -42,7 +42,7 @@ fn take_over<D: Disk>(disk: &mut D, slot: u8) -> Result<(), Failed>
     requires within { IfSome (D.content disk.old) (λ c. gate_at 1 ≤ length c) }
     requires sealed { (b w d v : List ℕ) × AreSealed (D.images disk.old) slot b w d v }
     ensures done { OnOk result ((b w d v : List ℕ) → AreSealed (D.images disk.old) slot b w d v
-        → (c : List ℕ) → D.images disk.new c → Rests slot d v c) }
+        → (c : List ℕ) → D.images disk.new c → SlotRests slot d v c) }
     ensures crash { (b w d v : List ℕ) → AreSealed (D.images disk.old) slot b w d v
         → LeavesOnly D.images D.since D.moment disk.old disk.new (EitherCommit b w d v) }
     ensures was { ComesFrom (D.images disk.old) (D.images disk.new) }

@@ -7,7 +7,7 @@ ghost use Rattle.fish_disk.specs.Crash.{LeavesOnly, TornFrom};
 ghost use Rattle.fish_rule.specs.Logs.{Extends};
 ghost use Rattle.fish_rule.specs.Passes.{IsPassOf, view};
 ghost use Rattle.fish_slots.specs.Offsets.{lines_at};
-ghost use Rattle.fish_flush.specs.within.Filling.{HasCopied, IsReady, pending};
+ghost use Rattle.fish_flush.specs.within.Filling.{HasCopied, IsBatchReady, pending};
 ghost use Rattle.fish_flush.specs.within.Reading.{EndsWithin};
 ghost use Rattle.fish_flush.specs.Writing.{pages_between};
 ghost use Rattle.fish_flush.specs.within.Writing.{HasPut};
@@ -31,7 +31,7 @@ pub(crate) fn write_settled<D: Disk>(
     requires pass { IsPassOf log.now pass.old }
     requires ordered { (log.now.key.number ≤ from) × (from ≤ to) }
     requires settled { (to ≤ (view pass.old).learned.settled) × (to ≤ (view pass.old).learned.count) }
-    requires ready { IsReady (view pass.old) from to batch.old }
+    requires ready { IsBatchReady (view pass.old) from to batch.old }
     requires within { IfSome (D.content disk.old) (λ c. lines_at + 32 * batch.old.line ≤ length c) }
     ensures pass { IsPassOf log.now pass.new }
     ensures extends { Extends (view pass.old) (view pass.new) }

@@ -7,7 +7,7 @@ ghost use Rattle.fish_catalog.specs.declared.row.CatRow.{CatRow};
 ghost use Rattle.fish_outside.specs.Causes.{HasCause};
 ghost use Rattle.fish_rule.specs.Logs.{Extends};
 ghost use Rattle.fish_rule.specs.Passes.{IsPassOf, view};
-ghost use Rattle.fish_flush.specs.Carrying.{Carries, HasCommitted, HasSettled, LeavesEither, Reads};
+ghost use Rattle.fish_flush.specs.Carrying.{CarriesLog, HasCommitted, HasSettled, LeavesEither, ReadsLog};
 ghost use Rattle.fish_flush.specs.within.Carrying.{IsSaved, MaySave};
 ghost use Rattle.fish_flush.specs.within.Carrying.{flusher_after};
 ghost use Rattle.fish_flush.specs.Causes.{HasFlushCause};
@@ -41,14 +41,14 @@ pub fn checkpoint<D: Disk>(
     requires live { flusher.old.shut ≡ false }
     requires rows { HoldsRows (view pass.old) catalog.now }
     requires carries { (c : Commit) × (old : List Entry)
-        × Carries (D.images disk.old) flusher.old (view pass.old) log.now.shape catalog.now c old }
+        × CarriesLog (D.images disk.old) flusher.old (view pass.old) log.now.shape catalog.now c old }
     ensures pass { IsPassOf log.now pass.new }
-    ensures reads { Reads (view pass.old) (view pass.new) }
+    ensures reads { ReadsLog (view pass.old) (view pass.new) }
     ensures settled { IfOk result (HasSettled (view pass.old) (view pass.new)) }
     ensures committed { IfOk result (HasCommitted (D.images disk.old) (D.images disk.new) flusher.old flusher.new
         (view pass.old) (view pass.new) log.now.shape catalog.now) }
     ensures crash { (c : Commit) (old : List Entry)
-        → (h : Carries (D.images disk.old) flusher.old (view pass.old) log.now.shape catalog.now c old)
+        → (h : CarriesLog (D.images disk.old) flusher.old (view pass.old) log.now.shape catalog.now c old)
         → LeavesEither D.images D.since D.moment disk.old disk.new (view pass.new) catalog.now c old h.rest.lines }
     ensures gates { GatesAreSynced (D.images disk.new) (D.images disk.new) }
     ensures calls { D.moment disk.new ≤ D.moment disk.old + pages_between flusher.old.line log.now.key.end + 6 }

@@ -10,7 +10,7 @@ use Rattle.fish_layout.specs.declared.parts.KeyPart.{KeyPart}
 use Rattle.fish_layout.proofs.Outlines.{body_length}
 use Rattle.fish_layout.proofs.Sizes.{roomy}
 use Rattle.fish_image.specs.Log.{Agrees, FollowsIn}
-use Rattle.fish_image.specs.Newest.{IsAmong, IsNewest}
+use Rattle.fish_image.specs.Newest.{IsAmong, IsNewestPlace}
 use Rattle.fish_image.specs.Reached.{Reached, bucket_of_key, head_of, with_keys}
 use Rattle.fish_layout.specs.Pages.{place_of}
 
@@ -64,12 +64,13 @@ first_most bound x xs b q zero h at =
 first_most bound x xs b q (suc k) h at = (let less = (descend_among x.1 xs k b q h.2 at).0 in omega arith)
 
 -- one of another bucket than the first comes after it
-rest_most : (x : ℕ × ℕ) (xs : List (ℕ × ℕ)) (b q k p : ℕ) → (x.0 ≡ b → ⊥) → IsNewest xs b p → slice_get (x ∷ xs) k ≡ Some (b, q) → q ≤ p
+rest_most : (x : ℕ × ℕ) (xs : List (ℕ × ℕ)) (b q k p : ℕ) → (x.0 ≡ b → ⊥) → IsNewestPlace xs b p → slice_get (x ∷ xs) k ≡ Some (b, q)
+    → q ≤ p
 rest_most x xs b q zero p apart h at = absurd (apart (ap (λ (z : ℕ × ℕ). z.0) (same_Some x (b, q) at)))
 rest_most x xs b q (suc k) p apart h at = h.most q (record { at = k; there = at })
 
 -- the first of a bucket is the newest
-head_newest : (bound : ℕ) (xs : List (ℕ × ℕ)) (b : ℕ) → Descend bound xs → IsNewest xs b (head_of xs b)
+head_newest : (bound : ℕ) (xs : List (ℕ × ℕ)) (b : ℕ) → Descend bound xs → IsNewestPlace xs b (head_of xs b)
 head_newest bound [] b h = record {
   some = inr refl;
   most = λ q among. absurd (cc (among.there));
@@ -88,7 +89,7 @@ head_newest bound (x ∷ xs) b h =
       | inr apart ↦
           let head : head_of (x ∷ xs) b ≡ head_of xs b = other (x.0 == b) x.1 (head_of xs b) apart in
           let rest = head_newest x.1 xs b h.2 in
-          subst (IsNewest (x ∷ xs) b) (sym head)
+          subst (IsNewestPlace (x ∷ xs) b) (sym head)
           (record {
             some = elim rest.some [ inl there ↦ inl (among_more x xs b (head_of xs b) there) | inr none ↦ inr none ];
             most = λ q among. rest_most x xs b q among.at (head_of xs b) (eqb-false x.0 b apart) rest among.there;
@@ -126,7 +127,8 @@ agrees_descends c w zero s h = subst (λ (z : Reached). Descend (4 * z.line) z.p
 agrees_descends c w (suc k) s h = region_descends c h.0 _ _ s h.2 (agrees_descends c w k h.0 h.1)
 
 -- the head of a bucket is its newest key entry
-pub agrees_newest : (c : Commit) (w : List ℕ) (k : ℕ) (s : Reached) → Agrees c w k s → (b : ℕ) → IsNewest s.places b (head_of s.places b)
+pub agrees_newest : (c : Commit) (w : List ℕ) (k : ℕ) (s : Reached) → Agrees c w k s → (b : ℕ)
+    → IsNewestPlace s.places b (head_of s.places b)
 agrees_newest c w k s h b = head_newest (4 * s.line) s.places b (agrees_descends c w k s h)
 
 -- and all lie below what comes next

@@ -10,7 +10,7 @@ use Rattle.std.specs.Prelude.{Result, Ok, Err}
 use Rattle.fish_image.specs.Log.{Follows, IsDamaged}
 use Rattle.fish_image.specs.Reached.{Reached}
 use Rattle.fish_image.specs.Steps.{Breaks, HasCome}
-use Rattle.fish_image.specs.within.Steps.{Advances}
+use Rattle.fish_image.specs.within.Steps.{LeavesProgress}
 use Rattle.fish_image.specs.declared.progress.Progress.{Progress}
 use Rattle.fish_image.proofs.Agreement.{agrees_more}
 
@@ -42,7 +42,7 @@ seen_more None c w more left at h all =
     }
 
 -- what was read was seen
-pub seen_read : (o : Option ℕ) (c : Commit) (w left rest : List ℕ) (at : Progress) → Advances o c w left at → rest ≡ left
+pub seen_read : (o : Option ℕ) (c : Commit) (w left rest : List ℕ) (at : Progress) → LeavesProgress o c w left at → rest ≡ left
     → Seen o c w rest at
 seen_read (Some n) c w left rest at h same = h
 seen_read None c w left rest at h same = record {

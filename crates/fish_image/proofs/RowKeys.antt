@@ -8,7 +8,7 @@ use Rattle.fish_lang.specs.Definition.{Definition, definition_of}
 use Rattle.fish_lang.specs.declared.parse.LangRefusal.{LangRefusal}
 use Rattle.fish_layout.specs.declared.parts.BodyParts.{BodyParts}
 use Rattle.fish_psf.specs.Records.{evaluation, is_record}
-use Rattle.fish_image.specs.Log.{AreSomeOf, HasKeys, values_under}
+use Rattle.fish_image.specs.Log.{AreSomeOf, HasRowKeys, values_under}
 use Rattle.fish_image.specs.within.Regions.{HasKeysIn}
 use Rattle.fish_image.specs.Terms.{AreIndexRows}
 use Rattle.fish_image.specs.declared.terms.IndexRow.{IndexRow}
@@ -20,7 +20,7 @@ said_same e = cc
 
 module _ {rows : List CatRow} {xs : List IndexRow} (h : AreIndexRows rows xs) (number : ℕ) (p : BodyParts) where
   -- what the definitions ask, the rows ask
-  pub keys_out : HasKeysIn xs number p → HasKeys rows number p
+  pub keys_out : HasKeysIn xs number p → HasRowKeys rows number p
   keys_out has = record {
     known = λ j k there. let size = h.size in let few = has.keys.known j k there in omega arith;
     values = λ id row there.
@@ -43,7 +43,7 @@ module _ {rows : List CatRow} {xs : List IndexRow} (h : AreIndexRows rows xs) (n
   }
 
   -- and the other way round
-  pub keys_in : is_record p.form p.payload ≡ true → HasKeys rows number p → HasKeysIn xs number p
+  pub keys_in : is_record p.form p.payload ≡ true → HasRowKeys rows number p → HasKeysIn xs number p
   keys_in reads has = record {
     reads = reads;
     keys = record {

@@ -5,7 +5,7 @@ use Rattle.fish_catalog.specs.declared.commit.Commit.{Commit}
 use Rattle.fish_image.specs.Log.{Agrees, IsDamaged}
 use Rattle.fish_image.specs.Progress.{AreHeads}
 use Rattle.fish_image.specs.Reached.{Reached}
-use Rattle.fish_image.specs.Steps.{Breaks, Stops}
+use Rattle.fish_image.specs.Steps.{Breaks, StopsReading}
 use Rattle.fish_image.specs.Terms.{AreTermsOf}
 use Rattle.fish_image.specs.declared.checker.Checker.{Checker}
 use Rattle.fish_image.specs.declared.progress.Progress.{Progress}
@@ -15,7 +15,7 @@ use Rattle.fish_image.specs.declared.refusal.ImageRefusal.TheVariants.{Damaged, 
 -- words were read up to the first that is no region; or so many entries agree, and no other will
 abbrev pub Seen : Option ℕ → Commit → List ℕ → List ℕ → Progress → Type 0
 Seen (Some n) c w left at = Breaks c w n
-Seen None c w left at = Stops c w left at
+Seen None c w left at = StopsReading c w left at
 
 -- the checker of a commit has seen these words, and no others
 pub record HasSeen (c : Commit) (checker : Checker) (w : List ℕ) : Type 0 where
@@ -44,6 +44,6 @@ pub record HasChecked (c : Commit) (w : List ℕ) (checked : Checked) : Type 0 w
   pub starts : checked.starts ≡ end.starts
 
 -- words are refused where memory runs out, or since they stand for no log, with the count of leading entries that agree
-abbrev pub IsCause : Commit → List ℕ → ImageRefusal → Type 0
-IsCause c w (Damaged n) = IsDamaged c w n
-IsCause c w OutOfMemory = Unit {0}
+abbrev pub IsImageCause : Commit → List ℕ → ImageRefusal → Type 0
+IsImageCause c w (Damaged n) = IsDamaged c w n
+IsImageCause c w OutOfMemory = Unit {0}

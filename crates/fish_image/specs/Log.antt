@@ -15,7 +15,7 @@ use Rattle.fish_layout.specs.declared.parts.BodyParts.{BodyParts}
 use Rattle.fish_layout.specs.declared.parts.KeyPart.{KeyPart}
 use Rattle.fish_psf.specs.Records.{evaluation, is_record}
 use Rattle.fish_value.specs.declared.value.Value.{Value}
-use Rattle.fish_image.specs.Reached.{AreLinked, Reached, behind, unread, with_keys}
+use Rattle.fish_image.specs.Reached.{AreLinked, Reached, reached_after, unread, with_keys}
 use Rattle.fish_layout.specs.Pages.{page_of}
 
 -- ---- the keys of a record
@@ -41,7 +41,7 @@ pub record HasValues (row : CatRow) (number : ℕ) (p : BodyParts) (vs : List Va
 
 -- each key entry is of a row, and the entries of each row have values that its definition gives, each once and in their
 -- order, and all of them where the row covers the record
-pub record HasKeys (rows : List CatRow) (number : ℕ) (p : BodyParts) : Type 0 where
+pub record HasRowKeys (rows : List CatRow) (number : ℕ) (p : BodyParts) : Type 0 where
   pub known : (j : ℕ) (k : KeyPart) → slice_get p.keys j ≡ Some k → k.id < length rows
   pub values : (id : ℕ) (row : CatRow) → slice_get rows id ≡ Some row → HasValues row number p (values_under id p.keys)
 
@@ -71,7 +71,7 @@ pub record IsKeptAt (c : Commit) (s : Reached) (lines : ℕ) (p : BodyParts) : T
   pub reads : is_record p.form p.payload ≡ true
   pub in_page : page_of (s.line + lines - 1) ≡ page_of s.line
   pub within : s.line + lines ≤ c.lines
-  pub keys : HasKeys c.rows s.number p
+  pub keys : HasRowKeys c.rows s.number p
   pub links : AreLinked (2 ^ c.bucket_bits) s.line 0 p.keys s.places
 
 -- the region at the next line is that record
@@ -84,12 +84,12 @@ pub record IsRecordAt (c : Commit) (s : Reached) (lines : ℕ) (r : List ℕ) (p
 -- after a record with these parts
 abbrev pub behind_record : Commit → Reached → ℕ → BodyParts → Reached
 behind_record c s lines p =
-    behind s lines (with_keys (2 ^ c.bucket_bits) s.line 0 p.keys s.places) (Stored p.lane p.form p.payload)
+    reached_after s lines (with_keys (2 ^ c.bucket_bits) s.line 0 p.keys s.places) (Stored p.lane p.form p.payload)
 
 -- a region of so many lines and these words brings the reading from the first to the second
 abbrev pub FollowsIn : Commit → Reached → ℕ → List ℕ → Reached → Type 0
 FollowsIn c s lines r n =
-    (IsVoidAt c s lines r × (n ≡ behind s lines s.places Void))
+    (IsVoidAt c s lines r × (n ≡ reached_after s lines s.places Void))
     ⊎ ((p : BodyParts) × IsRecordAt c s lines r p × (n ≡ behind_record c s lines p))
 
 -- so does the region at the front of what is left

@@ -48,8 +48,8 @@ abbrev pub starts_behind : Reached → List PageStart
 starts_behind s = starts_after s.page s.number s.line s.starts
 
 -- after a region of so many lines that holds an entry, with these key entries
-abbrev pub behind : Reached → ℕ → List (ℕ × ℕ) → Entry → Reached
-behind s lines places entry =
+abbrev pub reached_after : Reached → ℕ → List (ℕ × ℕ) → Entry → Reached
+reached_after s lines places entry =
     record {
       line = s.line + lines;
       number = s.number + 1;

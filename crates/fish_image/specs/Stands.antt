@@ -17,7 +17,7 @@ abbrev pub words_in : List ℕ → List ℕ
 words_in bytes = words_of (length bytes / 8) bytes
 
 -- a body and lines tell this commit and this log
-pub record IsLog (c : Commit) (body lines : List ℕ) (log : List Entry) : Type 0 where
+pub record IsLogOf (c : Commit) (body lines : List ℕ) (log : List Entry) : Type 0 where
   pub told : IsBodyOf c body
   pub stands : StandsFor c (words_in lines) log
 
@@ -26,4 +26,4 @@ pub record Stands (c : Commit) (image : List ℕ) (log : List Entry) : Type 0 wh
   pub body : List ℕ
   pub lines : List ℕ
   pub commit : HasCommit body lines image
-  pub is : IsLog c body lines log
+  pub is : IsLogOf c body lines log

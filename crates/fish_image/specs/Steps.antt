@@ -20,7 +20,7 @@ pub record Breaks (c : Commit) (w : List ℕ) (n : ℕ) : Type 0 where
   pub never : (more : List ℕ) (m : Reached) → Follows c (w ++ more) end m → ⊥
 
 -- all regions that stand there were read: where one more is wanted, what is left of the words is none as yet
-pub record Stops (c : Commit) (w left : List ℕ) (at : Progress) : Type 0 where
+pub record StopsReading (c : Commit) (w left : List ℕ) (at : Progress) : Type 0 where
   pub end : Reached
   pub come : HasCome c w end at
   pub left_is : end.number < c.count → left ≡ drop (4 * end.line) w

@@ -5,7 +5,7 @@ ghost use Rattle.fish_catalog.specs.declared.commit.Commit.{Commit};
 ghost use Rattle.fish_image.specs.Progress.{IsAt};
 ghost use Rattle.fish_image.specs.Reached.{Reached};
 ghost use Rattle.fish_image.specs.Steps.{HasCome};
-ghost use Rattle.fish_image.specs.within.Steps.{Advances, IsReading, Stepped};
+ghost use Rattle.fish_image.specs.within.Steps.{LeavesProgress, IsReading, Stepped};
 ghost use Rattle.fish_image.specs.Terms.{AreTermsOf};
 
 use crate::progress::Progress;
@@ -77,7 +77,7 @@ pub(crate) fn advance(
     requires { IsReading terms.now at.old }
     ensures used { IfOk result (λ a. a.used ≤ length words.now) }
     ensures all { IfOk result (λ a. (c : Commit) (w : List ℕ) (s : Reached) → AreTermsOf c terms.now → HasCome c w s
-        at.old → words.now ≡ drop (4 * s.line) w → Advances a.damaged c w (drop a.used words.now) at.new) }
+        at.old → words.now ≡ drop (4 * s.line) w → LeavesProgress a.damaged c w (drop a.used words.now) at.new) }
 {
     let mut used = 0;
     for number in at.number..terms.count {

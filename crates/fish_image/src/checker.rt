@@ -23,7 +23,7 @@ pub struct Checker {
 impl Checker {
     ghost use Rattle.std.specs.Prelude.{◌≡◌, ◌++◌, ◌≤◌, List, ℕ, [], IfErr, IfOk};
     ghost use Rattle.fish_catalog.specs.declared.commit.Commit.{Commit as Told};
-    ghost use Rattle.fish_image.specs.Checking.{Fed, HasChecked, HasSeen, IsCause, IsChecker};
+    ghost use Rattle.fish_image.specs.Checking.{Fed, HasChecked, HasSeen, IsImageCause, IsChecker};
     ghost use Rattle.fish_image.specs.Commits.{IsWithin};
 
     /// A checker that has seen no word.
@@ -95,7 +95,7 @@ impl Checker {
     /// Answers for all words.
     pub fn finish(self) -> Result<Checked, ImageRefusal>
         ensures found { IfOk result (λ checked. (c : Told) (w : List ℕ) → HasSeen c self w → HasChecked c w checked) }
-        ensures damaged { IfErr result (λ e. (c : Told) (w : List ℕ) → HasSeen c self w → IsCause c w e) }
+        ensures damaged { IfErr result (λ e. (c : Told) (w : List ℕ) → HasSeen c self w → IsImageCause c w e) }
     {
         if let Some(number) = self.damaged {
             drop(self);

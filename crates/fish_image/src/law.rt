@@ -6,7 +6,7 @@ ghost use Rattle.fish_catalog.specs.declared.commit.Commit.{Commit};
 ghost use Rattle.fish_catalog.specs.declared.entry.Entry.{Entry};
 ghost use Rattle.fish_image.specs.Checking.{HasChecked};
 ghost use Rattle.fish_image.specs.Log.{Agrees, IsDamaged, StandsFor};
-ghost use Rattle.fish_image.specs.Newest.{IsAmong, IsNewest};
+ghost use Rattle.fish_image.specs.Newest.{IsAmong, IsNewestPlace};
 ghost use Rattle.fish_image.specs.Reached.{Reached, head_of};
 
 /// Words that were checked stand for a log, and for one alone.
@@ -37,7 +37,7 @@ pub fn damage_is_one()
 /// below what comes next.
 pub fn heads_are_newest()
     ensures newest { (c : Commit) (w : List ℕ) (k : ℕ) (s : Reached) → Agrees c w k s
-        → (b : ℕ) → IsNewest s.places b (head_of s.places b) }
+        → (b : ℕ) → IsNewestPlace s.places b (head_of s.places b) }
     ensures lower { (c : Commit) (w : List ℕ) (k : ℕ) (s : Reached) → Agrees c w k s
         → (b p : ℕ) → IsAmong s.places b p → p < 4 * s.line }
 {}

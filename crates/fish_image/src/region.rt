@@ -13,11 +13,11 @@ ghost use Rattle.fish_layout.specs.Header.{lines_of};
 ghost use Rattle.fish_layout.specs.declared.parts.BodyParts.{BodyParts};
 ghost use Rattle.fish_image.specs.Log.{FollowsIn, IsKeptAt, IsRecordAt, behind_record, void_words};
 ghost use Rattle.fish_image.specs.Progress.{AreHeads, IsAt};
-ghost use Rattle.fish_image.specs.within.Progress.{Linked, Took};
-ghost use Rattle.fish_image.specs.Reached.{Reached, behind};
+ghost use Rattle.fish_image.specs.within.Progress.{LinksKeys, TookRegion};
+ghost use Rattle.fish_image.specs.Reached.{Reached, reached_after};
 ghost use Rattle.fish_layout.specs.Pages.{page_of};
 ghost use Rattle.fish_image.specs.Terms.{AreTermsOf};
-ghost use Rattle.fish_image.specs.within.Regions.{CanTake, HasKeysIn};
+ghost use Rattle.fish_image.specs.within.Regions.{CanTakeRegion, HasKeysIn};
 ghost use Rattle.fish_psf.specs.Blanks.{IsBlankOf};
 
 use crate::keys::has_keys;
@@ -44,9 +44,9 @@ pub(crate) fn take_region(
 ) -> Result<bool, AllocError>
     requires some { 0 < length r.now }
     requires size { length r.now ≡ 4 * lines_of (slice_index r.now 0) }
-    requires can { CanTake terms.now at.old (lines_of (slice_index r.now 0)) }
+    requires can { CanTakeRegion terms.now at.old (lines_of (slice_index r.now 0)) }
     ensures { IfOk result (λ yes. (c : Commit) (s : Reached) → AreTermsOf c terms.now → IsAt c s at.old
-        → Took yes c (FollowsIn c s (lines_of (slice_index r.now 0)) r.now) at.new) }
+        → TookRegion yes c (FollowsIn c s (lines_of (slice_index r.now 0)) r.now) at.new) }
 {
     let lines = lines_in(r[0]);
     if is_void(r, lines) {
@@ -70,8 +70,8 @@ fn take_void(at: &mut Progress, lines: u64) -> Result<bool, AllocError>
     requires some { 1 ≤ lines }
     requires few { at.old.number < 2 ^ 28 }
     requires short { at.old.line + lines < 2 ^ 40 }
-    ensures { IfOk result (λ yes. (c : Commit) (s : Reached) → IsAt c s at.old → Took yes c
-        (λ n. (page_of s.line < page_of (s.line + lines - 1)) × (n ≡ behind s lines s.places Void)) at.new) }
+    ensures { IfOk result (λ yes. (c : Commit) (s : Reached) → IsAt c s at.old → TookRegion yes c
+        (λ n. (page_of s.line < page_of (s.line + lines - 1)) × (n ≡ reached_after s lines s.places Void)) at.new) }
 {
     if !crosses_page(at.line, lines) {
         return Ok(false);
@@ -86,7 +86,7 @@ fn pass(at: &mut Progress, lines: u64) -> Result<(), AllocError>
     requires few { at.old.number < 2 ^ 28 }
     requires short { at.old.line + lines < 2 ^ 40 }
     ensures { OnOk result ((c : Commit) (s : Reached) (entry : Entry) → IsAt c s at.old
-        → IsAt c (behind s lines s.places entry) at.new) }
+        → IsAt c (reached_after s lines s.places entry) at.new) }
 {
     let page = page_of(at.line);
     if at.page <= page {
@@ -112,10 +112,11 @@ fn take_record(
     lines: u64,
 ) -> Result<bool, AllocError>
     requires size { length r.now ≡ 4 * lines }
-    requires can { CanTake terms.now at.old lines }
+    requires can { CanTakeRegion terms.now at.old lines }
     requires some { 1 ≤ lines }
     ensures { IfOk result (λ yes. (c : Commit) (s : Reached) → AreTermsOf c terms.now → IsAt c s at.old
-        → Took yes c (λ n. (p : BodyParts) × IsRecordAt c s lines r.now p × (n ≡ behind_record c s lines p)) at.new) }
+        → TookRegion yes c (λ n. (p : BodyParts) × IsRecordAt c s lines r.now p
+        × (n ≡ behind_record c s lines p)) at.new) }
 {
     let Some(parts) = read_numbered(alloc, r, at.number)? else {
         return Ok(false);
@@ -164,10 +165,10 @@ fn take_parts(
     lines: u64,
 ) -> Result<bool, AllocError>
     requires proper { IsProper parts.now }
-    requires can { CanTake terms.now at.old lines }
+    requires can { CanTakeRegion terms.now at.old lines }
     requires some { 1 ≤ lines }
     ensures { IfOk result (λ yes. (c : Commit) (s : Reached) → AreTermsOf c terms.now → IsAt c s at.old
-        → Took yes c (λ n. IsKeptAt c s lines parts.now × (n ≡ behind_record c s lines parts.now)) at.new) }
+        → TookRegion yes c (λ n. IsKeptAt c s lines parts.now × (n ≡ behind_record c s lines parts.now)) at.new) }
 {
     if crosses_page(at.line, lines) {
         return Ok(false);
@@ -238,7 +239,7 @@ fn link(heads: &mut Vec<u64>, line: u64, keys: &[KeyPart]) -> bool
     requires few { length keys.now ≤ 256 }
     requires some { 0 < length heads.old.items }
     ensures { (places : List (ℕ × ℕ)) → AreHeads (length heads.old.items) places heads.old.items
-        → Linked result (length heads.old.items) line keys.now places heads.new.items }
+        → LinksKeys result (length heads.old.items) line keys.now places heads.new.items }
 {
     for (c, key) in keys.iter().enumerate() {
         let hash = key_hash(key.id, &key.value);

@@ -5,7 +5,7 @@ ghost use Rattle.fish_catalog.specs.declared.commit.Commit.{Commit};
 ghost use Rattle.fish_image.specs.Checking.{Seen};
 ghost use Rattle.fish_image.specs.Progress.{IsAt};
 ghost use Rattle.fish_image.specs.Reached.{Reached};
-ghost use Rattle.fish_image.specs.Steps.{Stops};
+ghost use Rattle.fish_image.specs.Steps.{StopsReading};
 ghost use Rattle.fish_image.specs.Terms.{AreTermsOf};
 
 use crate::advance::advance;
@@ -34,9 +34,9 @@ pub(crate) fn resume(
     left: &[u64],
     words: &[u64],
 ) -> Result<Resumed, AllocError>
-    requires real { (c : Commit) × (w : List ℕ) × AreTermsOf c terms.now × Stops c w left.now at.now }
+    requires real { (c : Commit) × (w : List ℕ) × AreTermsOf c terms.now × StopsReading c w left.now at.now }
     requires wanted { at.now.number < terms.now.count }
-    ensures { IfOk result (λ r. (c : Commit) (w : List ℕ) → AreTermsOf c terms.now → Stops c w left.now at.now
+    ensures { IfOk result (λ r. (c : Commit) (w : List ℕ) → AreTermsOf c terms.now → StopsReading c w left.now at.now
         → Seen r.damaged c (w ++ words.now) r.left.items r.at) }
 {
     let all = joined(alloc, left, words)?;

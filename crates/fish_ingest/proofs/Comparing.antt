@@ -3,7 +3,7 @@ use Rattle.std.proofs.Common.{◌≡◌, ℕ, ◌+◌, ◌<◌, ◌≤◌, ap, a
 use Rattle.std.proofs.Math.Decide.{dec_lt}
 use Rattle.fish_ingest.specs.Laws.{AreShut, FullAgrees, FullFollows}
 use Rattle.fish_rule.proofs.laws.Comparing.{one_line, one_number, regions_follow}
-use Rattle.fish_rule.specs.Comparing.{AreFound}
+use Rattle.fish_rule.specs.Comparing.{AreBothFound}
 use Rattle.fish_rule.specs.declared.view.Found.{Found}
 use Rattle.fish_rule.specs.declared.view.Kind.TheVariants.{Mark}
 use Rattle.fish_rule.specs.declared.view.Shut.{Shut}
@@ -15,7 +15,7 @@ mark_at n s = record { number = n; kind = Mark; line = s.line; lines = s.lines }
 
 -- both were found
 found : (v u x : View) (s t : Shut) (h : AreShut v u x s t)
-    → AreFound v u x (mark_at h.first.0 s) (mark_at h.second.0 t)
+    → AreBothFound v u x (mark_at h.first.0 s) (mark_at h.second.0 t)
 found v u x s t h = record {
   first = h.first.1;
   second = h.second.1;

@@ -6,7 +6,7 @@ use Rattle.fish_ingest.proofs.IngestionStart.{on_retire}
 use Rattle.fish_ingest.proofs.Passing.{on_lane}
 use Rattle.fish_ingest.specs.Passing.{moved}
 use Rattle.fish_ingest.specs.Ingestion.{HasIngested, HasStarted}
-use Rattle.fish_ingest.specs.Placement.{number_of}
+use Rattle.fish_ingest.specs.Placement.{pending_number}
 use Rattle.fish_ingest.specs.declared.placement.Pending.{Pending}
 use Rattle.fish_layout.proofs.Spelled.{spelled_body}
 use Rattle.fish_layout.specs.Body.{IsBody}
@@ -53,15 +53,15 @@ knows_recorded v n stored words p among made same number u learns w r j at =
 
 -- the record that was pending is published, and the pass is out
 pub has_ingested : (v u w : View) (form : Form) (payload : List ℕ) (pending : Pending) (s : HasStarted v form payload pending u)
-    → w ≡ after_retire (after_publish_region u s.waits.flight) → HasIngested v form payload (number_of pending) w
-has_ingested v u w form payload pending s is = subst (HasIngested v form payload (number_of pending)) (sym is) (
+    → w ≡ after_retire (after_publish_region u s.waits.flight) → HasIngested v form payload (pending_number pending) w
+has_ingested v u w form payload pending s is = subst (HasIngested v form payload (pending_number pending)) (sym is) (
     let f : Flight = s.waits.flight in
     let p : View = after_publish_region u f in
     let kind : flight_kind u f ≡ Stored = s.waits.stored in
-    let number : f.number ≡ number_of pending = s.waits.number_is in
+    let number : f.number ≡ pending_number pending = s.waits.number_is in
     let flights : s.words.flight ≡ f = one_flight s.words.flight f (sym s.words.flying ∙ s.waits.ready.flying) in
-    let newest : Among (record { number = number_of pending; words = s.words.flight.words }) (after_retire p).learned.records =
-    subst (λ (z : Kind). Among (record { number = number_of pending; words = s.words.flight.words })
+    let newest : Among (record { number = pending_number pending; words = s.words.flight.words }) (after_retire p).learned.records =
+    subst (λ (z : Kind). Among (record { number = pending_number pending; words = s.words.flight.words })
     (records_after z f u.learned.records)) (sym kind)
     (inl (λ j. record { number = number j; words = (sym flights j).words })) in
     let lane : s.parts.lane ≡ v.lane = s.are.parts.lane_is ∙ s.are.lane_is ∙ on_lane s.on in
@@ -81,10 +81,10 @@ has_ingested v u w form payload pending s is = subst (HasIngested v form payload
       shut = ap (λ (z : Kind). shut_after z f u.about.end u.shut) kind ∙ s.shut;
       own = ap (λ (z : Kind). own_after z u.lane f.number u.own) kind
           ∙ (λ j. s.own j ++ record { lane = on_lane s.on j; number = number j } ∷ []);
-      entry = subst (λ (z : ℕ × Form × List ℕ). KnowsAs (after_retire p) (number_of pending) (entry.Stored z.0 z.1 z.2))
+      entry = subst (λ (z : ℕ × Form × List ℕ). KnowsAs (after_retire p) (pending_number pending) (entry.Stored z.0 z.1 z.2))
           (λ j. (lane j, form_ j, s.are.parts.payload_is j))
-          (knows_recorded (after_retire p) (number_of pending) s.words.flight.words s.words.words
-          (record s.parts { number = number_of pending }) newest s.words.made s.words.same refl);
+          (knows_recorded (after_retire p) (pending_number pending) s.words.flight.words s.words.words
+          (record s.parts { number = pending_number pending }) newest s.words.made s.words.same refl);
       fresh = s.fresh;
       counted = s.counted;
       found = λ x m. ⊎_elim

@@ -12,7 +12,7 @@ use Rattle.fish_epoch.specs.Entering.{HasEntered, OnlyEnters}
 use Rattle.fish_epoch.specs.declared.definitions.Known.{Known}
 use Rattle.fish_ingest.proofs.PreparationDefs.{def_ids, few_by}
 use Rattle.fish_epoch.proofs.Rounds.{enters_both}
-use Rattle.fish_epoch.specs.Rows.{OnlyReads}
+use Rattle.fish_epoch.specs.Rows.{OnlyLearns}
 use Rattle.fish_ingest.proofs.Passing.{found_both, found_same, enters_reads, on_both, on_keeps, on_lane}
 use Rattle.fish_rule.proofs.laws.Clocks.{later_both, later_self, later_ticked, loaded_within}
 use Rattle.fish_rule.specs.Clocks.{HasLoaded}
@@ -36,7 +36,7 @@ use Rattle.fish_rule.specs.Epochs.{Carries}
 use Rattle.fish_rule.specs.Keys.{text_of}
 use Rattle.fish_rule.specs.Logs.{Learns}
 use Rattle.fish_rule.specs.Registry.{KnowsActive}
-use Rattle.fish_rule.specs.Table.{Stands}
+use Rattle.fish_rule.specs.Table.{IsOfMoment}
 use Rattle.fish_rule.specs.declared.view.Epoch.TheVariants.{Confirmed, Out}
 use Rattle.fish_rule.specs.declared.view.Flight.{Flight}
 use Rattle.fish_rule.specs.declared.view.Kind.TheVariants.{Stored, Void}
@@ -54,7 +54,7 @@ carries_idle v (Some f) k g version_of outside h = (let e : Out ≡ Confirmed (v
     sym outside ∙ h.entered in cc)
 
 -- neither has one that may start
-pub idle_law : (v : View) → Stands v → CanStart v → v.flight ≡ None
+pub idle_law : (v : View) → IsOfMoment v → CanStart v → v.flight ≡ None
 idle_law v s can = carries_idle v v.flight v.about s.moment.registry s.rule.version_of can.outside
     (s.rule.registry.flights s.seat v s.at)
 
@@ -69,7 +69,7 @@ pub learns_retired : (v u : View) → u ≡ after_retire v → Learns v u
 learns_retired v u e = subst (Learns v) (sym e) (on_retire v).learns
 
 -- nor did one that entered, read of the registry and left
-pub not_claimed_left : (v a b c : View) → Stands v → CanStart v → OnlyEnters v a → OnlyReads a b → c ≡ after_retire b
+pub not_claimed_left : (v a b c : View) → IsOfMoment v → CanStart v → OnlyEnters v a → OnlyLearns a b → c ≡ after_retire b
     → HasNotClaimed v c
 not_claimed_left v a b c s can e reads is =
     let both = enters_both v a b e (enters_reads a b reads) in
@@ -89,7 +89,7 @@ not_claimed_left v a b c s can e reads is =
 -- ---- definitions
 
 -- the active definitions that were read are in the order of their ids
-pub are_defs : (v : View) (d : Known) → Stands v → AreRead v d → AreDefs (active_defs d)
+pub are_defs : (v : View) (d : Known) → IsOfMoment v → AreRead v d → AreDefs (active_defs d)
 are_defs v d s h =
     let listing = listing_law v _ d.rows.items s h.rows in
     let ids : map (λ (t : ℕ × List ℕ). t.0) (map text_of (active_defs d)) ≡ map id_of (active_defs d) =
@@ -112,8 +112,8 @@ are_defs v d s h =
 -- ---- the record in flight
 
 -- a pass that entered, and prepared the record that a payload is, may place it
-pub can_place_for : (v a b : View) (version : ℕ) → HasEntered v version a → OnlyReads a b → (form : Form) (payload : List ℕ)
-    (prepared : Prepared) → Stands v → CanStart v → v.shut ≡ None → HasPrepared b version form payload prepared
+pub can_place_for : (v a b : View) (version : ℕ) → HasEntered v version a → OnlyLearns a b → (form : Form) (payload : List ℕ)
+    (prepared : Prepared) → IsOfMoment v → CanStart v → v.shut ≡ None → HasPrepared b version form payload prepared
     → CanPlaceFor v form payload prepared b
 can_place_for v a b version entered reads form payload prepared s can unshut h =
     let both : OnlyEnters v b = enters_both v a b entered.keeps (enters_reads a b reads) in

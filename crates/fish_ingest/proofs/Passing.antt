@@ -1,7 +1,7 @@
 -- What calls leave of a pass, one after the other.
 use Rattle.std.proofs.Common.{◌≡◌, ap, refl, sym, ◌∙◌, subst, inl, inr, ⊎_elim}
 use Rattle.fish_epoch.specs.Entering.{OnlyEnters}
-use Rattle.fish_epoch.specs.Rows.{OnlyReads}
+use Rattle.fish_epoch.specs.Rows.{OnlyLearns}
 use Rattle.fish_ingest.specs.Passing.{OnlyIngests, FoundSince, moved}
 use Rattle.fish_rule.proofs.laws.Clocks.{later_both, later_self}
 use Rattle.fish_rule.proofs.laws.Learning.{learns_both, learns_self}
@@ -34,7 +34,7 @@ pub on_keeps : (v u : View) → OnlyEnters v u → OnlyIngests v u
 on_keeps v u h = record { learns = h.learns; clock = h.clock; frame = moved_to v u _ h.frame refl }
 
 -- a pass that read of the registry keeps to itself
-pub enters_reads : (v u : View) → OnlyReads v u → OnlyEnters v u
+pub enters_reads : (v u : View) → OnlyLearns v u → OnlyEnters v u
 enters_reads v u h = record {
   learns = h.extends.learns;
   clock = h.extends.clock;

@@ -2,12 +2,12 @@
 use Rattle.std.proofs.Common.{◌≡◌, ℕ, ◌+◌, ◌*◌, ◌/◌, List, length, map, true, refl, sym, ap, ◌∙◌, subst}
 use Rattle.fish_layout.proofs.Links.{unlink-unlinked}
 use Rattle.fish_layout.proofs.Outlines.{body_length}
-use Rattle.fish_layout.proofs.Sizes.{length-words_behind}
+use Rattle.fish_layout.proofs.Sizes.{length-words_after_head}
 use Rattle.fish_layout.proofs.Spelled.{spelled_body}
 use Rattle.fish_layout.specs.Body.{IsBody, body_lines}
 use Rattle.fish_layout.specs.Cleared.{AreUnlinked, Spells, body_of, unlinked}
 use Rattle.fish_layout.specs.declared.parts.BodyParts.{BodyParts}
-use Rattle.fish_psf.specs.Keys.{keys_of}
+use Rattle.fish_psf.specs.Keys.{keys_for}
 use Rattle.fish_psf.specs.Records.{fields_of_payload, is_record}
 use Rattle.fish_psf.specs.declared.key.ActiveDef.{ActiveDef}
 use Rattle.fish_rule.specs.Keys.{HasKeys, IsKeyed, text_of}
@@ -21,7 +21,7 @@ numbered n p = record p { number = n }
 -- they take as many lines
 pub numbered_lines : (n : ℕ) (p : BodyParts) → body_lines (numbered n p) ≡ body_lines p
 numbered_lines n p =
-    ap (λ size. (1 + size + 3) / 4) (length-words_behind (numbered n p) ∙ sym (length-words_behind p))
+    ap (λ size. (1 + size + 3) / 4) (length-words_after_head (numbered n p) ∙ sym (length-words_after_head p))
 
 -- parts whose entries have no previous nodes stay when these are taken away
 same_parts : (p : BodyParts) → AreUnlinked p.keys → unlinked p ≡ p
@@ -52,8 +52,8 @@ has_keys {defs} {origin} {payload} {p} {active} n h are =
       defs = defs;
       are = subst (λ v. active v (map text_of defs)) (sym h.version_is) are;
       written = h.written;
-      keys = h.keys ∙ ap (λ form. keys_of (fields_of_payload form payload) defs) (sym h.form_is)
-          ∙ ap (λ b. keys_of (fields_of_payload p.form b) defs) (sym h.payload_is);
+      keys = h.keys ∙ ap (λ form. keys_for (fields_of_payload form payload) defs) (sym h.form_is)
+          ∙ ap (λ b. keys_for (fields_of_payload p.form b) defs) (sym h.payload_is);
     }
 
 -- the words of a payload with a number are a record of its version, with the keys of that version

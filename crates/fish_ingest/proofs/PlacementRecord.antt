@@ -5,7 +5,7 @@ use Rattle.fish_claim.proofs.Known.{knows_later}
 use Rattle.fish_ingest.proofs.Passing.{moved_to, on_both, on_lane}
 use Rattle.fish_ingest.proofs.PlacementBody.{body_fills}
 use Rattle.fish_ingest.specs.within.Placement.{CanPlace, HasPlace, IsInPlace, IsShutBy}
-use Rattle.fish_ingest.specs.Placement.{CanWrite, HoldsParts, HasWritten, claimed_parts}
+use Rattle.fish_ingest.specs.Placement.{CanWrite, HoldsParts, HasWrittenRegion, claimed_parts}
 use Rattle.fish_ingest.specs.declared.placement.Pending.{Pending}
 use Rattle.fish_ingest.specs.declared.preparation.Prepared.{Prepared}
 use Rattle.fish_layout.proofs.Sizes.{few_lines, some_lines}
@@ -61,7 +61,7 @@ module _ (v : View) (prepared : Prepared) (can : CanPlace v prepared) where
     }
 
     -- and are
-    pub has_placed : (t : View) (pending : Pending) → pending.number ≡ number → HasWritten u placed_flight t
+    pub has_placed : (t : View) (pending : Pending) → pending.number ≡ number → HasWrittenRegion u placed_flight t
         → HoldsParts (claimed_parts u placed_flight prepared can_write) t → IsInPlace v prepared can pending t
     unfolding can_write
     has_placed t pending is written words =

@@ -8,7 +8,7 @@ use Rattle.fish_chain.specs.Links.{CanLink, IsLinked}
 use Rattle.fish_claim.proofs.Filled.{body_keys}
 use Rattle.fish_claim.specs.Fills.{CanFill, IsFilled}
 use Rattle.fish_ingest.proofs.PlacementBody.{body_fills, keyed_of_body, numbered, numbered_fills}
-use Rattle.fish_ingest.specs.Placement.{CanWrite, HoldsParts, HasWritten, OnlyWrites}
+use Rattle.fish_ingest.specs.Placement.{CanWrite, HoldsParts, HasWrittenRegion, OnlyWrites}
 use Rattle.fish_ingest.specs.declared.preparation.Prepared.{Prepared}
 use Rattle.fish_layout.specs.Body.{IsBody, body_lines}
 use Rattle.fish_layout.specs.Cleared.{body_of}
@@ -126,7 +126,7 @@ module _ (v : View) (f : Flight) (p : BodyParts) (c : ℕ) (u : View) (s : IsWri
       }
 
   -- with all entries linked the record is written
-  pub writing_done : c ≡ length p.keys → HasWritten v f u
+  pub writing_done : c ≡ length p.keys → HasWrittenRegion v f u
   writing_done all = record {
     flight = s.flight;
     ready = partly_publish p c u partly all;

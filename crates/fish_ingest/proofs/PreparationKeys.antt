@@ -11,7 +11,7 @@ use Rattle.std.specs.List.Sorted.{IsStrictlyIncreasing}
 use Rattle.std.specs.List.{list_any}
 use Rattle.std.specs.Prelude.{IfSome, None, Option, Some, if◌then◌else◌, nat_le, option_map, option_to_list}
 use Rattle.fish_ingest.specs.Preparation.{AreDefs, id_of}
-use Rattle.fish_ingest.specs.within.Preparation.{AreEntriesFor, AreMore, IsKey, IsShort}
+use Rattle.fish_ingest.specs.within.Preparation.{AreEntriesFor, AreMore, IsKey, IsShortValue}
 use Rattle.fish_lang.specs.Definition.{Definition, buckets, definition_of, eaches, flags, takes}
 use Rattle.fish_layout.specs.Body.{AreProperKeys, IsApart}
 use Rattle.fish_layout.specs.Cleared.{AreUnlinked}
@@ -19,8 +19,8 @@ use Rattle.fish_layout.specs.declared.parts.KeyPart.{KeyPart}
 use Rattle.fish_psf.proofs.KeyLemmas.{keys_more}
 use Rattle.fish_psf.proofs.Distinct.{Differ}
 use Rattle.fish_psf.proofs.Several.{first_all, values_few}
-use Rattle.fish_psf.specs.Eval.{Fields, bucket, bucket_of, holds, holds_when, value_of, values}
-use Rattle.fish_psf.specs.Keys.{keys_of, keys_under, value_under}
+use Rattle.fish_psf.specs.Eval.{Fields, bucket, bucketed, holds, holds_when, value_of, values}
+use Rattle.fish_psf.specs.Keys.{keys_for, keys_under, value_under}
 use Rattle.fish_psf.specs.declared.key.ActiveDef.{ActiveDef}
 use Rattle.fish_psf.specs.declared.key.KeyValue.{KeyValue}
 use Rattle.fish_rule.specs.Keys.{property}
@@ -38,7 +38,7 @@ use Rattle.fish_value.specs.declared.value_text.TheConstants.{MAX_VALUE}
 -- no value, or a short one
 abbrev IsShortIfThere : Option Value → Type 0
 IsShortIfThere None = Unit {0}
-IsShortIfThere (Some v) = IsShort v
+IsShortIfThere (Some v) = IsShortValue v
 
 -- a text is a value where it is short
 text_short : (s : List ℕ) → IsShortIfThere (text_value s)
@@ -63,7 +63,7 @@ number_short None = tt
 number_short (Some n) = tt
 
 -- so a field's bucket is short
-bucket_short : (width : ℤ) (f : Field) → IsShortIfThere (bucket_of width f)
+bucket_short : (width : ℤ) (f : Field) → IsShortIfThere (bucketed width f)
 bucket_short width (field.Int n) = number_short (bucket width n)
 bucket_short width (field.Bool b) = tt
 bucket_short width (field.Text s) = tt
@@ -74,30 +74,30 @@ bucket_short width field.Other = tt
 -- ---- several values
 
 -- no value, or short ones
-list_short : (o : Option Value) → IsShortIfThere o → All IsShort (option_to_list o)
-list_short None h = All-nil IsShort
-list_short (Some v) h = All-cons IsShort v [] h (All-nil IsShort)
+list_short : (o : Option Value) → IsShortIfThere o → All IsShortValue (option_to_list o)
+list_short None h = All-nil IsShortValue
+list_short (Some v) h = All-cons IsShortValue v [] h (All-nil IsShortValue)
 
 -- values under a condition are short
-when_short : (b : Bool) (vs : List Value) → All IsShort vs → All IsShort (if b then vs else [])
+when_short : (b : Bool) (vs : List Value) → All IsShortValue vs → All IsShortValue (if b then vs else [])
 when_short true vs h = h
-when_short false vs h = All-nil IsShort
+when_short false vs h = All-nil IsShortValue
 
 -- the value of a field is short
-short_of : (f : Field) (v : Value) → value_of f ≡ Some v → IsShort v
+short_of : (f : Field) (v : Value) → value_of f ≡ Some v → IsShortValue v
 short_of f v is = subst IsShortIfThere is (field_short f)
 
 -- the values that a definition gives are short
-pub values_short : (d : Definition) (fields : Fields) → All IsShort (values d fields)
+pub values_short : (d : Definition) (fields : Fields) → All IsShortValue (values d fields)
 unfolding values
 values_short (takes path when) fields =
     when_short (holds_when when fields) _ (list_short _ (field_short (fields.at path)))
 values_short (eaches path when) fields =
-    when_short (holds_when when fields) _ (first_all IsShort short_of (fields.items path))
+    when_short (holds_when when fields) _ (first_all IsShortValue short_of (fields.items path))
 values_short (buckets path width when) fields =
     when_short (holds_when when fields) _ (list_short _ (bucket_short width (fields.at path)))
 values_short (flags when) fields =
-    when_short (holds when fields) _ (All-cons IsShort (kind.Bool true) [] tt (All-nil IsShort))
+    when_short (holds when fields) _ (All-cons IsShortValue (kind.Bool true) [] tt (All-nil IsShortValue))
 
 -- ---- ids
 
@@ -150,13 +150,13 @@ above_lower m n (z ∷ zs) less h = (omega (arith, h.0), above_lower m n zs less
 
 -- those of definitions after an id
 above_keys : (fields : Fields) (m : ℕ) (defs : List ActiveDef) → IsStrictlyIncreasing (m ∷ map id_of defs)
-    → AreAbove m (keys_of fields defs)
-unfolding keys_of
+    → AreAbove m (keys_for fields defs)
+unfolding keys_for
 above_keys fields m [] up = tt
 above_keys fields m (d ∷ ds) up =
     let first : m < d.id = up 0 (omega arith) in
-    above_append m (keys_under fields d) (keys_of fields ds) (above_under m d.id (values (definition_of d.def) fields) first)
-    (above_lower m d.id (keys_of fields ds) first
+    above_append m (keys_under fields d) (keys_for fields ds) (above_under m d.id (values (definition_of d.def) fields) first)
+    (above_lower m d.id (keys_for fields ds) first
     (above_keys fields d.id ds (ascends_without m (map id_of (d ∷ ds)) up)))
 
 -- an entry is apart from those of other values of its definition, and from those of others
@@ -205,14 +205,14 @@ values_behind low d (v ∷ vs) (k ∷ ks) values less few differ above rest e al
 -- key entries of definitions from an id on are proper from it on
 behind : (fields : Fields) (m : ℕ) (defs : List ActiveDef) (keys : List KeyPart)
     → IsStrictlyIncreasing (m ∷ map id_of defs)
-    → All IsBelow defs → map property keys ≡ keys_of fields defs → All IsKey keys → AreProperKeys m keys
-unfolding keys_of
+    → All IsBelow defs → map property keys ≡ keys_for fields defs → All IsKey keys → AreProperKeys m keys
+unfolding keys_for
 behind fields m [] [] up low e all = tt
 behind fields m [] (k ∷ ks) up low e all = absurd cc
 behind fields m (d ∷ ds) keys up low e all =
     let first : m < d.id = up 0 (omega arith) in
     let up_behind = ascends_without m (map id_of (d ∷ ds)) up in
-    values_behind m d (values (definition_of d.def) fields) keys (keys_of fields ds) (omega arith)
+    values_behind m d (values (definition_of d.def) fields) keys (keys_for fields ds) (omega arith)
     (All-head IsBelow d ds low) (values_few (definition_of d.def) fields).differ (above_keys fields d.id ds up_behind)
     (λ rest. behind fields d.id ds rest up_behind (All-tail IsBelow d ds low))
     e all
@@ -220,23 +220,23 @@ behind fields m (d ∷ ds) keys up low e all =
 -- the key entries of proper definitions are proper
 pub keys_proper : (fields : Fields) (defs : List ActiveDef) (keys : List KeyPart) → AreDefs defs
     → AreEntriesFor fields defs keys → AreProperKeys 0 keys
-unfolding keys_of
+unfolding keys_for
 keys_proper fields [] [] are h = tt
 keys_proper fields [] (k ∷ ks) are h = (let none = h.values in absurd cc)
 keys_proper fields (d ∷ ds) keys are h =
-    values_behind 0 d (values (definition_of d.def) fields) keys (keys_of fields ds) (omega arith)
+    values_behind 0 d (values (definition_of d.def) fields) keys (keys_for fields ds) (omega arith)
     (All-head IsBelow d ds are.below) (values_few (definition_of d.def) fields).differ (above_keys fields d.id ds are.ascending)
     (λ rest. behind fields d.id ds rest are.ascending (All-tail IsBelow d ds are.below)) h.values h.entries
 
 -- there are at most eight for each definition
-few_keys : (fields : Fields) (defs : List ActiveDef) → length (keys_of fields defs) ≤ 8 * length defs
-unfolding keys_of
+few_keys : (fields : Fields) (defs : List ActiveDef) → length (keys_for fields defs) ≤ 8 * length defs
+unfolding keys_for
 few_keys fields [] = omega arith
 few_keys fields (d ∷ ds) =
     let own : List KeyValue = keys_under fields d in
     omega (
       arith,
-      length-append own (keys_of fields ds),
+      length-append own (keys_for fields ds),
       length-map (values (definition_of d.def) fields) (value_under d.id),
       (values_few (definition_of d.def) fields).few,
       few_keys fields ds,

@@ -9,7 +9,7 @@ use Rattle.fish_value.specs.Limits.{longest_payload}
 use Rattle.fish_ingest.proofs.PreparationKeys.{keys_few, keys_proper, keys_unlinked}
 use Rattle.fish_ingest.specs.Preparation.{AreDefs}
 use Rattle.fish_ingest.specs.within.Preparation.{AreEntriesFor}
-use Rattle.fish_ingest.specs.Preparation.{ArePartsFor, IsBodyFor, IsOrigin, IsRead}
+use Rattle.fish_ingest.specs.Preparation.{ArePartsFor, IsBodyFor, IsOrigin, IsPayloadRead}
 use Rattle.fish_ingest.specs.declared.preparation.Origin.{Origin}
 use Rattle.fish_json.proofs.Records.{record_is_text}
 use Rattle.fish_json.specs.Reading.{record_of}
@@ -17,7 +17,7 @@ use Rattle.fish_layout.specs.Body.{IsProper, body_words, parts_of}
 use Rattle.fish_layout.specs.declared.parts.BodyHead.{BodyHead}
 use Rattle.fish_layout.specs.declared.parts.KeyPart.{KeyPart}
 use Rattle.fish_psf.specs.Eval.{Fields}
-use Rattle.fish_psf.specs.Keys.{keys_of}
+use Rattle.fish_psf.specs.Keys.{keys_for}
 use Rattle.fish_psf.specs.Records.{is_record}
 use Rattle.fish_psf.specs.declared.key.ActiveDef.{ActiveDef}
 use Rattle.fish_value.specs.declared.field.Form.TheVariants.{Csv, Json}
@@ -73,7 +73,7 @@ head_of origin = record { form = origin.form; lane = origin.lane; version = orig
 
 -- the key entries of a record that was read, and its payload, are proper parts
 pub parts_proper : {defs : List ActiveDef} {origin : Origin} {payload : List ℕ} {found : Fields} {keys : List KeyPart}
-    → AreDefs defs → IsOrigin origin → IsRead origin.form payload found → AreEntriesFor found defs keys
+    → AreDefs defs → IsOrigin origin → IsPayloadRead origin.form payload found → AreEntriesFor found defs keys
     → IsProper (parts_of (head_of origin) keys payload)
 parts_proper {defs} {origin} {payload} {found} {keys} are from read made =
     record {
@@ -90,7 +90,7 @@ parts_proper {defs} {origin} {payload} {found} {keys} are from read made =
 -- and their words are those of the payload
 unfoldable pub body_for : {defs : List ActiveDef} {origin : Origin} {payload : List ℕ} {found : Fields}
     {keys : List KeyPart} {words : List ℕ}
-    → AreDefs defs → IsOrigin origin → IsRead origin.form payload found → AreEntriesFor found defs keys
+    → AreDefs defs → IsOrigin origin → IsPayloadRead origin.form payload found → AreEntriesFor found defs keys
     → words ≡ body_words (parts_of (head_of origin) keys payload) → IsBodyFor defs origin payload words
 body_for {defs} {origin} {payload} {found} {keys} {words} are from read made is =
     let parts : ArePartsFor defs origin payload (parts_of (head_of origin) keys payload) =
@@ -102,7 +102,7 @@ body_for {defs} {origin} {payload} {found} {keys} {words} are from read made is 
       payload_is = refl;
       reads = read.accepted;
       unlinked = keys_unlinked keys made.entries;
-      keys = made.values ∙ ap (λ fields. keys_of fields defs) read.fields;
+      keys = made.values ∙ ap (λ fields. keys_for fields defs) read.fields;
       written = are.written;
     } in
     (parts_of (head_of origin) keys payload, parts, record { proper = parts_proper are from read made; is = is })

@@ -4,7 +4,7 @@ use Rattle.fish_catalog.specs.declared.entry.Entry.TheVariants as entry
 use Rattle.fish_epoch.specs.Definitions.{IsDefsOf}
 use Rattle.fish_epoch.specs.declared.definitions.Defs.{Defs}
 use Rattle.fish_ingest.specs.Passing.{OnlyIngests, FoundSince}
-use Rattle.fish_ingest.specs.Placement.{HoldsParts, number_of}
+use Rattle.fish_ingest.specs.Placement.{HoldsParts, pending_number}
 use Rattle.fish_ingest.specs.Preparation.{IsRecordFor}
 use Rattle.fish_ingest.specs.declared.placement.Pending.{Pending}
 use Rattle.fish_layout.specs.declared.parts.BodyParts.{BodyParts}
@@ -40,7 +40,7 @@ pub record IsPending (v : View) (pending : Pending) : Type 0 where
   pub flight : Flight
   pub ready : CanPublishRegion v flight
   pub stored : flight_kind v flight ≡ Stored
-  pub number_is : flight.number ≡ number_of pending
+  pub number_is : flight.number ≡ pending_number pending
 
 -- ---- afterwards
 
@@ -52,9 +52,9 @@ pub record HasStarted (v : View) (form : Form) (payload : List ℕ) (pending : P
   pub waits : IsPending u pending
   pub parts : BodyParts
   pub are : IsRecordFor u form payload parts
-  pub words : HoldsParts (record parts { number = number_of pending }) u
-  pub fresh : v.learned.count ≤ number_of pending
-  pub counted : number_of pending < u.learned.count
+  pub words : HoldsParts (record parts { number = pending_number pending }) u
+  pub fresh : v.learned.count ≤ pending_number pending
+  pub counted : pending_number pending < u.learned.count
   pub shut : u.shut ≡ v.shut
   pub own : u.own ≡ v.own
   pub voids : FoundSince (λ kind. kind ≡ Void) v u

@@ -5,7 +5,7 @@ use Rattle.fish_ingest.specs.Ingestion.{HasIngested}
 use Rattle.fish_ingest.specs.Passing.{HasMark}
 use Rattle.fish_rule.specs.ClosedLog.{IsClosed}
 use Rattle.fish_rule.specs.Logs.{Learns}
-use Rattle.fish_rule.specs.Table.{Stands}
+use Rattle.fish_rule.specs.Table.{IsOfMoment}
 use Rattle.fish_rule.specs.declared.close.Remains.{Remains}
 use Rattle.fish_rule.specs.declared.view.Shut.{Shut}
 use Rattle.fish_rule.specs.declared.view.View.{View}
@@ -29,7 +29,7 @@ pub record AreShut (v u x : View) (s t : Shut) : Type 0 where
   pub second : HasMark u t
   pub with_first : Learns v x
   pub with_second : Learns u x
-  pub stands : Stands x
+  pub stands : IsOfMoment x
 
 -- two refusals with one line have as many lines
 abbrev pub FullAgrees : Type 0

@@ -63,7 +63,7 @@ pub record OnlyWrites (v u : View) : Type 0 where
 
 -- the record of the claim f is written with all its entries linked, and else the pass is as it was, but for what it
 -- learned since
-pub record HasWritten (v : View) (f : Flight) (u : View) : Type 0 where
+pub record HasWrittenRegion (v : View) (f : Flight) (u : View) : Type 0 where
   pub flight : Flight
   pub ready : CanPublishRegion u flight
   pub stored : flight_kind u flight ≡ Stored
@@ -73,5 +73,5 @@ pub record HasWritten (v : View) (f : Flight) (u : View) : Type 0 where
 -- ---- the place
 
 -- the number of a record that isn't published yet
-abbrev pub number_of : Pending → ℕ
-number_of pending = pending.number
+abbrev pub pending_number : Pending → ℕ
+pending_number pending = pending.number

@@ -6,7 +6,7 @@ use Rattle.fish_layout.specs.Body.{IsBody}
 use Rattle.fish_layout.specs.Cleared.{AreUnlinked}
 use Rattle.fish_layout.specs.declared.parts.BodyParts.{BodyParts}
 use Rattle.fish_psf.specs.Eval.{Fields}
-use Rattle.fish_psf.specs.Keys.{keys_of}
+use Rattle.fish_psf.specs.Keys.{keys_for}
 use Rattle.fish_psf.specs.Records.{fields_of_payload, is_record}
 use Rattle.fish_psf.specs.declared.key.ActiveDef.{ActiveDef}
 use Rattle.fish_rule.specs.Keys.{IsWritten, property, text_of}
@@ -37,7 +37,7 @@ pub record IsOrigin (origin : Origin) : Type 0 where
   pub version : origin.version ≤ 512
 
 -- these fields were read of a payload, which is a record of its form
-pub record IsRead (form : Form) (payload : List ℕ) (found : Fields) : Type 0 where
+pub record IsPayloadRead (form : Form) (payload : List ℕ) (found : Fields) : Type 0 where
   pub fields : found ≡ fields_of_payload form payload
   pub accepted : is_record form payload ≡ true
 
@@ -53,7 +53,7 @@ pub record ArePartsFor (defs : List ActiveDef) (origin : Origin) (payload : List
   pub payload_is : p.payload ≡ payload
   pub reads : IsTrue (is_record origin.form payload)
   pub unlinked : AreUnlinked p.keys
-  pub keys : map property p.keys ≡ keys_of (fields_of_payload origin.form payload) defs
+  pub keys : map property p.keys ≡ keys_for (fields_of_payload origin.form payload) defs
   pub written : All IsWritten defs
 
 -- the words are those of the record that a payload is

@@ -23,17 +23,17 @@ abbrev pub full_of : Shut → IngestRefusal
 full_of shut = refusal.Full shut.line shut.lines shut.end
 
 -- the refusal of a parse, as one of a record
-abbrev pub refusal_of : PsfRefusal → IngestRefusal
-refusal_of parsing.TooLong = refusal.TooLong
-refusal_of parsing.NotRecord = refusal.NotRecord
-refusal_of parsing.OutOfMemory = refusal.OutOfMemory
+abbrev pub ingest_refusal : PsfRefusal → IngestRefusal
+ingest_refusal parsing.TooLong = refusal.TooLong
+ingest_refusal parsing.NotRecord = refusal.NotRecord
+ingest_refusal parsing.OutOfMemory = refusal.OutOfMemory
 
 -- why a refusal comes
-abbrev pub IsCause : Form → List ℕ → IngestRefusal → Type 0
-IsCause form payload refusal.TooLong = longest_payload < length payload
-IsCause form payload refusal.NotRecord = (length payload ≤ longest_payload) × (is_record form payload ≡ false)
-IsCause form payload refusal.OutOfMemory = ⊤
-IsCause form payload (refusal.Full line lines end) = is_record form payload ≡ true
+abbrev pub IsIngestCause : Form → List ℕ → IngestRefusal → Type 0
+IsIngestCause form payload refusal.TooLong = longest_payload < length payload
+IsIngestCause form payload refusal.NotRecord = (length payload ≤ longest_payload) × (is_record form payload ≡ false)
+IsIngestCause form payload refusal.OutOfMemory = ⊤
+IsIngestCause form payload (refusal.Full line lines end) = is_record form payload ≡ true
 
 -- the pass isn't entered and has nothing in flight, and no number is its own that wasn't before
 pub record HasLeft (v u : View) : Type 0 where

@@ -5,10 +5,10 @@ ghost use Rattle.fish_epoch.specs.Definitions.{IsDefsOf, IsKnownOf};
 ghost use Rattle.fish_ingest.specs.Ingestion.{CanIngest, CanStart, HasIngested, HasStarted, IsPending};
 ghost use Rattle.fish_ingest.specs.within.Ingestion.{CanPlaceFor};
 ghost use Rattle.fish_ingest.specs.Laws.{FullAgrees, FullFollows, IngestedAscend, IngestedIsClosed};
-ghost use Rattle.fish_ingest.specs.Placement.{number_of};
-ghost use Rattle.fish_ingest.specs.Preparation.{IsRead};
-ghost use Rattle.fish_ingest.specs.Refusal.{HasNotClaimed, HasRefused, IsCause};
-ghost use Rattle.fish_ingest.specs.within.Refusal.{IsEarly, IsLate};
+ghost use Rattle.fish_ingest.specs.Placement.{pending_number};
+ghost use Rattle.fish_ingest.specs.Preparation.{IsPayloadRead};
+ghost use Rattle.fish_ingest.specs.Refusal.{HasNotClaimed, HasRefused, IsIngestCause};
+ghost use Rattle.fish_ingest.specs.within.Refusal.{IsEarly, IsLateRefusal};
 ghost use Rattle.fish_ingest.specs.declared.refusal.IngestRefusal.TheVariants as refusal;
 ghost use Rattle.fish_psf.specs.Blanks.{IsBlankOf};
 ghost use Rattle.fish_read.specs.Rows.{fields_in_row};
@@ -46,7 +46,7 @@ pub fn ingest(
     ensures ingested { IfOk result (λ number. HasIngested (view pass.old) form payload.now number (view pass.new)) }
 
     ensures too_long { IsErrOf result refusal.TooLong ↔ (longest_payload < length payload.now) }
-    ensures cause { IfErr result (IsCause form payload.now) }
+    ensures cause { IfErr result (IsIngestCause form payload.now) }
     ensures refused { IfErr result (λ e. HasRefused (view pass.old) form payload.now e (view pass.new)) }
 {
     let pending = start(alloc, log, pass, defs, form, payload)?;
@@ -70,7 +70,7 @@ pub fn start(
     ensures started { IfOk result (λ pending. HasStarted (view pass.old) form payload.now pending (view pass.new)) }
 
     ensures too_long { IsErrOf result refusal.TooLong ↔ (longest_payload < length payload.now) }
-    ensures cause { IfErr result (IsCause form payload.now) }
+    ensures cause { IfErr result (IsIngestCause form payload.now) }
     ensures refused { IfErr result (λ e. HasRefused (view pass.old) form payload.now e (view pass.new)) }
 {
     let found = parse_once(alloc, &mut defs.reader, form, payload)?;
@@ -92,7 +92,7 @@ pub fn finish(log: &Log, pass: &mut Pass, pending: Pending) -> u32
     ensures pass { IsPassOf log.now pass.new }
     ensures view { (f : Flight) → (view pass.old).flight ≡ Some f
         → view pass.new ≡ after_retire (after_publish_region (view pass.old) f) }
-    ensures number { result ≡ number_of pending }
+    ensures number { result ≡ pending_number pending }
 {
     let Pending { number: _ } = pending;
     let number = publish(log, pass);
@@ -112,13 +112,13 @@ fn start_parsed(
     requires out { CanStart (view pass.old) }
     requires unshut { (view pass.old).shut ≡ None }
     requires defs { IsKnownOf (view pass.old) defs.old }
-    requires read { IsRead parsed.form parsed.payload.now (fields_in_row parsed.found.now) }
+    requires read { IsPayloadRead parsed.form parsed.payload.now (fields_in_row parsed.found.now) }
     ensures pass { IsPassOf log.now pass.new }
     ensures defs { IsKnownOf (view pass.new) defs.new }
     ensures started { IfOk result (λ pending.
         HasStarted (view pass.old) parsed.entry.form parsed.entry.payload.now pending (view pass.new)) }
 
-    ensures late { IfErr result IsLate }
+    ensures late { IfErr result IsLateRefusal }
     ensures refused { IfErr result (λ e.
         HasRefused (view pass.old) parsed.entry.form parsed.entry.payload.now e (view pass.new)) }
 {
@@ -144,7 +144,7 @@ fn enter_prepared(
     requires out { CanStart (view pass.old) }
     requires unshut { (view pass.old).shut ≡ None }
     requires defs { IsKnownOf (view pass.old) defs.old }
-    requires read { IsRead parsed.form parsed.payload.now (fields_in_row parsed.found.now) }
+    requires read { IsPayloadRead parsed.form parsed.payload.now (fields_in_row parsed.found.now) }
     ensures pass { IsPassOf log.now pass.new }
     ensures defs { IsKnownOf (view pass.new) defs.new }
     ensures ready { IfOk result (λ prepared.
@@ -169,9 +169,9 @@ fn parse_once<'a>(
     form: Form,
     payload: &'a [u8],
 ) -> Result<RecordRow<'a>, IngestRefusal>
-    ensures read { IfOk result (λ found. IsRead form payload.now (fields_in_row found)) }
+    ensures read { IfOk result (λ found. IsPayloadRead form payload.now (fields_in_row found)) }
     ensures too_long { IsErrOf result refusal.TooLong ↔ (longest_payload < length payload.now) }
-    ensures cause { IfErr result (λ e. IsCause form payload.now e × IsEarly e) }
+    ensures cause { IfErr result (λ e. IsIngestCause form payload.now e × IsEarly e) }
 {
     parse_counted::<Brand>(alloc, reader, Blank::new(1), form, payload)
 }
@@ -185,9 +185,9 @@ fn parse_counted<'a, L: Ledger>(
     payload: &'a [u8],
 ) -> Result<RecordRow<'a>, IngestRefusal>
     requires blank { IsBlankOf L.name L.parts blank }
-    ensures read { IfOk result (λ found. IsRead form payload.now (fields_in_row found)) }
+    ensures read { IfOk result (λ found. IsPayloadRead form payload.now (fields_in_row found)) }
     ensures too_long { IsErrOf result refusal.TooLong ↔ (longest_payload < length payload.now) }
-    ensures cause { IfErr result (λ e. IsCause form payload.now e × IsEarly e) }
+    ensures cause { IfErr result (λ e. IsIngestCause form payload.now e × IsEarly e) }
 {
     let mut parses = Steps::<L>::new(blank);
     Ok(reader.read(alloc, form, payload, &mut parses)?)

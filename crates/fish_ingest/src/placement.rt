@@ -1,7 +1,7 @@
 //! A place in the log for a record that is prepared, its words there, and its entries in their chains.
 
 ghost use Rattle.std.specs.Prelude.{◌≡◌, ◌<◌, ◌≤◌, IfErr, IfOk, Some};
-ghost use Rattle.fish_ingest.specs.Placement.{CanWrite, HoldsParts, HasWritten};
+ghost use Rattle.fish_ingest.specs.Placement.{CanWrite, HoldsParts, HasWrittenRegion};
 ghost use Rattle.fish_ingest.specs.within.Placement.{CanPlace, HasPlace, IsInPlace, IsShutBy};
 ghost use Rattle.fish_ingest.specs.Placement.{claimed_parts};
 ghost use Rattle.fish_rule.specs.Passes.{IsPassOf, view};
@@ -23,11 +23,11 @@ pub struct Pending {
 
 impl Pending {
     ghost use Rattle.std.specs.Prelude.{◌≡◌};
-    ghost use Rattle.fish_ingest.specs.Placement.{number_of};
+    ghost use Rattle.fish_ingest.specs.Placement.{pending_number};
 
     /// The number that the record has.
     pub fn number(&self) -> u32
-        ensures { result ≡ number_of self.now }
+        ensures { result ≡ pending_number self.now }
     {
         self.number
     }
@@ -77,7 +77,8 @@ pub fn write_record(log: &Log, pass: &mut Pass, mut prepared: Prepared)
     requires pass { IsPassOf log.now pass.old }
     requires can { (f : Flight) × CanWrite (view pass.old) f prepared }
     ensures pass { IsPassOf log.now pass.new }
-    ensures written { (f : Flight) → (view pass.old).flight ≡ Some f → HasWritten (view pass.old) f (view pass.new) }
+    ensures written { (f : Flight) → (view pass.old).flight ≡ Some f
+        → HasWrittenRegion (view pass.old) f (view pass.new) }
     ensures stored { (f : Flight) → (can : CanWrite (view pass.old) f prepared)
         → HoldsParts (claimed_parts (view pass.old) f prepared can) (view pass.new) }
 {

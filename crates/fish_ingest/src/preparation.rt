@@ -2,10 +2,10 @@
 
 ghost use Rattle.std.specs.Prelude.{◌≡◌, ◌≤◌, ◌/◌, [], ◌∷◌, All, IfOk, OnOk, length};
 ghost use Rattle.fish_epoch.specs.Definitions.{IsKnownOf};
-ghost use Rattle.fish_epoch.specs.Rows.{OnlyReads};
-ghost use Rattle.fish_ingest.specs.Preparation.{AreDefs, IsOrigin, IsPreparedFor, IsRead};
+ghost use Rattle.fish_epoch.specs.Rows.{OnlyLearns};
+ghost use Rattle.fish_ingest.specs.Preparation.{AreDefs, IsOrigin, IsPreparedFor, IsPayloadRead};
 ghost use Rattle.fish_ingest.specs.within.Preparation.{AreEntriesFor, AreMore, HasPrepared};
-ghost use Rattle.fish_ingest.specs.within.Preparation.{IsShort};
+ghost use Rattle.fish_ingest.specs.within.Preparation.{IsShortValue};
 ghost use Rattle.fish_layout.specs.Body.{IsProperValue};
 ghost use Rattle.fish_psf.specs.Given.{given_values};
 ghost use Rattle.fish_read.specs.Rows.{fields_in_row};
@@ -76,10 +76,10 @@ pub(crate) fn prepare_at(
     requires pass { IsPassOf log.now pass.old }
     requires version { ((view pass.old).learned.version ≡ version) × (version ≤ 512) }
     requires defs { IsKnownOf (view pass.old) defs.old }
-    requires read { IsRead parsed.form parsed.payload.now (fields_in_row parsed.found.now) }
+    requires read { IsPayloadRead parsed.form parsed.payload.now (fields_in_row parsed.found.now) }
     ensures pass { IsPassOf log.now pass.new }
     ensures defs { IsKnownOf (view pass.new) defs.new }
-    ensures reads { OnlyReads (view pass.old) (view pass.new) }
+    ensures reads { OnlyLearns (view pass.old) (view pass.new) }
     ensures prepared { IfOk result (HasPrepared (view pass.new) version parsed.entry.form parsed.entry.payload.now) }
 {
     defs.refresh(log, pass, version)?;
@@ -102,7 +102,7 @@ pub fn prepare<R: Parsed>(
 ) -> Result<Prepared, AllocError>
     requires defs { AreDefs defs.now }
     requires origin { IsOrigin origin }
-    requires read { IsRead origin.form payload.now (R.fields found.now) }
+    requires read { IsPayloadRead origin.form payload.now (R.fields found.now) }
     ensures { IfOk result (IsPreparedFor defs.now origin payload.now) }
 {
     let keys = entries_of(alloc, defs, found)?;
@@ -117,7 +117,7 @@ pub fn prepare<R: Parsed>(
 }
 
 /// The key entries of a record, with no previous nodes.
-#[tactic(auto, unfolding(fish_psf::specs::Keys::keys_of))]
+#[tactic(auto, unfolding(fish_psf::specs::Keys::keys_for))]
 fn entries_of<R: Parsed>(
     alloc: Global,
     defs: &[ActiveDef],
@@ -136,7 +136,7 @@ fn entries_of<R: Parsed>(
 #[inline(always)] // or what is given is moved once more for each definition
 #[tactic(auto, using(crate::proofs::PreparationKeys::none_more))]
 fn push_given(id: u16, given: Given, keys: &mut KeyParts) -> Result<(), AllocError>
-    requires { All IsShort (given_values given) }
+    requires { All IsShortValue (given_values given) }
     ensures { OnOk result (AreMore id (given_values given) keys.old keys.new) }
 {
     match given {
@@ -148,7 +148,7 @@ fn push_given(id: u16, given: Given, keys: &mut KeyParts) -> Result<(), AllocErr
 
 /// Puts a key entry for each of several values after the others.
 fn push_values(id: u16, values: Values, keys: &mut KeyParts) -> Result<(), AllocError>
-    requires { All IsShort values }
+    requires { All IsShortValue values }
     ensures { OnOk result (AreMore id values keys.old keys.new) }
 {
     for value in values.into_vec() {
@@ -160,7 +160,7 @@ fn push_values(id: u16, values: Values, keys: &mut KeyParts) -> Result<(), Alloc
 /// Puts a key entry after the others.
 #[inline(always)]
 fn push_entry(id: u16, value: Value, keys: &mut KeyParts) -> Result<(), AllocError>
-    requires { IsShort value }
+    requires { IsShortValue value }
     ensures { OnOk result (AreMore id (value ∷ []) keys.old keys.new) }
 {
     read_value(&value);
@@ -169,7 +169,7 @@ fn push_entry(id: u16, value: Value, keys: &mut KeyParts) -> Result<(), AllocErr
 
 /// Reads a value, which shows that it is within its type: a number has 64 bits, a text is UTF-8.
 fn read_value(value: &Value)
-    requires { IsShort value.now }
+    requires { IsShortValue value.now }
     ensures { IsProperValue value.now }
 {
     match value {

@@ -54,9 +54,9 @@ impl From<AllocError> for IngestRefusal {
 
 impl From<PsfRefusal> for IngestRefusal {
     ghost use Rattle.std.specs.Prelude.{◌≡◌};
-    ghost use Rattle.fish_ingest.specs.Refusal.{refusal_of};
+    ghost use Rattle.fish_ingest.specs.Refusal.{ingest_refusal};
 
-    ghost from_gives = { λ found refusal. refusal ≡ refusal_of found };
+    ghost from_gives = { λ found refusal. refusal ≡ ingest_refusal found };
 
     fn from(found: PsfRefusal) -> IngestRefusal {
         match found {

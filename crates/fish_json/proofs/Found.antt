@@ -13,8 +13,8 @@ use Rattle.serde_json.specs.Find.{get, get_member}
 use Rattle.serde_json.specs.Read.{number_of, of_json, of_items, of_members}
 use Rattle.serde_json.proofs.Views.{get_member-put, get_member-put_other}
 use Rattle.fish_value.specs.declared.field.Field.{Field}
-use Rattle.fish_json.specs.Reading.{at_path, field_in, field_of, kind_of}
-use Rattle.fish_json.specs.within.Tape.{FindsData, Stands}
+use Rattle.fish_json.specs.Reading.{at_path, json_field_in, json_field_of, kind_of_data}
+use Rattle.fish_json.specs.within.Tape.{FindsData, StandsForData}
 
 -- the members go in after those that were found, and o is the last with the name: then r is what the data has there
 abbrev After : List ℕ → Members → Option json.Json → Option Data → Type 0
@@ -87,7 +87,7 @@ step_of name (json.object ms) d r e h =
 
 -- one name: what the tape has is what the data has
 pub step_found : (name text : List ℕ) (ts : List Token) (d : Data) (r : Option (List Token)) → text ≡ name
-    → ((j : json.Json) → find.BeginsWith ts j → Finds r (find.get text j)) → Stands ts d → FindsData r (get name d)
+    → ((j : json.Json) → find.BeginsWith ts j → Finds r (find.get text j)) → StandsForData ts d → FindsData r (get name d)
 step_found name text ts d r same all h =
     step_of name h.0 d r h.2 (subst (λ k. Finds r (find.get k h.0)) same (all h.0 h.1))
 
@@ -126,7 +126,7 @@ path_on path more first d e r is some h =
     subst (FindsData r) (sym (ap (λ l. at_path l d) is ∙ ap (option_and_then (at_path more)) some)) h
 
 -- what was found is the field
-pub field_found : (path : List (List ℕ)) (d e : Data) (f : Field) → at_path path d ≡ Some e → f ≡ kind_of e
-    → f ≡ field_in path d
-unfolding field_in
-field_found path d e f is h = h ∙ sym (ap field_of is)
+pub field_found : (path : List (List ℕ)) (d e : Data) (f : Field) → at_path path d ≡ Some e → f ≡ kind_of_data e
+    → f ≡ json_field_in path d
+unfolding json_field_in
+field_found path d e f is h = h ∙ sym (ap json_field_of is)

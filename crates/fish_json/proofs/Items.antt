@@ -10,8 +10,8 @@ use Rattle.serde_json.specs.View.{items_view, view}
 use Rattle.serde_json.specs.declared.value.Value.{Value}
 use Rattle.std.specs.Option.{option_map_or}
 use Rattle.fish_value.specs.declared.field.Field.{Field}
-use Rattle.fish_json.specs.Reading.{items_of, item_fields, kind_of}
-use Rattle.fish_json.specs.within.Tape.{StandItems, Stands}
+use Rattle.fish_json.specs.Reading.{items_of, item_fields, kind_of_data}
+use Rattle.fish_json.specs.within.Tape.{StandItems, StandsForData}
 
 -- what an optional value was made of
 inner : {A B : Type 0} (f : A → B) (o : Option A) (d : B) → option_map f o ≡ Some d
@@ -26,7 +26,7 @@ same_items d e is = ap (λ (x : Data). items_of (Some x)) is
 -- an array's elements are its items
 pub array_items : (ts rest : List Token) (d : Data)
     → ((j : json.Json) → BeginsWith ts j → (js : json.Items) × (j ≡ json.array js) × InItems rest js)
-    → Stands ts d → (ds : Items) × StandItems rest ds × (items_of (Some d) ≡ item_fields ds)
+    → StandsForData ts d → (ds : Items) × StandItems rest ds × (items_of (Some d) ≡ item_fields ds)
 array_items ts rest d all h =
     let found = all h.0 h.1 in
     let inside = inner array (of_items found.0) d (sym (ap of_json found.1) ∙ h.2) in
@@ -42,7 +42,7 @@ no_array (json.array js) d a e = absurd cc
 no_array (json.object ms) d a e = same_items _ _ (inner object (of_members ms no_members) d e).2
 
 -- the same for what tokens begin with
-pub other_items : (ts : List Token) (d : Data) → ((j : json.Json) → BeginsWith ts j → as_array j ≡ None) → Stands ts d
+pub other_items : (ts : List Token) (d : Data) → ((j : json.Json) → BeginsWith ts j → as_array j ≡ None) → StandsForData ts d
     → items_of (Some d) ≡ []
 other_items ts d all h = no_array h.0 d (all h.0 h.1) h.2
 
@@ -55,8 +55,8 @@ items_over ts after ds next h =
 
 -- one item is at these tokens and the others at those after it, and their fields are those of all items
 abbrev pub HasNext : List Token → List Token → Items → Type 0
-HasNext at after ds = (d : Data) × (left : Items) × Stands at d × StandItems after left
-    × (item_fields ds ≡ kind_of d ∷ item_fields left)
+HasNext at after ds = (d : Data) × (left : Items) × StandsForData at d × StandItems after left
+    × (item_fields ds ≡ kind_of_data d ∷ item_fields left)
 
 -- one item is the next, and the others come after it
 pub items_next : (ts at after : List Token) (ds : Items) → NextItem ts (Some at) after → StandItems ts ds → HasNext at after ds
@@ -88,6 +88,6 @@ items_as (Data.array ds) = refl
 items_as (Data.object ms) = refl
 
 -- the fields of items that are seen as data
-pub items_seen : (vs : List Value) → item_fields (items_view vs) ≡ map (λ v. kind_of (view v)) vs
+pub items_seen : (vs : List Value) → item_fields (items_view vs) ≡ map (λ v. kind_of_data (view v)) vs
 items_seen [] = refl
-items_seen (v ∷ vs) = ap (λ (l : List Field). kind_of (view v) ∷ l) (items_seen vs)
+items_seen (v ∷ vs) = ap (λ (l : List Field). kind_of_data (view v) ∷ l) (items_seen vs)

@@ -15,7 +15,7 @@ use Rattle.fish_value.specs.Json.{reading}
 use Rattle.fish_value.specs.Limits.{longest_payload}
 use Rattle.fish_json.specs.Reading.{if_object, record_of}
 use Rattle.fish_json.specs.Tape.{data_at}
-use Rattle.fish_json.specs.within.Tape.{open_after, Stands}
+use Rattle.fish_json.specs.within.Tape.{open_after, StandsForData}
 use Rattle.fish_json.proofs.Depth.{good, open_after-json, passed, has_data}
 use Rattle.fish_json.proofs.Nesting.{shallow, is_good}
 
@@ -112,22 +112,22 @@ read-no_fit text ts same missing =
 
 stands : (ts : List Token) (o : Read) → json.value json.max_depth ts ≡ o
     → is_some (option_and_then of_json (option_map (λ p. p.0) o)) ≡ true
-    → Stands ts (unwrap_or (option_and_then of_json (option_map (λ p. p.0) o)) null)
+    → StandsForData ts (unwrap_or (option_and_then of_json (option_map (λ p. p.0) o)) null)
 stands ts None e some = absurd (cc)
 stands ts (Some (j, r)) e some = go (of_json j) refl some
   where
-    go : (d : Option Data) → of_json j ≡ d → is_some d ≡ true → Stands ts (unwrap_or d null)
+    go : (d : Option Data) → of_json j ≡ d → is_some d ≡ true → StandsForData ts (unwrap_or d null)
     go None is h = absurd (cc)
     go (Some d) is h = (j, (json.max_depth, r, e), is)
 
-data_at-stands : (ts : List Token) → is_some (data_at ts) ≡ true → Stands ts (unwrap_or (data_at ts) null)
+data_at-stands : (ts : List Token) → is_some (data_at ts) ≡ true → StandsForData ts (unwrap_or (data_at ts) null)
 unfolding data_at
 data_at-stands ts some = stands ts (json.value json.max_depth ts) refl some
 
 -- the same at a root, which is the whole tape
 pub root-stands : (root ts : List Token) → root ≡ ts → is_some (data_at ts) ≡ true
-    → Stands root (unwrap_or (data_at ts) null)
-root-stands root ts same some = subst (λ l. Stands l (unwrap_or (data_at ts) null)) (sym same) (data_at-stands ts some)
+    → StandsForData root (unwrap_or (data_at ts) null)
+root-stands root ts same some = subst (λ l. StandsForData l (unwrap_or (data_at ts) null)) (sym same) (data_at-stands ts some)
 
 -- ---- the record
 

@@ -6,14 +6,14 @@ use Rattle.std.proofs.lemmas.Str.{IsUtf8-from_is_utf8}
 use Rattle.serde_json.specs.Data.{Data}
 use Rattle.serde_json.specs.Read.{read}
 use Rattle.fish_value.specs.Json.{reading}
-use Rattle.fish_json.specs.Reading.{at_path, items, items_in, items_of, field, field_in, field_of, if_object, record_of}
+use Rattle.fish_json.specs.Reading.{at_path, items, items_in, items_of, json_field, json_field_in, json_field_of, if_object, record_of}
 use Rattle.fish_value.specs.Limits.{longest_payload}
 
 -- what a payload has at a path is what its record has there
 pub field_of_record : (b : List ℕ) (path : List (List ℕ)) (d : Data) → record_of b ≡ Some d
-    → field b path ≡ field_in path d
-unfolding field field_in
-field_of_record b path d e = ap (λ r. field_of (option_and_then (at_path path) r)) e
+    → json_field b path ≡ json_field_in path d
+unfolding json_field json_field_in
+field_of_record b path d e = ap (λ r. json_field_of (option_and_then (at_path path) r)) e
 
 -- and the elements at a path are those of the payload
 pub items_of_record : (b : List ℕ) (path : List (List ℕ)) (d : Data) → record_of b ≡ Some d

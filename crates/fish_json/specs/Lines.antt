@@ -23,21 +23,21 @@ abbrev pub is_blank_byte : ℕ → Bool
 is_blank_byte b = b == 32 || b == 9 || b == 13
 
 -- a line of at most 524,288 bytes is blank where all of them are spaces, tabs or CRs
-abbrev pub is_blank : List ℕ → Bool
-is_blank line = nat_le (length line) longest_payload && list_all is_blank_byte line
+abbrev pub is_blank_line : List ℕ → Bool
+is_blank_line line = nat_le (length line) longest_payload && list_all is_blank_byte line
 
 -- a line's payload is the line itself, where it is a record
-abbrev pub payload_of : List ℕ → Option (List ℕ)
-payload_of line = option_map (λ _. line) (record_of line)
+abbrev pub payload_of_line : List ℕ → Option (List ℕ)
+payload_of_line line = option_map (λ _. line) (record_of line)
 
 -- the lines among the parts round the LFs: each without one CR at its end, and the blank ones count nowhere
-abbrev pub lines_of : List (List ℕ) → List (List ℕ)
-lines_of parts = filter (λ line. not (is_blank line)) (map strip_carriage_return parts)
+abbrev pub lines_of_parts : List (List ℕ) → List (List ℕ)
+lines_of_parts parts = filter (λ line. not (is_blank_line line)) (map strip_carriage_return parts)
 
 -- of each line its payload, or none where it is refused
-unfoldable pub outcomes_of : List (List ℕ) → List (Option (List ℕ))
-outcomes_of parts = map payload_of (lines_of parts)
+unfoldable pub line_outcomes_of : List (List ℕ) → List (Option (List ℕ))
+line_outcomes_of parts = map payload_of_line (lines_of_parts parts)
 
 -- of each line of a file its payload, or none where it is refused
-unfoldable pub outcomes : List ℕ → List (Option (List ℕ))
-outcomes b = outcomes_of (slice_split is_line_end (without_mark b))
+unfoldable pub line_outcomes : List ℕ → List (Option (List ℕ))
+line_outcomes b = line_outcomes_of (slice_split is_line_end (without_mark b))

@@ -22,13 +22,13 @@ int_or_other (Some n) = kind.Int n
 int_or_other None = kind.Other
 
 -- the field that data is
-abbrev pub kind_of : Data → Field
-kind_of null = kind.Null
-kind_of (boolean b) = kind.Bool b
-kind_of (number n) = int_or_other (as_i64 n)
-kind_of (string s) = kind.Text s
-kind_of (array ds) = kind.Other
-kind_of (object ms) = kind.Other
+abbrev pub kind_of_data : Data → Field
+kind_of_data null = kind.Null
+kind_of_data (boolean b) = kind.Bool b
+kind_of_data (number n) = int_or_other (as_i64 n)
+kind_of_data (string s) = kind.Text s
+kind_of_data (array ds) = kind.Other
+kind_of_data (object ms) = kind.Other
 
 -- what a path leads to, name by name through objects
 abbrev pub at_path : List (List ℕ) → Data → Option Data
@@ -36,18 +36,18 @@ at_path [] d = Some d
 at_path (step ∷ steps) d = option_and_then (at_path steps) (get step d)
 
 -- what was found as a field: Missing where nothing was
-abbrev pub field_of : Option Data → Field
-field_of None = kind.Missing
-field_of (Some d) = kind_of d
+abbrev pub json_field_of : Option Data → Field
+json_field_of None = kind.Missing
+json_field_of (Some d) = kind_of_data d
 
 -- what a record that was read has at a path
-unfoldable pub field_in : List (List ℕ) → Data → Field
-field_in path d = field_of (at_path path d)
+unfoldable pub json_field_in : List (List ℕ) → Data → Field
+json_field_in path d = json_field_of (at_path path d)
 
 -- the fields of an array's elements
 abbrev pub item_fields : Items → List Field
 item_fields no_items = []
-item_fields (item d ds) = kind_of d ∷ item_fields ds
+item_fields (item d ds) = kind_of_data d ∷ item_fields ds
 
 -- the fields of the elements of what was found: none where that is no array
 abbrev pub items_of : Option Data → List Field
@@ -63,5 +63,5 @@ unfoldable pub items : List ℕ → List (List ℕ) → List Field
 items payload path = items_of (option_and_then (at_path path) (record_of payload))
 
 -- what a payload has at a path: Missing where the bytes are no record
-unfoldable pub field : List ℕ → List (List ℕ) → Field
-field payload path = field_of (option_and_then (at_path path) (record_of payload))
+unfoldable pub json_field : List ℕ → List (List ℕ) → Field
+json_field payload path = json_field_of (option_and_then (at_path path) (record_of payload))

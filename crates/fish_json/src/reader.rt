@@ -8,7 +8,7 @@ ghost use Rattle.fish_value.specs.Limits.{longest_payload};
 ghost use Rattle.fish_json.specs.Reading.{if_object, record_of};
 ghost use Rattle.fish_json.specs.Row.{row_contents};
 ghost use Rattle.fish_json.specs.Tape.{data_at};
-ghost use Rattle.fish_json.specs.within.Tape.{Stands};
+ghost use Rattle.fish_json.specs.within.Tape.{StandsForData};
 
 use crate::nodes::fits;
 use crate::record::RecordRefusal;
@@ -96,7 +96,7 @@ fn tape_of<'a>(
 
 /// Whether a value is an object.
 fn is_object(value: &Element<'_, '_>) -> bool
-    ensures { (d : Data) → Stands value.now d → result ≡ is_some (if_object d) }
+    ensures { (d : Data) → StandsForData value.now d → result ≡ is_some (if_object d) }
 {
     value.members().is_some()
 }

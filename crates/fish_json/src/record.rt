@@ -6,7 +6,7 @@ ghost use Rattle.serde_json.specs.View.{view};
 ghost use Rattle.fish_value.specs.Json.{reading};
 ghost use Rattle.fish_value.specs.Limits.{longest_payload};
 ghost use Rattle.fish_value.specs.Seen.{field_seen};
-ghost use Rattle.fish_json.specs.Reading.{at_path, items_in, items_of, field_in, kind_of, record_of};
+ghost use Rattle.fish_json.specs.Reading.{at_path, items_in, items_of, json_field_in, kind_of_data, record_of};
 
 use fish_value::{Field, FieldView, Fields, MAX_PAYLOAD, Path, Sequence, Text, read_json};
 use std::alloc::{AllocError, Global};
@@ -73,9 +73,9 @@ impl JsonRecord {
 
     /// What the record has at a path, its text borrowed. An object, an array, and a number that is no
     /// whole number of 64 bits are [`FieldView::Other`]. It takes no memory.
-    #[tactic(auto, unfolding(crate::specs::Reading::field_in))]
+    #[tactic(auto, unfolding(crate::specs::Reading::json_field_in))]
     pub fn look(&self, path: &Path) -> FieldView<'_>
-        ensures { field_seen result ≡ field_in path.now (contents self.now) }
+        ensures { field_seen result ≡ json_field_in path.now (contents self.now) }
     {
         match self.value_at(path) {
             Some(value) => field(value),
@@ -85,7 +85,7 @@ impl JsonRecord {
 
     /// The same, its text copied.
     pub fn get(&self, alloc: Global, path: &Path) -> Result<Field, AllocError>
-        ensures { IfOk result (λ field. field ≡ field_in path.now (contents self.now)) }
+        ensures { IfOk result (λ field. field ≡ json_field_in path.now (contents self.now)) }
     {
         self.look(path).to_field(alloc)
     }
@@ -152,7 +152,7 @@ fn fields(
     alloc: Global,
     values: &[serde_json::Value],
 ) -> Result<Sequence<FieldView<'_>>, AllocError>
-    ensures { IfOk result (λ fields. map field_seen fields ≡ map (λ v. kind_of (view v)) values.now) }
+    ensures { IfOk result (λ fields. map field_seen fields ≡ map (λ v. kind_of_data (view v)) values.now) }
 {
     let mut fields = Sequence::new(alloc);
     for value in values {
@@ -174,7 +174,7 @@ fn walk<'a>(value: &'a serde_json::Value, steps: &[Text]) -> Option<&'a serde_js
 
 /// A value as a field. Its text is borrowed.
 fn field(value: &serde_json::Value) -> FieldView<'_>
-    ensures { field_seen result ≡ kind_of (view value.now) }
+    ensures { field_seen result ≡ kind_of_data (view value.now) }
 {
     match value {
         serde_json::Value::Null => FieldView::Null,

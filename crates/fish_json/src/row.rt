@@ -6,9 +6,10 @@ ghost use Rattle.serde_json.specs.Data.{Items as DataItems};
 ghost use Rattle.serde_json.specs.Find.{as_i64, get};
 ghost use Rattle.serde_json.specs.Read.{number_of};
 ghost use Rattle.fish_value.specs.Seen.{field_seen};
-ghost use Rattle.fish_json.specs.Reading.{at_path, items_in, items_of, field_in, int_or_other, item_fields, kind_of};
+ghost use Rattle.fish_json.specs.Reading.{at_path, items_in, items_of, json_field_in, int_or_other, item_fields};
+ghost use Rattle.fish_json.specs.Reading.{kind_of_data};
 ghost use Rattle.fish_json.specs.Tape.{data_at};
-ghost use Rattle.fish_json.specs.within.Tape.{FindsData, StandItems, Stands};
+ghost use Rattle.fish_json.specs.within.Tape.{FindsData, StandItems, StandsForData};
 
 use crate::number::as_int;
 use crate::record::to_fields;
@@ -39,7 +40,7 @@ impl<'a> JsonRow<'a> {
     /// whole number of 64 bits are [`FieldView::Other`]. It takes no memory, and time in the length
     /// of the objects on the path.
     pub fn look(&self, path: &Path) -> FieldView<'_>
-        ensures { field_seen result ≡ field_in path.now (row_contents self.now) }
+        ensures { field_seen result ≡ json_field_in path.now (row_contents self.now) }
     {
         match self.find(path) {
             Some(value) => field(&value),
@@ -49,7 +50,7 @@ impl<'a> JsonRow<'a> {
 
     /// The same, its text copied.
     pub fn get(&self, alloc: Global, path: &Path) -> Result<Field, AllocError>
-        ensures { IfOk result (λ field. field ≡ field_in path.now (row_contents self.now)) }
+        ensures { IfOk result (λ field. field ≡ json_field_in path.now (row_contents self.now)) }
     {
         self.look(path).to_field(alloc)
     }
@@ -87,7 +88,7 @@ impl<'a> JsonRow<'a> {
 
 /// Where names lead from a value, through objects.
 fn walk<'t, 'a>(value: Element<'t, 'a>, steps: &[Text]) -> Option<Element<'t, 'a>>
-    ensures { (d : Data) → Stands value.entry d → FindsData result (at_path steps.now d) }
+    ensures { (d : Data) → StandsForData value.entry d → FindsData result (at_path steps.now d) }
 {
     let mut found = value;
     for name in steps {
@@ -98,14 +99,14 @@ fn walk<'t, 'a>(value: Element<'t, 'a>, steps: &[Text]) -> Option<Element<'t, 'a
 
 /// The last member of that name, where the value is an object.
 fn step<'t, 'a>(value: &Element<'t, 'a>, name: &Text) -> Option<Element<'t, 'a>>
-    ensures { (d : Data) → Stands value.now d → FindsData result (get name.now d) }
+    ensures { (d : Data) → StandsForData value.now d → FindsData result (get name.now d) }
 {
     value.get(name.as_str())
 }
 
 /// A value as a field. Its text is borrowed.
 fn field<'a>(value: &Element<'_, 'a>) -> FieldView<'a>
-    ensures { (d : Data) → Stands value.now d → field_seen result ≡ kind_of d }
+    ensures { (d : Data) → StandsForData value.now d → field_seen result ≡ kind_of_data d }
 {
     if let Some(text) = value.as_str() {
         return FieldView::Text(text);
@@ -137,7 +138,8 @@ fn elements<'a>(
     alloc: Global,
     value: &Element<'_, 'a>,
 ) -> Result<Sequence<FieldView<'a>>, AllocError>
-    ensures { IfOk result (λ fields. (d : Data) → Stands value.now d → map field_seen fields ≡ items_of (Some d)) }
+    ensures { IfOk result (λ fields. (d : Data) → StandsForData value.now d
+        → map field_seen fields ≡ items_of (Some d)) }
 {
     match value.items() {
         Some(items) => fields_left(alloc, items),

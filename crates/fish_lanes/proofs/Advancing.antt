@@ -13,7 +13,7 @@ use Rattle.fish_lanes.specs.within.Advancing.{EndsBy}
 use Rattle.fish_lanes.specs.within.Doing.{IsFit}
 use Rattle.fish_lanes.specs.Gains.{KeepsShut}
 use Rattle.fish_lanes.specs.within.Gains.{Gains}
-use Rattle.fish_lanes.specs.Records.{LaneRow, contents}
+use Rattle.fish_lanes.specs.Records.{LaneRow, contents_of_rows}
 use Rattle.fish_lanes.specs.within.Records.{Ascends}
 use Rattle.fish_lanes.specs.Registering.{ItemFits, Registry}
 use Rattle.fish_lanes.specs.Running.{IsShared}
@@ -116,7 +116,7 @@ told_on v u t works items h g same =
 
 -- one statement more
 pub told_more : {Past : Whole → Type 0} (v u t : View) (works : List Work) (items : List Item) (w : Work) (x : Item) (rows : List LaneRow)
-    → HasAnswered Past v u works items → Gains u t rows → contents rows ≡ take (count_of x) (content_of w)
+    → HasAnswered Past v u works items → Gains u t rows → contents_of_rows rows ≡ take (count_of x) (content_of w)
     → IsFit Past u t w x → IsShared w ⊎ ((r : Registry) × ItemFits u.learned.count t.learned.count r x) → SaysShut u t (x ∷ [])
     → u.learned.version + made_by x ≤ t.learned.version → HasAnswered Past v t (works ++ w ∷ []) (items ++ x ∷ [])
 told_more {Past} v u t works items w x rows h g first fit so shuts version =
@@ -194,7 +194,7 @@ run_ended v u works items h = record {
 pub run_cut : {Past : Whole → Type 0} (v u t : View) (works : List Work) (items : List Item) (w : Work) (later : List Work)
     (rows : List LaneRow)
     (count : ℕ) (why : LaneFault) → why ≢ fault.None → HasAnswered Past v u works (answers items) → Gains u t rows
-    → contents rows ≡ take count (content_of w) → HasRun Past v t (works ++ w ∷ later) items why
+    → contents_of_rows rows ≡ take count (content_of w) → HasRun Past v t (works ++ w ∷ later) items why
 run_cut v u t works items w later rows count why named h g first =
     let learns = g.on.learns in
     record {

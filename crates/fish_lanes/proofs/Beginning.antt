@@ -4,7 +4,7 @@ use Rattle.std.proofs.lemmas.Nat.{div-mul-add, mod-mul-add}
 use Rattle.fish_catalog.proofs.Clamping.{all_clamped}
 use Rattle.fish_catalog.specs.Clamps.{clamped}
 use Rattle.fish_catalog.specs.declared.row.CatRow.{CatRow}
-use Rattle.fish_lanes.specs.Ending.{HasEnd}
+use Rattle.fish_lanes.specs.Ending.{EndsAlone}
 use Rattle.fish_registry.specs.Knowing.{HasBegunBy}
 use Rattle.fish_rule.specs.Table.{first_view}
 use Rattle.fish_rule.specs.World.{high, low}
@@ -12,9 +12,9 @@ use Rattle.fish_rule.specs.declared.view.Key.{Key}
 use Rattle.fish_rule.specs.declared.view.View.{View}
 
 -- it ends where it begins
-pub first_end : (v : View) (k : Key) → v ≡ first_view k → k.line < 68719476736 → HasEnd v k.number
+pub first_end : (v : View) (k : Key) → v ≡ first_view k → k.line < 68719476736 → EndsAlone v k.number
 unfolding high low
-first_end v k is few = subst (λ (z : View). HasEnd z k.number) (sym is) (record {
+first_end v k is few = subst (λ (z : View). EndsAlone z k.number) (sym is) (record {
   alone = record { control = refl; all = refl; idle = refl };
   outside = refl;
   above = omega arith;

@@ -20,7 +20,7 @@ use Rattle.fish_lanes.specs.within.Blocks.{AreDone, AreGone, AreSeated, CanGive,
 use Rattle.fish_lanes.specs.within.Course.{AllRan}
 use Rattle.fish_lanes.specs.within.Pasts.{IsHere, WasHere}
 use Rattle.fish_lanes.specs.Running.{IsShared}
-use Rattle.fish_lanes.specs.within.Running.{IsReady}
+use Rattle.fish_lanes.specs.within.Running.{IsLaneReady}
 use Rattle.fish_lanes.specs.declared.lane.Lane.{Lane}
 use Rattle.fish_lanes.specs.declared.lane.LanePass.{LanePass}
 use Rattle.fish_lanes.specs.declared.work.Work.{Work}
@@ -29,13 +29,13 @@ use Rattle.fish_registry.specs.declared.registrar.Registrar.{Registrar}
 use Rattle.fish_rule.proofs.laws.Learning.{learns_self}
 use Rattle.fish_rule.specs.Logs.{Learns}
 use Rattle.fish_rule.specs.Passes.{view}
-use Rattle.fish_rule.specs.Table.{Stands}
+use Rattle.fish_rule.specs.Table.{IsOfMoment}
 use Rattle.fish_rule.specs.declared.table.Log.{Log}
 use Rattle.fish_rule.specs.declared.view.Key.{Key}
 use Rattle.fish_rule.specs.declared.view.View.{View}
 use Rattle.fish_store.proofs.Running.{here_stays, may_stays}
 use Rattle.fish_store.proofs.Scanning.{pages_stay}
-use Rattle.fish_store.specs.Sound.{GoesOnHere, IsSoundBehind, MayGoOn, Point, ReadsPages, Stays}
+use Rattle.fish_store.specs.Sound.{GoesOnHere, IsSoundBehind, MayGoOn, Point, ReadsPages, StoreStays}
 use Rattle.fish_whole.specs.Whole.{Whole}
 
 -- the lane at a position that went on
@@ -46,7 +46,7 @@ gone_at log given gone went i x y at_x at_y = subst (λ (t : Lane × Lane). HasG
     (went.each i x (slice_get_within given i x at_x))
 
 -- it may be finished
-pub gone_ready : (log : Log) (x y : Lane) → IsReady log x → HasGone log x y → IsReady log y
+pub gone_ready : (log : Log) (x y : Lane) → IsLaneReady log x → HasGone log x y → IsLaneReady log y
 gone_ready log x y ready h = record {
   seat = h.after;
   seat_is = h.after_is;
@@ -110,7 +110,7 @@ module _
   -- reading pages leaves it too
   pub pages_stay_at : (k : Key) (n : Point D) (disk : D) (flusher : Flusher) (cold : Cold) → n.view.about ≡ k
       → flusher ≡ n.flusher → ReadsPages disks k n.cold cold n.disk disk
-      → Stays disks n (record n { disk = disk; flusher = flusher; cold = cold })
+      → StoreStays disks n (record n { disk = disk; flusher = flusher; cold = cold })
   pages_stay_at k n disk flusher cold about same reads =
       pages_stay disks n (record n { disk = disk; flusher = flusher; cold = cold }) (learns_self n.view)
       (rows_self n.view n.rows) same refl
@@ -155,7 +155,7 @@ module _
     pub all_ran : (full : Bool) (log : Log) (r s : Registrar) (first first' : Lane) (before given gone last : List Lane)
         → n.view.about ≡ log.key → full ≡ is_some p.view.shut → HasGiven p.view m.view (length before) → CanGive p.view before
         → length given ≡ length before → AreSeated log p.view before given
-        → HasRunFirst (IsSoundBehind disks m (disks.content n.disk)) m.view n.view r s first first' → Stands n.view → Knows n.view s
+        → HasRunFirst (IsSoundBehind disks m (disks.content n.disk)) m.view n.view r s first first' → IsOfMoment n.view → Knows n.view s
         → length gone ≡ length given → AreGone log given gone → length last ≡ length gone
         → EachLanePair (λ i x y. HasFinished (WasHere (disks.content n.disk) log.key n.cold (disks.content q.disk)) full log x y) gone last
         → AllRan Before log p.view n.view r s first first' before last

@@ -2,13 +2,13 @@
 use Rattle.std.proofs.Common.{◌≡◌, ℕ, ◌≤◌, List, [], ◌∷◌, true, false, None, Result, Ok, Err, refl, sym, ap, ◌∙◌, subst, inl, inr}
 use Rattle.std.proofs.Common.{arith}
 use Rattle.std.specs.Prelude.{IfErr, IfOk}
-use Rattle.fish_flush.specs.Carrying.{HasSettled, Reads}
+use Rattle.fish_flush.specs.Carrying.{HasSettled, ReadsLog}
 use Rattle.fish_ingest.specs.Ingestion.{CanStart}
 use Rattle.fish_lanes.proofs.Controls.{take_nothing}
 use Rattle.fish_lanes.proofs.Gaining.{gains_reads}
 use Rattle.fish_lanes.proofs.Lists.{all_more}
 use Rattle.fish_lanes.specs.CommitRows.{is_checkpoint}
-use Rattle.fish_lanes.specs.Controlling.{CanControl, IsCommitted}
+use Rattle.fish_lanes.specs.Controlling.{CanControl, IsCheckpointAtMost}
 use Rattle.fish_lanes.specs.within.Controlled.{IsPartControlled}
 use Rattle.fish_lanes.specs.within.Controlling.{HasPolled}
 use Rattle.fish_lanes.specs.within.Doing.{FitsCheckpoint, IsFit, IsItem}
@@ -29,7 +29,7 @@ use Rattle.fish_rule.specs.declared.view.View.{View}
 use Rattle.fish_whole.specs.Whole.{Whole}
 
 -- the control pass can go on where it only read
-pub reads_control : (log : Log) (p q : Pass) (r : Registrar) → CanControl log p r → IsPassOf log q → Reads (view p) (view q)
+pub reads_control : (log : Log) (p q : Pass) (r : Registrar) → CanControl log p r → IsPassOf log q → ReadsLog (view p) (view q)
     → CanControl log q r
 reads_control log p q r can of reads =
     let frame = reads.frame in
@@ -56,7 +56,7 @@ commit_fits v u n x is h counted = record {
 }
 
 -- the definitions are the same
-pub keeps_reads : (v u : View) → Reads v u → KeepsRegistry v u
+pub keeps_reads : (v u : View) → ReadsLog v u → KeepsRegistry v u
 keeps_reads v u h = record {
   rows = ap (λ (z : View). z.rows) h.frame;
   control_words = ap (λ (z : View). z.control_words) h.frame;
@@ -64,7 +64,7 @@ keeps_reads v u h = record {
 }
 
 -- so a statement that commits has its item
-pub commit_item : {E : Type 0} (v u : View) (r : Result Item E) → CanStart v → v.flight ≡ None → Reads v u → IfOk r (FitsCheckpoint v u)
+pub commit_item : {E : Type 0} (v u : View) (r : Result Item E) → CanStart v → v.flight ≡ None → ReadsLog v u → IfOk r (FitsCheckpoint v u)
     → IfOk r (IsItem anywhere v u work.Checkpoint)
 commit_item v u (Err e) start idle reads fit = tt
 commit_item v u (Ok x) start idle reads fit = record {
@@ -79,7 +79,7 @@ commit_item v u (Ok x) start idle reads fit = record {
 }
 
 -- and a part of it is one
-pub commit_part : {E : Type 0} (v u : View) (r : Result Item E) → CanStart v → v.flight ≡ None → Reads v u
+pub commit_part : {E : Type 0} (v u : View) (r : Result Item E) → CanStart v → v.flight ≡ None → ReadsLog v u
     → IfErr r (λ _. IsPartControlled v u work.Checkpoint)
 commit_part v u (Ok x) start idle reads = tt
 commit_part v u (Err e) start idle reads = record {
@@ -109,23 +109,24 @@ other_fit Past u t (work.Explain ask) x other (inr f) = ap is_checkpoint f.is
 other_fit Past u t work.Checkpoint x other f = absurd (other refl)
 
 -- so nothing is said of a commit
-pub not_committed : (count : ℕ) (x : Item) → is_checkpoint x ≡ false → IsCommitted count x
+pub not_committed : (count : ℕ) (x : Item) → is_checkpoint x ≡ false → IsCheckpointAtMost count x
 not_committed count x other n is = (let bad : false ≡ true = sym other ∙ ap is_checkpoint is in absurd cc)
 
 pub other_committed : (Past : Whole → Type 0) {E : Type 0} (count : ℕ) (u t : View) (w : Work) (r : Result Item E)
-    → (w ≡ work.Checkpoint → ⊥) → IfOk r (IsFit Past u t w) → IfOk r (IsCommitted count)
+    → (w ≡ work.Checkpoint → ⊥) → IfOk r (IsFit Past u t w) → IfOk r (IsCheckpointAtMost count)
 other_committed Past count u t w (Ok x) other fit = not_committed count x (other_fit Past u t w x other fit)
 other_committed Past count u t w (Err e) other fit = tt
 
 -- what was committed stays so
-pub committed_on : (low high : ℕ) (items : List Item) → low ≤ high → AllOf (IsCommitted low) items → AllOf (IsCommitted high) items
+pub committed_on : (low high : ℕ) (items : List Item) → low ≤ high → AllOf (IsCheckpointAtMost low) items
+    → AllOf (IsCheckpointAtMost high) items
 committed_on low high [] le h = tt
 committed_on low high (x ∷ items) le h =
     (λ n is. (let first = h.0 n is in omega arith), committed_on low high items le h.1)
 
 -- and no boundary tells of it
 pub committed_polled : (count : ℕ) (u : View) (r : Registrar) (t : View) (s : Registrar) (old new : List Item)
-    → HasPolled u r t s old new → AllOf (IsCommitted count) old → AllOf (IsCommitted count) new
-committed_polled count u r t s old new (inl same) h = subst (AllOf (IsCommitted count)) (sym same.0) h
-committed_polled count u r t s old new (inr more) h = subst (AllOf (IsCommitted count)) (sym more.2)
-    (all_more (IsCommitted count) old (item.Bound more.0 more.1) h (not_committed count (item.Bound more.0 more.1) refl))
+    → HasPolled u r t s old new → AllOf (IsCheckpointAtMost count) old → AllOf (IsCheckpointAtMost count) new
+committed_polled count u r t s old new (inl same) h = subst (AllOf (IsCheckpointAtMost count)) (sym same.0) h
+committed_polled count u r t s old new (inr more) h = subst (AllOf (IsCheckpointAtMost count)) (sym more.2)
+    (all_more (IsCheckpointAtMost count) old (item.Bound more.0 more.1) h (not_committed count (item.Bound more.0 more.1) refl))

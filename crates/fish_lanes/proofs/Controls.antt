@@ -17,12 +17,12 @@ use Rattle.fish_lanes.proofs.Single.{fit_closed, fit_single, none_there, only_fe
 use Rattle.fish_lanes.specs.within.Controlled.{HasControlled, IsControlled, IsPartControlled}
 use Rattle.fish_lanes.specs.within.Controlling.{Does, HasPolled, RollsBy, SaysTail, TellsStep}
 use Rattle.fish_lanes.specs.within.Doing.{GainsFirst, IsFit, IsItem, IsPart}
-use Rattle.fish_lanes.specs.Ending.{HasEnd}
+use Rattle.fish_lanes.specs.Ending.{EndsAlone}
 use Rattle.fish_lanes.specs.within.Gains.{Gains}
 use Rattle.fish_lanes.specs.Pending.{AreFound}
-use Rattle.fish_lanes.specs.Plans.{KnowsRows, SaysPlans}
+use Rattle.fish_lanes.specs.Plans.{KnowsListed, SaysPlans}
 use Rattle.fish_lanes.specs.within.Plans.{AreBoundsIn, PlansHoldFor}
-use Rattle.fish_lanes.specs.Records.{LaneRow, contents}
+use Rattle.fish_lanes.specs.Records.{LaneRow, contents_of_rows}
 use Rattle.fish_lanes.specs.Registering.{InEach, ItemFits, ItemsFit, KnowsEach, KnowsRegistry, Registry, after, after_all}
 use Rattle.fish_lanes.specs.Registering.{registry_of, waiting_id}
 use Rattle.fish_lanes.specs.within.Running.{IsFree}
@@ -40,7 +40,7 @@ use Rattle.fish_report.specs.declared.item.Item.TheVariants as item
 use Rattle.fish_rule.proofs.laws.Learning.{learns_both}
 use Rattle.fish_rule.specs.Logs.{Learns}
 use Rattle.fish_rule.specs.LoadSteps.{IsAlone}
-use Rattle.fish_rule.specs.Table.{Stands}
+use Rattle.fish_rule.specs.Table.{IsOfMoment}
 use Rattle.fish_rule.specs.Views.{AllOf}
 use Rattle.fish_rule.specs.declared.view.Epoch.TheVariants.{Out}
 use Rattle.fish_rule.specs.declared.view.View.{View}
@@ -132,7 +132,7 @@ pub record Held (Past : Whole → Type 0) (v : View) (r : Registrar) (u : View) 
   pub each : KnowsEach u (registry_of v r) items
   pub closed : IsAlone v → AllOf NamesNone items
   pub still : works ≡ [] → r.waiting ≡ None → (u ≡ v) × (s.waiting ≡ None) × (items ≡ [])
-  pub only : (end : ℕ) → HasEnd v end → r.waiting ≡ None → SaysOnly Past v u r.catalog end works items
+  pub only : (end : ℕ) → EndsAlone v end → r.waiting ≡ None → SaysOnly Past v u r.catalog end works items
   pub plans : PlansHoldFor v u (registry_of v r) works items
 
 -- none yet
@@ -155,7 +155,7 @@ held_item : {Past : Whole → Type 0} (v : View) (r : Registrar) (u : View) (s :
     (items : List Item) (x : Item) → Held Past v r u s works items → Learns v u → Learns u t → Does u s t q x
     → HasAnswered Past v t works' (answers (items ++ x ∷ [])) → (IsAlone v → NamesNone x)
     → (works' ≡ [] → r.waiting ≡ None → (t ≡ v) × (q.waiting ≡ None) × (items ++ x ∷ [] ≡ []))
-    → ((end : ℕ) → HasEnd v end → r.waiting ≡ None → SaysOnly Past v t r.catalog end works' (items ++ x ∷ []))
+    → ((end : ℕ) → EndsAlone v end → r.waiting ≡ None → SaysOnly Past v t r.catalog end works' (items ++ x ∷ []))
     → PlansHoldFor v t (registry_of v r) works' (items ++ x ∷ []) → Held Past v r t q works' (items ++ x ∷ [])
 held_item v r u s t q works works' items x h before learns does told none still only plans =
     let start = registry_of v r in
@@ -208,12 +208,12 @@ held_polled {Past} v r u s t q works items items' h g same shut idle (inr p) =
     (λ alone. tt) (λ none wait. absurd (none_waiting s p.0 (h.still none wait).1 p.3.so.0))
     (λ end e wait w one. subst (AllOf (SaysSingle Past v t r.catalog end w)) (sym (answers_same items x refl))
     (only_later v u t r.catalog end g.on.learns same Past works items (h.only end e wait) w one))
-    (λ rows from bounds low. plans_beside (KnowsRows t) (registry_of v r) rows from works items x h.told.size
+    (λ rows from bounds low. plans_beside (KnowsListed t) (registry_of v r) rows from works items x h.told.size
     (plans_on v u t (registry_of v r) works items g.on.learns h.plans rows from bounds low)))
 
 -- a statement
 pub held_done : {Past : Whole → Type 0} (v : View) (r : Registrar) (u : View) (s : Registrar) (t : View) (q : Registrar) (works : List Work)
-    (items : List Item) (w : Work) (x : Item) → Stands v → Stands t → Knows v r
+    (items : List Item) (w : Work) (x : Item) → IsOfMoment v → IsOfMoment t → Knows v r
     → KnowsRegistry v (registry_of v r) → Knows u s → Knows t q → Held Past v r u s works items
     → IsControlled Past u s t q w x → Held Past v r t q (works ++ w ∷ []) (items ++ x ∷ [])
 held_done {Past} v r u s t q works items w x stood stands began known knows now h c =
@@ -247,9 +247,9 @@ held_done {Past} v r u s t q works items w x stood stands began known knows now 
     let learns = c.gains.on.learns in
     let settled = h.told.gains.on.learns.settled in
     let known = subst (KnowsRegistry u) (sym h.is) (each_last (KnowsRegistry u) start items h.each) in
-    plans_more (KnowsRows t) start rows from works (w ∷ []) items x h.told.size
+    plans_more (KnowsListed t) start rows from works (w ∷ []) items x h.told.size
     (plans_on v u t start works items learns h.plans rows from bounds low)
-    (subst (λ (z : Registry). SaysPlans (KnowsRows t) z.rows rows from w x) h.is
+    (subst (λ (z : Registry). SaysPlans (KnowsListed t) z.rows rows from w x) h.is
     (fit_so u t (registry_of u s) rows from stands learns (bounds_read u s knows) known bounds (omega arith) Past w x c.fit)))
 
 -- ---- the end
@@ -272,7 +272,7 @@ held_ended v r u s works items h found = record {
 pub held_cut : {Past : Whole → Type 0} (v : View) (r : Registrar) (u : View) (s : Registrar) (t : View) (q : Registrar) (works : List Work)
     (items : List Item) (w : Work) (later : List Work) (rows : List LaneRow) (count : ℕ) (why : LaneFault) → why ≢ fault.None
     → Held Past v r u s works items → AreFound v.clock u.clock (registry_of v r) items → Gains u t rows
-    → contents rows ≡ take count (content_of w)
+    → contents_of_rows rows ≡ take count (content_of w)
     → HasControlled Past v t r q (works ++ w ∷ later) items why
 held_cut {Past} v r u s t q works items w later rows count why named h found g first =
     let more = g.on.learns.count in
@@ -283,7 +283,7 @@ held_cut {Past} v r u s t q works items w later rows count why named h found g f
       closed = h.closed;
       only = λ end e wait one is. subst (AllOf (SaysSingle Past v t r.catalog end one))
           (sym (none_there (answers items) works h.told.size (only_last works w later one is).0)) tt;
-      plans = λ rows from bounds low. plans_longer (KnowsRows t) (registry_of v r) rows from works (w ∷ later) items h.told.size
+      plans = λ rows from bounds low. plans_longer (KnowsListed t) (registry_of v r) rows from works (w ∷ later) items h.told.size
           (plans_on v u t (registry_of v r) works items g.on.learns h.plans rows from bounds low);
       is = λ e. absurd (named e);
       each = each_later u t (registry_of v r) items g.on.learns h.each;
@@ -362,15 +362,15 @@ free_does Past u t r w x free f learns same =
     }
 
 -- nothing is the first of nothing
-pub take_nothing : (count : ℕ) (w : Work) → content_of w ≡ [] → contents [] ≡ take count (content_of w)
+pub take_nothing : (count : ℕ) (w : Work) → content_of w ≡ [] → contents_of_rows [] ≡ take count (content_of w)
 take_nothing count w none = by count ∙ ap (take count) (sym none)
   where
-    by : (n : ℕ) → contents [] ≡ take n []
+    by : (n : ℕ) → contents_of_rows [] ≡ take n []
     by zero = refl
     by (suc n) = refl
 
 -- so is it of a statement of which nothing was done
-pub take_nothing_first : (w : Work) → contents [] ≡ take 0 (content_of w)
+pub take_nothing_first : (w : Work) → contents_of_rows [] ≡ take 0 (content_of w)
 take_nothing_first w = refl
 
 -- ---- one statement of the first lane

@@ -11,17 +11,17 @@ use Rattle.fish_lanes.proofs.Ends.{closes_end, end_knows}
 use Rattle.fish_lanes.proofs.RowLists.{has_above, owned_number, told_later}
 use Rattle.fish_lanes.proofs.Surely.{end_above, entry_before, own_before, will_own, will_rows}
 use Rattle.fish_lanes.specs.Blocks.{AreEnded, AreKept, IsBlockSpan, IsEndedLane, IsMarkItem, NameMarks, StoresByLanes, SaysBlock}
-use Rattle.fish_lanes.specs.within.Blocks.{AreJoined, IsOfLane, IsSeated, IsShutOfLane, SaysFirst, SaysOthers}
+use Rattle.fish_lanes.specs.within.Blocks.{AreJoined, IsOwnOfLane, IsSeated, IsShutOfLane, SaysFirstLane, SaysOthers}
 use Rattle.fish_lanes.specs.Outcome.{AreVacant}
 use Rattle.fish_lanes.specs.within.Course.{AllBack, AllRan, HasFoundEnd}
-use Rattle.fish_lanes.specs.Ending.{HasEnd}
+use Rattle.fish_lanes.specs.Ending.{EndsAlone}
 use Rattle.fish_lanes.specs.Gains.{IsMarkAt, IsShutSaid}
-use Rattle.fish_lanes.specs.within.Gains.{AreKnown}
+use Rattle.fish_lanes.specs.within.Gains.{AreRowsKnown}
 use Rattle.fish_lanes.specs.Records.{HasNumber, LaneRow, rows_of_lane}
 use Rattle.fish_lanes.specs.within.Records.{Ascends, owned}
 use Rattle.fish_lanes.specs.Running.{IsEnded}
 use Rattle.fish_lanes.specs.within.Running.{HasDone, IsFullItem}
-use Rattle.fish_lanes.specs.Spans.{IsAnswer, Span}
+use Rattle.fish_lanes.specs.Spans.{IsAnswerItem, Span}
 use Rattle.fish_lanes.specs.within.Spans.{IsWithinSpan}
 use Rattle.fish_lanes.specs.Telling.{SaysLane}
 use Rattle.fish_lanes.specs.declared.block.BlockEnd.{BlockEnd}
@@ -36,7 +36,7 @@ use Rattle.fish_rule.specs.Logs.{Learns}
 use Rattle.fish_rule.specs.Passes.{view}
 use Rattle.fish_rule.specs.LoadSteps.{IsAlone}
 use Rattle.fish_rule.specs.Parts.{IsEntryWord}
-use Rattle.fish_rule.specs.Table.{Stands}
+use Rattle.fish_rule.specs.Table.{IsOfMoment}
 use Rattle.fish_rule.proofs.laws.ChainFacts.{always_later}
 use Rattle.fish_rule.specs.Views.{AllOf, Among}
 use Rattle.fish_rule.specs.ChainFacts.{Always}
@@ -182,11 +182,11 @@ module _ {Past : Whole → Type 0} {log : Log} {v w : View} {r q : Registrar} {f
         record {
           ended = subst (λ (q : List Work × List Item × LaneFault). IsEnded q.0 q.1 q.2)
               (λ j. (sym w'.works j, sym w'.items j, sym w'.fault j)) p.run_of.run.ended;
-          answers = λ later. subst (AllOf IsAnswer) (sym w'.items) p.run_of.answers;
+          answers = λ later. subst (AllOf IsAnswerItem) (sym w'.items) p.run_of.answers;
         })
 
   module _ {u t : View} {kept : Registrar} {after : List Lane} {last : BlockEnd} (returned : AllBack w u done after)
-      (ended : HasFoundEnd u t q kept last) (start : (from : ℕ) × HasEnd v from) (stands : Stands t) where
+      (ended : HasFoundEnd u t q kept last) (start : (from : ℕ) × EndsAlone v from) (stands : IsOfMoment t) where
     -- the definitions are known at the end
     pub knows : Knows t kept
     knows = end_knows ended.bound t kept ended.settles ended.knows
@@ -209,7 +209,7 @@ module _ {Past : Whole → Type 0} {log : Log} {v w : View} {r q : Registrar} {f
     all_learns = learns_both v w t start_learns end_learns
 
     -- the control pass knows the end
-    pub has_end : HasEnd t last.to
+    pub has_end : EndsAlone t last.to
     has_end = record {
       alone = record {
         control = closes.lane ∙ alone.control;
@@ -282,7 +282,7 @@ module _ {Past : Whole → Type 0} {log : Log} {v w : View} {r q : Registrar} {f
 
     -- a record of its own is one of before, one of the first lane's rows, or one of another lane's
     own_cases : (o : Own) → Among o t.own
-        → (Among o v.own) ⊎ ((HasNumber o.number run.first_did.controlled.run.rows × (o.lane ≡ 1)) ⊎ IsOfLane done (length done) o)
+        → (Among o v.own) ⊎ ((HasNumber o.number run.first_did.controlled.run.rows × (o.lane ≡ 1)) ⊎ IsOwnOfLane done (length done) o)
     own_cases o n =
         let g = run.first_did.controlled.run.gains in
         ⊎_elim (λ (k : Among o w.own).
@@ -290,7 +290,7 @@ module _ {Past : Whole → Type 0} {log : Log} {v w : View} {r q : Registrar} {f
         (λ (k : Among o (owned run.control.lane run.first_did.controlled.run.rows)).
         let q = owned_number run.control.lane o run.first_did.controlled.run.rows k in inr (inl (q.0, q.1 ∙ run.gives.control)))
         (among_either o run.control.own (owned run.control.lane run.first_did.controlled.run.rows) (subst (Among o) g.own k)))
-        (λ (k : IsOfLane done (length done) o). inr (inr k)) (returned.takes.own o (subst (Among o) closes.own n))
+        (λ (k : IsOwnOfLane done (length done) o). inr (inr k)) (returned.takes.own o (subst (Among o) closes.own n))
 
     -- of another lane it is one of before, or one of the lane's rows
     lane_cases : (i : ℕ) (z : Lane) (p : Way i z) (seat : LanePass) (o : Own) → z.seat ≡ Some seat
@@ -310,15 +310,15 @@ module _ {Past : Whole → Type 0} {log : Log} {v w : View} {r q : Registrar} {f
     is_later = record {
       learns = all_learns;
       gained = λ o n. ⊎_elim (λ (k : Among o v.own). inl k)
-          (λ (k : (HasNumber o.number run.first_did.controlled.run.rows × (o.lane ≡ 1)) ⊎ IsOfLane done (length done) o).
+          (λ (k : (HasNumber o.number run.first_did.controlled.run.rows × (o.lane ≡ 1)) ⊎ IsOwnOfLane done (length done) o).
           ⊎_elim (λ (q : HasNumber o.number run.first_did.controlled.run.rows × (o.lane ≡ 1)).
           let did = run.first_did.controlled.run in
           let up = has_above o.number run.control.learned.count w.learned.count did.rows did.gains.ascends q.0 in
           let same : run.control.learned.count ≡ v.learned.count = ap (λ (z : Learned). z.count) run.gives.learned in
-          inr (omega arith)) (λ (q : IsOfLane done (length done) o). of_lane o q) k) (own_cases o n);
+          inr (omega arith)) (λ (q : IsOwnOfLane done (length done) o). of_lane o q) k) (own_cases o n);
     }
       where
-        of_lane : (o : Own) → IsOfLane done (length done) o → Among o v.own ⊎ (v.learned.count ≤ o.number)
+        of_lane : (o : Own) → IsOwnOfLane done (length done) o → Among o v.own ⊎ (v.learned.count ≤ o.number)
         of_lane o q =
             let p = way q.position q.lane q.lane_is in
             ⊎_elim (λ (k : Among o v.own × (o.lane ≡ q.position + 2)). inl k.0)
@@ -331,7 +331,7 @@ module _ {Past : Whole → Type 0} {log : Log} {v w : View} {r q : Registrar} {f
     -- what a lane's items tell of its rows they tell of the rows that the whole has of it
     says_rows : (past : Whole) (k : Span) (s : View) (number : ℕ) (rows : List LaneRow) (works : List Work) (items : List Item)
         → Learns s t → v.about.number ≤ k.from → k.to ≡ last.to → k.from ≤ k.to → k.from ≤ v.learned.count
-        → Ascends v.learned.count rows s.learned.count → AreKnown s number rows
+        → Ascends v.learned.count rows s.learned.count → AreRowsKnown s number rows
         → ((o : Own) → Among o t.own → o.lane ≡ number → (o.number < k.from) ⊎ HasNumber o.number rows)
         → MustHoldUpTo past s k.to (λ y. SaysLane y k rows works items)
         → WillHold past t (λ y. SaysLane y k (rows_of_lane y.log k.from k.to number) works items)
@@ -339,14 +339,14 @@ module _ {Past : Whole → Type 0} {log : Log} {v w : View} {r q : Registrar} {f
         let same : t.about.number ≡ v.about.number = ap (λ (z : Key). z.number) all_learns.about in
         let settled = ended.settled in
         let exact : rows_of_lane y.log k.from k.to number ≡ rows =
-        will_rows past t number k.from k.to v.learned.count s.learned.count rows stands (subst (HasEnd t) (sym is) has_end)
+        will_rows past t number k.from k.to v.learned.count s.learned.count rows stands (subst (EndsAlone t) (sym is) has_end)
         (omega arith) within counted (told_later s t number rows learns told) up all y m in
         subst (λ (z : List LaneRow). SaysLane y k z works items) (sym exact)
         (up_to_will past t k.to (λ z. SaysLane z k rows works items) (omega arith)
         (up_to_later past s t k.to (λ z. SaysLane z k rows works items) learns sure) y m)
 
     module _ (past : Whole) (behind : Past past) (k : Span) (span : IsBlockSpan v t last.to k) (many : k.lanes ≡ length before + 1)
-        (stood : Stands v) where
+        (stood : IsOfMoment v) where
       version_given : run.control.learned.version ≡ v.learned.version
       version_given = ap (λ (z : Learned). z.version) run.gives.learned
 
@@ -394,18 +394,18 @@ module _ {Past : Whole → Type 0} {log : Log} {v w : View} {r q : Registrar} {f
       control_alone : k.lanes ≡ 1 → IsAlone run.control
       control_alone one = subst IsAlone (sym (run.gives.none (omega arith))) span.begins.alone
 
-      says_first : WillHold past t (SaysFirst k first')
+      says_first : WillHold past t (SaysFirstLane k first')
       says_first =
           let run_first = run.first_did.controlled.run in
           let g = run_first.gains in
           let same : run.control.learned.count ≡ v.learned.count = ap (λ (z : Learned). z.count) run.gives.learned in
           says_rows past k w 1 run_first.rows first'.works first'.items end_learns span.begins.above span.ends within counted
           (subst (λ (z : ℕ). Ascends z run_first.rows w.learned.count) same g.ascends)
-          (subst (λ (z : ℕ). AreKnown w z run_first.rows) run.gives.control g.told)
+          (subst (λ (z : ℕ). AreRowsKnown w z run_first.rows) run.gives.control g.told)
           (λ o n lane. ⊎_elim (λ (h : Among o v.own). inl (own_before v k.from o stood span.begins h))
-          (λ (h : (HasNumber o.number run_first.rows × (o.lane ≡ 1)) ⊎ IsOfLane done (length done) o).
+          (λ (h : (HasNumber o.number run_first.rows × (o.lane ≡ 1)) ⊎ IsOwnOfLane done (length done) o).
           ⊎_elim (λ (i : HasNumber o.number run_first.rows × (o.lane ≡ 1)). inr i.0)
-          (λ (i : IsOfLane done (length done) o). absurd (
+          (λ (i : IsOwnOfLane done (length done) o). absurd (
           let p = way i.position i.lane i.lane_is in
           ⊎_elim (λ (j : Among o v.own × (o.lane ≡ i.position + 2)). let e = j.1 in omega arith)
           (λ (j : HasNumber o.number p.run_of.run.rows × (o.lane ≡ i.position + 2)). let e = j.1 in omega arith)
@@ -418,11 +418,11 @@ module _ {Past : Whole → Type 0} {log : Log} {v w : View} {r q : Registrar} {f
           → Among o t.own → o.lane ≡ i + 2 → (o.number < k.from) ⊎ HasNumber o.number p.run_of.run.rows
       others_all i z at p o n lane =
           ⊎_elim (λ (h : Among o v.own). inl (own_before v k.from o stood span.begins h))
-          (λ (h : (HasNumber o.number run.first_did.controlled.run.rows × (o.lane ≡ 1)) ⊎ IsOfLane done (length done) o).
+          (λ (h : (HasNumber o.number run.first_did.controlled.run.rows × (o.lane ≡ 1)) ⊎ IsOwnOfLane done (length done) o).
           ⊎_elim (λ (q : HasNumber o.number run.first_did.controlled.run.rows × (o.lane ≡ 1)). let e = q.1 in absurd (omega arith))
-          (λ (q : IsOfLane done (length done) o). here q (ℕ_discrete q.position i)) h) (own_cases o n)
+          (λ (q : IsOwnOfLane done (length done) o). here q (ℕ_discrete q.position i)) h) (own_cases o n)
         where
-          here : (q : IsOfLane done (length done) o) → Dec (q.position ≡ i)
+          here : (q : IsOwnOfLane done (length done) o) → Dec (q.position ≡ i)
               → (o.number < k.from) ⊎ HasNumber o.number p.run_of.run.rows
           here q (yes same) =
               let lane_same : q.lane ≡ z = some_once q.lane z (sym q.lane_is ∙ ap (slice_get done) same ∙ at) in
@@ -453,7 +453,7 @@ module _ {Past : Whole → Type 0} {log : Log} {v w : View} {r q : Registrar} {f
           (λ j. (sym w'.works j, sym w'.items j))
           (says_rows past k (view s.pass) (i + 2) p.run_of.run.rows z.0.works z.0.items back span.begins.above span.ends
           within counted (subst (λ (x : ℕ). Ascends x p.run_of.run.rows (view s.pass).learned.count) same g.ascends)
-          (subst (λ (x : ℕ). AreKnown (view s.pass) x p.run_of.run.rows) lane g.told)
+          (subst (λ (x : ℕ). AreRowsKnown (view s.pass) x p.run_of.run.rows) lane g.told)
           (others_all i z.0 z.1 p)
           (p.run_of.run.tells past behind k
           (lane_within (view p.run_of.before.pass) (view s.pass) (way_about i z.0 p) (way_learned i z.0 p) back
@@ -464,11 +464,11 @@ module _ {Past : Whole → Type 0} {log : Log} {v w : View} {r q : Registrar} {f
       own_of_lanes : (o : Own) → Among o t.own → (o.number < k.from) ⊎ (o.lane ≤ length before + 1)
       own_of_lanes o n =
           ⊎_elim (λ (h : Among o v.own). inl (own_before v k.from o stood span.begins h))
-          (λ (h : (HasNumber o.number run.first_did.controlled.run.rows × (o.lane ≡ 1)) ⊎ IsOfLane done (length done) o).
+          (λ (h : (HasNumber o.number run.first_did.controlled.run.rows × (o.lane ≡ 1)) ⊎ IsOwnOfLane done (length done) o).
           ⊎_elim (λ (q : HasNumber o.number run.first_did.controlled.run.rows × (o.lane ≡ 1)). let e = q.1 in inr (omega arith))
-          (λ (q : IsOfLane done (length done) o). of_lane q) h) (own_cases o n)
+          (λ (q : IsOwnOfLane done (length done) o). of_lane q) h) (own_cases o n)
         where
-          of_lane : IsOfLane done (length done) o → (o.number < k.from) ⊎ (o.lane ≤ length before + 1)
+          of_lane : IsOwnOfLane done (length done) o → (o.number < k.from) ⊎ (o.lane ≤ length before + 1)
           of_lane q =
               let p = way q.position q.lane q.lane_is in
               ⊎_elim (λ (h : Among o v.own × (o.lane ≡ q.position + 2)). inl (own_before v k.from o stood span.begins h.0))

@@ -22,7 +22,7 @@ use Rattle.fish_plan.proofs.Inside.{held_is_indexed, index_inside, piece_within}
 use Rattle.fish_plan.proofs.Walks.{some_above}
 use Rattle.fish_plan.specs.Cover.{IsCover, IsRight}
 use Rattle.fish_plan.specs.Gaps.{IsFirstGap}
-use Rattle.fish_plan.specs.Intervals.{IsBelowEnd, IsHeld}
+use Rattle.fish_plan.specs.Intervals.{IsBelowEnd, IsHeldBy}
 use Rattle.fish_plan.specs.declared.pieces.Piece.{Piece}
 use Rattle.fish_plan.specs.declared.pieces.Piece.TheVariants.{Full, Index}
 use Rattle.fish_registry.specs.Knowing.{Knows}
@@ -31,7 +31,7 @@ use Rattle.fish_rule.proofs.laws.Lists.{all_among}
 use Rattle.fish_rule.proofs.laws.Versions.{texts_law}
 use Rattle.fish_rule.specs.Logs.{Learns}
 use Rattle.fish_rule.specs.Registry.{IsRegistered, definitions_at, control_word, row_at, version_in}
-use Rattle.fish_rule.specs.Table.{Stands}
+use Rattle.fish_rule.specs.Table.{IsOfMoment}
 use Rattle.fish_rule.specs.Views.{Among}
 use Rattle.fish_rule.specs.declared.view.View.{View}
 use Rattle.fish_rule.proofs.laws.Members.{among_at, at_among}
@@ -48,7 +48,7 @@ AreListed told definitions = (id : ℕ) (row : CatRow) → slice_get told id ≡
     → (l : Listed) × (slice_get definitions id ≡ Some l) × (l.def ≡ row.def)
 
 -- so it is of the rows of a registry that the pass knew, at each later version
-pub are_listed : (v u : View) (r : Registry) (known : Known) (ask : Ask) (position : ℕ) → Stands u → Learns v u
+pub are_listed : (v u : View) (r : Registry) (known : Known) (ask : Ask) (position : ℕ) → IsOfMoment u → Learns v u
     → KnowsRegistry v r → IsNamed v u known ask position → AreListed r.rows (rows_of known)
 are_listed v u r known ask position stands learns registry named id row there =
     let reached = registry.reached in
@@ -86,7 +86,7 @@ module _ (v u : View) (told rows : List CatRow) (definitions : List Listed) (tex
       }
 
   -- a covered number lies in one of the intervals
-  covered_held : (n : ℕ) → IsCoveredNumber told rows text n → IsHeld h.intervals n
+  covered_held : (n : ℕ) → IsCoveredNumber told rows text n → IsHeldBy h.intervals n
   covered_held n c =
       let l = listed c.id c.row c.there in
       let word = (read c.id c.row c.there).0 c.begun.from c.begun.begins in
@@ -252,7 +252,7 @@ module _ (v u : View) (rows : List CatRow) (definitions : List Listed) (text : L
 -- ---- what was read are the rows' boundaries
 
 -- a boundary word that the control pass knows is that of a row that the registrar keeps
-module _ (t : View) (s : Registrar) (stands : Stands t) (knows : Knows t s) where
+module _ (t : View) (s : Registrar) (stands : IsOfMoment t) (knows : Knows t s) where
   row_with : (id i n : ℕ) → id < 256 → i < 2 → Among (record { index = row_at id i; value = suc n }) t.learned.words
       → (row : CatRow) × (slice_get s.catalog id ≡ Some row) × (control_word t.control_words (row_at id i) ≡ suc n)
   row_with id i n few bound among =

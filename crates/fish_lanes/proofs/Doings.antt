@@ -8,16 +8,16 @@ use Rattle.fish_catalog.specs.Limits.{most_active}
 use Rattle.fish_catalog.specs.Rows.{HasActive, is_active}
 use Rattle.fish_lanes.proofs.Registrations.{begun_is, few_versions, none_id, none_waits, waits_id}
 use Rattle.fish_lanes.specs.within.Controlling.{Does, RollsBy, SaysBegun, SaysTail, deregister_cause, register_cause}
-use Rattle.fish_lanes.specs.Registering.{IsDeregisterCause, IsRegisterCause, KnowsRegistry, MayChange, MayRegister}
+use Rattle.fish_lanes.specs.Registering.{IsDeregisterCause, IsRegisterCause, KnowsRegistry, MayAlter, MayRegister}
 use Rattle.fish_lanes.specs.Registering.{Registry, begun, bound, registry_of, waiting_id}
 use Rattle.fish_lang.specs.Canonical.{definition_text}
 use Rattle.fish_lang.specs.Definition.{definition_of}
 use Rattle.fish_lang.specs.declared.definition.Def.{Def}
 use Rattle.fish_registry.proofs.Changing.{same_tail}
-use Rattle.fish_registry.specs.Changing.{Stays}
+use Rattle.fish_registry.specs.Changing.{OnlyLoads}
 use Rattle.fish_registry.specs.Knowing.{IsWaiting}
 use Rattle.fish_registry.specs.Refusing as registry
-use Rattle.fish_registry.specs.Refusing.{HasBegun}
+use Rattle.fish_registry.specs.Refusing.{HasBegunChange}
 use Rattle.fish_registry.specs.declared.outcome.RegRefusal.{RegRefusal}
 use Rattle.fish_registry.specs.declared.outcome.RegRefusal.TheVariants as refusal
 use Rattle.fish_registry.specs.declared.registrar.Registrar.{Registrar}
@@ -47,7 +47,7 @@ module _ {A : Type 0} (v : View) (r : Registrar) (result : Result A RegRefusal)
     (rolling : (id : ℕ) → (result ≡ Err (refusal.Rolling id)) ↔ IsWaiting r id)
     (versions : (result ≡ Err refusal.TooManyVersions) ↔ ((r.waiting ≡ None) × (512 ≤ v.learned.version))) where
   -- where a definition may come or go
-  pub may_change : registry.MayChange r v → MayChange (registry_of v r)
+  pub may_change : registry.MayChange r v → MayAlter (registry_of v r)
   may_change may = record { settled = none_id r.waiting may.settled; few = may.few }
 
   change_here : (a : A) → result ≡ Ok a → registry.MayChange r v
@@ -59,7 +59,7 @@ module _ {A : Type 0} (v : View) (r : Registrar) (result : Result A RegRefusal)
             (λ many. ok_or_err result a refusal.TooManyVersions is (versions.1 many));
       }
 
-  pub changed_here : (a : A) → result ≡ Ok a → MayChange (registry_of v r)
+  pub changed_here : (a : A) → result ≡ Ok a → MayAlter (registry_of v r)
   changed_here a is = may_change (change_here a is)
 
   module _ (name : List ℕ)
@@ -145,7 +145,7 @@ rolls_before v u t (item.Rolling name id def lane older) on h = loaded_within v.
 rolls_before v u t x on h = tt
 
 -- a refusal changes nothing
-pub registry_stays : (v t : View) (r s : Registrar) → s ≡ r → Stays v t → registry_of t s ≡ registry_of v r
+pub registry_stays : (v t : View) (r s : Registrar) → s ≡ r → OnlyLoads v t → registry_of t s ≡ registry_of v r
 registry_stays v t r s same stays i =
     record {
       rows = (same i).catalog;
@@ -156,7 +156,7 @@ registry_stays v t r s same stays i =
 -- ---- what was begun
 
 module _ (v u t : View) (r q s : Registrar) (name text : List ℕ) (def : Def) (id : ℕ) (x : Item)
-    (begins : HasBegun v r name def u q id) (is_text : text ≡ definition_text (definition_of def))
+    (begins : HasBegunChange v r name def u q id) (is_text : text ≡ definition_text (definition_of def))
     (may : MayRegister (registry_of v r) name) (count : v.learned.count ≤ u.learned.count) where
   -- its item does what it tells
   pub does_begun : SaysBegun u q t s name id text x → Does v r t s x

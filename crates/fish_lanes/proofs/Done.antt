@@ -5,12 +5,12 @@ use Rattle.fish_lanes.proofs.Answered.{plan_told, refused_told, scan_told}
 use Rattle.fish_lanes.proofs.Fitting.{refused_version}
 use Rattle.fish_lanes.proofs.Claims.{claim_shown}
 use Rattle.fish_lanes.proofs.Gaining.{alone_gains, gains_self}
-use Rattle.fish_lanes.proofs.Items.{made, shown_in}
+use Rattle.fish_lanes.proofs.Items.{made_by_all, shown_in}
 use Rattle.fish_lanes.proofs.Publishing.{published_later, settled_published, told_published}
 use Rattle.fish_lanes.proofs.RowLists.{ascends_le}
 use Rattle.fish_lanes.specs.within.Doing.{FitsCheckpoint, FitsRefused, IsFit}
 pub use Rattle.fish_lanes.specs.within.Advancing.{HasAnswered}
-use Rattle.fish_lanes.specs.within.Gains.{AreKnown}
+use Rattle.fish_lanes.specs.within.Gains.{AreRowsKnown}
 use Rattle.fish_lanes.specs.within.Published.{IsPublished}
 use Rattle.fish_lanes.specs.Records.{HasNumber, LaneRow}
 use Rattle.fish_lanes.specs.within.Records.{Ascends, entry_of}
@@ -62,7 +62,7 @@ told_self Past v outside idle = record {
 -- ---- what was seen
 
 -- a row that is told is published
-row_published : (v : View) (lane from to n : ℕ) (rows : List LaneRow) → AreKnown v lane rows → Ascends from rows to
+row_published : (v : View) (lane from to n : ℕ) (rows : List LaneRow) → AreRowsKnown v lane rows → Ascends from rows to
     → to ≤ v.learned.count → HasNumber n rows → IsPublished v n
 row_published v lane from to n [] told up few h = elim h [ ]
 row_published v lane from to n (r ∷ rows) told up few (inl e) =
@@ -99,7 +99,7 @@ module _ (Past : Whole → Type 0) (v u t : View) (works : List Work) (items : L
 
   -- after the items so far
   abbrev pub now : Span
-  now = record s { first = s.first + made items }
+  now = record s { first = s.first + made_by_all items }
 
   within_now : IsWithinSpan u t now
   within_now =

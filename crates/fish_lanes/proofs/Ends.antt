@@ -12,7 +12,7 @@ use Rattle.fish_lanes.proofs.Registrations.{after_more, knows_kept, registry_lat
 use Rattle.fish_lanes.specs.Blocks.{HasRegistered, IsBlockSpan}
 use Rattle.fish_lanes.specs.within.Blocks.{HasGiven, HasTakenAll}
 use Rattle.fish_lanes.specs.within.Controlled.{HasControlled}
-use Rattle.fish_lanes.specs.within.Controlling.{IsFound}
+use Rattle.fish_lanes.specs.within.Controlling.{IsBoundaryFound}
 use Rattle.fish_lanes.specs.within.Course.{HasFoundEnd, HasRunLanes}
 use Rattle.fish_lanes.specs.Pending.{AreFound}
 use Rattle.fish_lanes.specs.Registering.{ItemsFit, ItemFits, KnowsEach, KnowsRegistry, Registry, after, after_all, registry_of, waiting_id}
@@ -31,7 +31,7 @@ use Rattle.fish_rule.proofs.laws.Learning.{learns_both}
 use Rattle.fish_rule.specs.Logs.{Learns}
 use Rattle.fish_rule.specs.LoadSteps.{IsAlone}
 use Rattle.fish_rule.specs.Registry.{KnowsDefinitions}
-use Rattle.fish_rule.specs.Table.{Stands}
+use Rattle.fish_rule.specs.Table.{IsOfMoment}
 use Rattle.fish_rule.specs.declared.table.Log.{Log}
 use Rattle.fish_rule.specs.declared.view.Key.{Key}
 use Rattle.fish_rule.specs.declared.view.Learned.{Learned}
@@ -96,7 +96,7 @@ end_start p t settles can = record {
 
 module _ {Past : Whole → Type 0} {log : Log} {v u t : View} {r q s : Registrar} {first first' : Lane} {others others' : List Lane}
     {end : BlockEnd} (lanes : HasRunLanes Past log v u r q first first' others others') (ended : HasFoundEnd u t q s end)
-    (su : Stands u) (ku : Knows u q) (st : Stands t)
+    (su : IsOfMoment u) (ku : Knows u q) (st : IsOfMoment t)
     (near : (k : Span) → IsBlockSpan v t end.to k → (k.from ≤ v.learned.count) × (t.learned.count ≤ k.to + 16)) where
   controlled : HasControlled Past lanes.run.control lanes.ran r q first'.works first'.items first'.fault
   controlled = lanes.run.first_did.controlled
@@ -149,7 +149,7 @@ module _ {Past : Whole → Type 0} {log : Log} {v u t : View} {r q s : Registrar
       (later_both u.clock ended.bound.clock t.clock ended.changes.clock ended.settles.clock))
 
   -- the definitions are those that the items tell, and the boundary that was found, if one was
-  told_with : (bound : Option Boundary) → IsFound u q ended.bound s bound
+  told_with : (bound : Option Boundary) → IsBoundaryFound u q ended.bound s bound
       → HasRegistered v t r s first' (record { to = end.to; bound = bound })
   told_with None found = record {
     found = found_end;

@@ -7,7 +7,7 @@ use Rattle.fish_cold.specs.Carries.{CarriesTable}
 use Rattle.fish_cold.specs.declared.cold.Cold.{Cold}
 use Rattle.fish_lanes.specs.within.Causes.{fault_of, or_memory, or_stop}
 use Rattle.fish_lanes.specs.within.Doing.{IsPart, IsStopped}
-use Rattle.fish_lanes.specs.within.Parts.{StopsAt}
+use Rattle.fish_lanes.specs.within.Parts.{StopsBy}
 use Rattle.fish_lanes.specs.within.Pasts.{IsHere}
 use Rattle.fish_lanes.specs.declared.statements.Stop.{Stop}
 use Rattle.fish_lanes.specs.declared.statements.Stop.TheVariants as stop
@@ -65,23 +65,23 @@ other_part v u w stop.Older no_scan h = absurd (no_scan h.0 h.1)
 -- ---- how a statement stops
 
 -- without memory it stops for no cause of the disk
-pub memory_stops : (Past : Whole → Type 0) (before now : ℕ) → before ≤ now → StopsAt Past before now fault.Memory
+pub memory_stops : (Past : Whole → Type 0) (before now : ℕ) → before ≤ now → StopsBy Past before now fault.Memory
 memory_stops Past before now later = ((λ bad. absurd cc), record { later = later; cause = tt; whole = λ past behind. tt })
 
 pub or_memory_stops : (Past : Whole → Type 0) {T E : Type 0} (before now : ℕ) (r : Result T E) → before ≤ now
-    → IfErr (or_memory r) (StopsAt Past before now)
+    → IfErr (or_memory r) (StopsBy Past before now)
 or_memory_stops Past before now (Ok x) later = tt
 or_memory_stops Past before now (Err e) later = memory_stops Past before now later
 
 -- by a fault of the store's file
 pub refusal_stops : (content : Option (List ℕ)) (k : Key) (cold : Cold) (before now : ℕ) (r : ScanRefusal) (why : LaneFault) → before ≤ now
     → IsScanFault {T = Answer} before now (Err r) → (CarriesTable content k cold → IsUndamagedScan r) → fault_of r ≡ Some why
-    → StopsAt (IsHere content k cold) before now why
+    → StopsBy (IsHere content k cold) before now why
 refusal_stops content k cold before now refusal.DiskFault why later rose whole is =
-    subst (StopsAt (IsHere content k cold) before now) (same_Some fault.Disk why is)
+    subst (StopsBy (IsHere content k cold) before now) (same_Some fault.Disk why is)
     ((λ bad. absurd cc), record { later = later; cause = rose refl; whole = λ past here. tt })
 refusal_stops content k cold before now (refusal.Damaged n) why later rose whole is =
-    subst (StopsAt (IsHere content k cold) before now) (same_Some (fault.Damaged n) why is)
+    subst (StopsBy (IsHere content k cold) before now) (same_Some (fault.Damaged n) why is)
     ((λ bad. absurd cc), record { later = later; cause = tt; whole = λ past here. elim (whole here.table) [ ] })
 refusal_stops content k cold before now (refusal.UnknownName version) why later rose whole is = absurd cc
 refusal_stops content k cold before now (refusal.EmptyRange from to) why later rose whole is = absurd cc
@@ -91,6 +91,6 @@ refusal_stops content k cold before now refusal.OutOfMemory why later rose whole
 
 -- and with the part of it that was done
 pub stops_scan : (Past : Whole → Type 0) (P : Type 0) {T : Type 0} (before now : ℕ) (r : Result T LaneFault) → IfErr r (λ _. P)
-    → IfErr r (StopsAt Past before now) → IfErr r (λ e. P × StopsAt Past before now e)
+    → IfErr r (StopsBy Past before now) → IfErr r (λ e. P × StopsBy Past before now e)
 stops_scan Past P before now (Ok x) part stops = tt
 stops_scan Past P before now (Err e) part stops = (part, stops)

@@ -6,14 +6,14 @@ use Rattle.fish_lanes.proofs.Advancing.{run_fewer}
 use Rattle.fish_lanes.proofs.Full.{unshut_test}
 use Rattle.fish_lanes.proofs.Lists.{some_once}
 use Rattle.fish_lanes.proofs.SoFar.{far_self}
-use Rattle.fish_lanes.specs.within.Advancing.{HasFinished, HasGone, IsOn, IsOnAnyhow, IsShort, IsSoFar}
-use Rattle.fish_lanes.specs.Causes.{HasCause, IsUndamaged}
+use Rattle.fish_lanes.specs.within.Advancing.{HasFinished, HasGone, IsOn, IsOnAnyhow, IsShortFault, IsWorkSoFar}
+use Rattle.fish_lanes.specs.Causes.{HasFaultCause, IsUndamaged}
 use Rattle.fish_lanes.specs.Full.{IsNotFull}
 use Rattle.fish_lanes.specs.within.Full.{SaysLast}
 use Rattle.fish_lanes.specs.Outcome.{Stops}
 use Rattle.fish_lanes.specs.within.Pasts.{WasHere}
 use Rattle.fish_lanes.specs.within.Running.{CanBegin, HasDone, HasRun, SayPlans}
-use Rattle.fish_lanes.specs.Spans.{IsAnswer}
+use Rattle.fish_lanes.specs.Spans.{IsAnswerItem}
 use Rattle.fish_lanes.specs.declared.lane.Lane.{Lane}
 use Rattle.fish_lanes.specs.declared.lane.LanePass.{LanePass}
 use Rattle.fish_lanes.specs.declared.work.LaneFault.{LaneFault}
@@ -45,7 +45,7 @@ on_fault v u works items (fault.Damaged n) named h = h
 
 -- one that stopped at none is so far
 pub on_far : (Past : Whole → Type 0) (v u : View) (works : List Work) (items : List Item) (why : LaneFault) → why ≡ fault.None
-    → IsOn Past v u works items why → IsSoFar Past v u works items
+    → IsOn Past v u works items why → IsWorkSoFar Past v u works items
 on_far Past v u works items why none h = subst (IsOn Past v u works items) none h
 
 -- what is finished after some pasts is finished after each of these
@@ -77,7 +77,7 @@ done_both Past P full log x y z fewer empty gone can told fin =
     let on : IsOnAnyhow start (view fin.before.pass) y.works y.items y.fault =
     subst (λ (p : LanePass × List Work). IsOnAnyhow start (view p.0.pass) p.1 y.items y.fault) (λ i. (seat i, sym gone.works i))
     (λ content k cold later. gone.on start content k cold later
-    (subst (IsSoFar (WasHere content k cold later) start start x.works) (sym empty)
+    (subst (IsWorkSoFar (WasHere content k cold later) start start x.works) (sym empty)
     (far_self (WasHere content k cold later) start x.works can.start.outside (idle_law start can.of.stands can.start)
     (learns_self start)))) in
     let ran = fin.run start on in
@@ -90,12 +90,12 @@ done_both Past P full log x y z fewer empty gone can told fin =
       run = run_fewer P Past start (view fin.after.pass) z.works z.items z.fault fewer ran.0;
       plans = ran.1;
       stops = record {
-        cut = λ some. let cut = fin.cut (gone.answers (subst (AllOf IsAnswer) (sym empty) tt)) some in
+        cut = λ some. let cut = fin.cut (gone.answers (subst (AllOf IsAnswerItem) (sym empty) tt)) some in
             record { fault = cut.0; unshut = unshut_test start.shut (sym told ∙ cut.1); shut = cut.2 };
         last = λ unshut. fin.last (told ∙ ap is_some unshut) (subst (λ (s : LanePass). SaysLast (view s.pass) y.items y.fault) seat
             (gone.last unshut (subst (AllOf IsNotFull) (sym empty) tt)));
       };
-      answers = fin.answers (gone.answers (subst (AllOf IsAnswer) (sym empty) tt));
+      answers = fin.answers (gone.answers (subst (AllOf IsAnswerItem) (sym empty) tt));
       works = sym gone.works ∙ fin.works;
       number = fin.number ∙ gone.number;
     }
@@ -103,14 +103,14 @@ done_both Past P full log x y z fewer empty gone can told fin =
 -- ---- faults
 
 -- a fault that had a cause has it later
-cause_later : (before now then : ℕ) (why : LaneFault) → now ≤ then → HasCause before now why → HasCause before then why
+cause_later : (before now then : ℕ) (why : LaneFault) → now ≤ then → HasFaultCause before now why → HasFaultCause before then why
 cause_later before now then fault.None le h = tt
 cause_later before now then fault.Memory le h = tt
 cause_later before now then fault.Disk le h = (let rose = h in omega arith)
 cause_later before now then (fault.Damaged n) le h = tt
 
 -- and since an earlier moment
-pub cause_before : (first before now : ℕ) (why : LaneFault) → first ≤ before → HasCause before now why → HasCause first now why
+pub cause_before : (first before now : ℕ) (why : LaneFault) → first ≤ before → HasFaultCause before now why → HasFaultCause first now why
 cause_before first before now fault.None le h = tt
 cause_before first before now fault.Memory le h = tt
 cause_before first before now fault.Disk le h = (let rose = h in omega arith)
@@ -139,11 +139,11 @@ pub stops_fault : (Past : Whole → Type 0) (before now : ℕ) (a b : LaneFault)
 stops_fault Past before now a b same h = subst (Stops Past before now) (sym same) h
 
 -- without its disk a lane stops for no cause of it
-pub short_stops : (Past : Whole → Type 0) (before now : ℕ) (why : LaneFault) → before ≤ now → IsShort why → Stops Past before now why
+pub short_stops : (Past : Whole → Type 0) (before now : ℕ) (why : LaneFault) → before ≤ now → IsShortFault why → Stops Past before now why
 short_stops Past before now why le short = record {
   later = le;
-  cause = ⊎_elim (λ (none : why ≡ fault.None). subst (HasCause before now) (sym none) tt)
-      (λ (memory : why ≡ fault.Memory). subst (HasCause before now) (sym memory) tt) short;
+  cause = ⊎_elim (λ (none : why ≡ fault.None). subst (HasFaultCause before now) (sym none) tt)
+      (λ (memory : why ≡ fault.Memory). subst (HasFaultCause before now) (sym memory) tt) short;
   whole = λ past behind. ⊎_elim (λ (none : why ≡ fault.None). subst IsUndamaged (sym none) tt)
       (λ (memory : why ≡ fault.Memory). subst IsUndamaged (sym memory) tt) short;
 }

@@ -4,10 +4,10 @@ use Rattle.std.proofs.Common.{refl, set, slice_get}
 use Rattle.std.proofs.Common.{subst, sym, take}
 use Rattle.fish_lanes.proofs.Lists.{some_once}
 use Rattle.fish_lanes.specs.Blocks.{AreKept, AreLanes, IsKept, IsNewLane}
-use Rattle.fish_lanes.specs.Ending.{HasEnd}
+use Rattle.fish_lanes.specs.Ending.{EndsAlone}
 use Rattle.fish_lanes.specs.Outcome.{AreVacant}
 use Rattle.fish_lanes.specs.declared.lane.Lane.{Lane}
-use Rattle.fish_lanes.specs.within.Blocks.{CanGive, IsFirst}
+use Rattle.fish_lanes.specs.within.Blocks.{CanGive, IsFirstLane}
 use Rattle.fish_lanes.specs.Registering.{KnowsRegistry, registry_of}
 use Rattle.fish_registry.specs.declared.registrar.Registrar.{Registrar}
 use Rattle.fish_rule.specs.declared.view.View.{View}
@@ -16,7 +16,7 @@ use Rattle.fish_rule.specs.declared.view.View.{View}
 
 module _ (v : View) (x : Lane) (others : List Lane) (h : AreLanes (x ∷ others)) where
   -- the first lane is new, and its statements are acceptable
-  pub first_ready : (r : Registrar) → KnowsRegistry v (registry_of v r) → IsFirst v r x
+  pub first_ready : (r : Registrar) → KnowsRegistry v (registry_of v r) → IsFirstLane v r x
   first_ready r known = record {
     known = known;
     acceptable = h.acceptable x refl;
@@ -25,7 +25,7 @@ module _ (v : View) (x : Lane) (others : List Lane) (h : AreLanes (x ∷ others)
   }
 
   -- the others may get passes
-  pub others_new : (from : ℕ) → HasEnd v from → CanGive v others
+  pub others_new : (from : ℕ) → EndsAlone v from → CanGive v others
   others_new from e = record {
     control = e.alone.control;
     all = e.alone.all;

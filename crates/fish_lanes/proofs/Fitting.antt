@@ -10,7 +10,7 @@ use Rattle.fish_cold.specs.declared.cold.Cold.{Cold}
 use Rattle.fish_lanes.proofs.Across.{none_selected}
 use Rattle.fish_lanes.proofs.Answered.{named_version, rise_above}
 use Rattle.fish_lanes.specs.within.Doing.{FitsExplained, FitsRefused, FitsScanned, IsAnswerBehind, IsAnswerHere, IsExplainedAnswer}
-use Rattle.fish_lanes.specs.within.Doing.{IsRefusedAt, IsRefusedItem, cause_of, refusal_of}
+use Rattle.fish_lanes.specs.within.Doing.{IsRefusedAt, IsRefusedItem, cause_of, scan_refusal_at}
 use Rattle.fish_lanes.specs.Doing.{explained_item, scanned_item}
 use Rattle.fish_lanes.specs.Loading.{LoadsInTable}
 use Rattle.fish_lanes.specs.within.Pasts.{IsHere, anywhere}
@@ -54,17 +54,17 @@ refused_fits v u known ask (refusal.UnknownName n) version why h is at = record 
   known = known;
   version_is = at;
   refused = subst (λ (z : ScanRefusal). IsRefused v u known ask z)
-      (ap refusal.UnknownName (h.0 ∙ sym at) ∙ ap (refusal_of version) (same_Some _ _ is)) h;
+      (ap refusal.UnknownName (h.0 ∙ sym at) ∙ ap (scan_refusal_at version) (same_Some _ _ is)) h;
 }
 refused_fits v u known ask (refusal.EmptyRange from to) version why h is at = record {
   known = known;
   version_is = at;
-  refused = subst (λ (z : ScanRefusal). IsRefused v u known ask z) (ap (refusal_of version) (same_Some _ _ is)) h;
+  refused = subst (λ (z : ScanRefusal). IsRefused v u known ask z) (ap (scan_refusal_at version) (same_Some _ _ is)) h;
 }
 refused_fits v u known ask (refusal.NotCovered from to) version why h is at = record {
   known = known;
   version_is = at;
-  refused = subst (λ (z : ScanRefusal). IsRefused v u known ask z) (ap (refusal_of version) (same_Some _ _ is)) h;
+  refused = subst (λ (z : ScanRefusal). IsRefused v u known ask z) (ap (scan_refusal_at version) (same_Some _ _ is)) h;
 }
 refused_fits v u known ask (refusal.ColdRange base) version why h is at = absurd cc
 refused_fits v u known ask refusal.DiskFault version why h is at = absurd cc

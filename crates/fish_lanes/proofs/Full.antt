@@ -4,12 +4,12 @@ use Rattle.std.proofs.Common.{⊎_elim, subst, Ok, Err}
 use Rattle.std.specs.Prelude.{is_some}
 use Rattle.fish_lanes.proofs.Lists.{all_more}
 use Rattle.fish_lanes.proofs.Showing.{full_fit}
-use Rattle.fish_lanes.specs.within.Advancing.{HasNext}
-use Rattle.fish_lanes.specs.within.Causes.{fault_at}
+use Rattle.fish_lanes.specs.within.Advancing.{HasNextItem}
+use Rattle.fish_lanes.specs.within.Causes.{fault_of_stop}
 use Rattle.fish_lanes.specs.within.Controlling.{HasPolled}
 use Rattle.fish_lanes.specs.within.Doing.{IsFit}
 use Rattle.fish_lanes.specs.Full.{AreFullLast, EndsFull, IsNotFull}
-use Rattle.fish_lanes.specs.within.Full.{HasFound, SaysLast}
+use Rattle.fish_lanes.specs.within.Full.{HasMetFull, SaysLast}
 use Rattle.fish_lanes.specs.Gains.{WasShut}
 use Rattle.fish_lanes.specs.within.Pasts.{anywhere}
 use Rattle.fish_lanes.specs.within.Running.{IsFullItem}
@@ -79,30 +79,30 @@ ends_full c items x none (file, stored, refused, inr m) = elim m [ ]
 
 -- so is it with the item of one statement more, where the pass wasn't shut before
 pub found_more : (Past : Whole → Type 0) (u t : View) (w : Work) (items : List Item) (x : Item) → u.shut ≡ None → AllOf IsNotFull items
-    → IsFit Past u t w x → SaysShut u t (x ∷ []) → HasFound t (items ++ x ∷ [])
+    → IsFit Past u t w x → SaysShut u t (x ∷ []) → HasMetFull t (items ++ x ∷ [])
 found_more Past u t w items x unshut none fit shuts = by t.shut refl
   where
-    by : (o : Option Shut) → t.shut ≡ o → HasFound t (items ++ x ∷ [])
+    by : (o : Option Shut) → t.shut ≡ o → HasMetFull t (items ++ x ∷ [])
     by None e = inl (e, all_more IsNotFull items x none (not_full t x (full_fit Past u t w x fit) e))
     by (Some c) e = ⊎_elim (λ (old : u.shut ≡ Some c). absurd (not_both u unshut (c, old)))
         (λ (claim : SaysClaim c (x ∷ [])). inr ((c, e), ends_full c items x none claim)) (shuts c e)
 
 -- the items of a pass that isn't shut
-pub found_none : (u : View) (items : List Item) → HasFound u items → u.shut ≡ None → AllOf IsNotFull items
+pub found_none : (u : View) (items : List Item) → HasMetFull u items → u.shut ≡ None → AllOf IsNotFull items
 found_none u items (inl h) unshut = h.1
 found_none u items (inr h) unshut = absurd (not_both u unshut h.0)
 
 -- those of one that is
-pub found_full : (u : View) (items : List Item) → HasFound u items → WasShut u → EndsFull items
+pub found_full : (u : View) (items : List Item) → HasMetFull u items → WasShut u → EndsFull items
 found_full u items (inl h) shut = absurd (not_both u h.0 shut)
 found_full u items (inr h) shut = h.1
 
-found_last : (u : View) (items : List Item) → HasFound u items → AreFullLast items
+found_last : (u : View) (items : List Item) → HasMetFull u items → AreFullLast items
 found_last u items (inl h) = inl h.1
 found_last u items (inr h) = inr h.1
 
 -- what a lane tells that met no fault, or any
-pub found_tells : (u : View) (items : List Item) (why : LaneFault) → HasFound u items → SaysLast u items why
+pub found_tells : (u : View) (items : List Item) (why : LaneFault) → HasMetFull u items → SaysLast u items why
 found_tells u items why h = record { full = found_last u items h; found = λ e. h }
 
 -- and one that stopped at a fault
@@ -113,15 +113,15 @@ fault_tells u items why named none = record { full = inl none; found = λ e. abs
 
 module _ (u t : View) (w : Work) (old new : List Item) (unshut : u.shut ≡ None) (none : AllOf IsNotFull old) where
   -- it has its item
-  pub next_found : (done : Unit {0}) → HasNext u t w old new (Ok done) → HasFound t new
-  next_found done n = subst (HasFound t) (sym n.1) (found_more anywhere u t w old n.0 unshut none n.2.fit n.2.shuts)
+  pub next_found : (done : Unit {0}) → HasNextItem u t w old new (Ok done) → HasMetFull t new
+  next_found done n = subst (HasMetFull t) (sym n.1) (found_more anywhere u t w old n.0 unshut none n.2.fit n.2.shuts)
 
   -- it has none: memory ran out, or it is a scan of older records
-  pub stopped_found : (why : Stop) → HasNext u t w old new (Err why) → SaysLast t new (fault_at why)
+  pub stopped_found : (why : Stop) → HasNextItem u t w old new (Err why) → SaysLast t new (fault_of_stop why)
   stopped_found stop.Memory n = subst (λ (z : List Item). SaysLast t z fault.Memory) (sym n.0)
       (fault_tells t old fault.Memory (λ e. absurd cc) none)
   stopped_found stop.Older n = found_tells t new fault.None
-      (subst (HasFound t) (sym n.0) (inl (ap (λ (z : View). z.shut) n.1.2.frame ∙ unshut, none)))
+      (subst (HasMetFull t) (sym n.0) (inl (ap (λ (z : View). z.shut) n.1.2.frame ∙ unshut, none)))
 
 -- ---- a look for a boundary
 

@@ -7,9 +7,9 @@ use Rattle.fish_ingest.specs.declared.refusal.IngestRefusal.{IngestRefusal}
 use Rattle.fish_ingest.specs.declared.refusal.IngestRefusal.TheVariants as refusal
 use Rattle.fish_ingest.specs.Ingestion.{CanStart, HasIngested}
 use Rattle.fish_lanes.proofs.RowLists.{ascends_append, owned_append, told_append, told_later}
-use Rattle.fish_flush.specs.Carrying.{Reads}
+use Rattle.fish_flush.specs.Carrying.{ReadsLog}
 use Rattle.fish_lanes.specs.Gains.{IsMarkAt, IsShutSaid, KeepsShut}
-use Rattle.fish_lanes.specs.within.Gains.{AreKnown, Gains, IsFullBy, KeepsLane}
+use Rattle.fish_lanes.specs.within.Gains.{AreRowsKnown, Gains, IsFullBy, KeepsLane}
 use Rattle.fish_lanes.specs.Records.{LaneRow}
 use Rattle.fish_lanes.specs.within.Records.{owned}
 use Rattle.fish_rule.specs.declared.view.Epoch.TheVariants.{Out}
@@ -26,7 +26,7 @@ use Rattle.fish_rule.specs.LoadSteps.{IsAlone}
 use Rattle.fish_rule.specs.Logs.{Learns}
 use Rattle.fish_rule.specs.ChainFacts.{Always}
 use Rattle.fish_rule.specs.declared.view.Kind.TheVariants.{Mark}
-use Rattle.fish_rule.specs.Table.{Stands}
+use Rattle.fish_rule.specs.Table.{IsOfMoment}
 use Rattle.fish_rule.specs.declared.view.Key.{Key}
 use Rattle.fish_rule.specs.declared.view.Shut.{Shut}
 use Rattle.fish_rule.specs.declared.view.View.{View}
@@ -61,7 +61,7 @@ gains_both a b c xs ys p q = record {
       ∙ ap (λ (z : List Own). a.own ++ z) (sym (owned_append a.lane xs ys));
   ascends = ascends_append a.learned.count b.learned.count c.learned.count xs ys p.ascends q.ascends;
   told = told_append c a.lane xs ys (told_later b c a.lane xs q.on.learns p.told)
-      (subst (λ (z : ℕ). AreKnown c z ys) p.on.lane q.told);
+      (subst (λ (z : ℕ). AreRowsKnown c z ys) p.on.lane q.told);
   shut = λ s e. q.shut s (p.shut s e);
   marks = λ t. q.marks (p.marks t);
 }
@@ -125,7 +125,7 @@ gains_scans v u outside idle h = record {
 }
 
 -- by a checkpoint
-pub gains_reads : (v u : View) → v.epoch ≡ Out → v.flight ≡ None → Reads v u → Gains v u []
+pub gains_reads : (v u : View) → v.epoch ≡ Out → v.flight ≡ None → ReadsLog v u → Gains v u []
 gains_reads v u outside idle h = record {
   on = record {
     learns = h.learns;
@@ -187,7 +187,7 @@ marks_refused v u form payload (refusal.Full line lines end) h t s e = by h.by_c
         (mark_always u shut_of late.mark)
 
 -- two marks at one line are one
-pub same_lines : (t : View) (line a b : ℕ) → Stands t → Always t (IsMarkAt line a) → Always t (IsMarkAt line b) → a ≡ b
+pub same_lines : (t : View) (line a b : ℕ) → IsOfMoment t → Always t (IsMarkAt line a) → Always t (IsMarkAt line b) → a ≡ b
 same_lines t line a b s one two =
     let w = s.moment in
     let r = s.rule in
@@ -218,7 +218,7 @@ same_lines t line a b s one two =
         omega arith
 
 -- the claim that shut a pass ends past the log's end
-pub full_by : (u : View) (line lines end : ℕ) → Stands u → u.shut ≡ Some (record { line = line; lines = lines; end = end })
+pub full_by : (u : View) (line lines end : ℕ) → IsOfMoment u → u.shut ≡ Some (record { line = line; lines = lines; end = end })
     → IsFullBy u line lines end
 full_by u line lines end s is =
     let r = s.rule in

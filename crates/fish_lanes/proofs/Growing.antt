@@ -6,7 +6,7 @@ use Rattle.fish_catalog.specs.declared.row.CatRow.{CatRow}
 use Rattle.fish_flush.proofs.Lasting.{grown_begins, grown_ends, grown_polls}
 use Rattle.fish_lang.specs.declared.definition.Def.{Def}
 use Rattle.fish_registry.specs.Changing.{Changes}
-use Rattle.fish_registry.specs.Refusing.{HasBegun, PollSays}
+use Rattle.fish_registry.specs.Refusing.{HasBegunChange, PollSays}
 use Rattle.fish_registry.specs.declared.outcome.Poll.{Poll}
 use Rattle.fish_registry.specs.declared.registrar.Registrar.{Registrar}
 use Rattle.fish_rule.specs.declared.view.View.{View}
@@ -18,7 +18,7 @@ pub rows_polled : (v u : View) (r s : Registrar) (answer : Poll) → Changes v u
 rows_polled v u r s answer changes tells n old le grown = grown_polls n old v u r s answer grown le changes tells
 
 -- a registration
-pub rows_begun : (v u : View) (r s : Registrar) (name : List ℕ) (def : Def) (id : ℕ) → HasBegun v r name def u s id
+pub rows_begun : (v u : View) (r s : Registrar) (name : List ℕ) (def : Def) (id : ℕ) → HasBegunChange v r name def u s id
     → RowsGoOn v r.catalog s.catalog
 rows_begun v u r s name def id begun n old le grown = grown_begins n old v u r s name def id grown begun
 

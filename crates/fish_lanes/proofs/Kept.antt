@@ -9,18 +9,18 @@ use Rattle.fish_lanes.proofs.Lists.{filter_first}
 use Rattle.fish_lanes.proofs.Plans.{plans_longer}
 use Rattle.fish_lanes.proofs.Saying.{said_cut}
 use Rattle.fish_lanes.proofs.Single.{none_there, only_last}
-use Rattle.fish_lanes.specs.within.Advancing.{IsOn, IsSoFar}
-use Rattle.fish_lanes.specs.Causes.{HasCause, IsUndamaged}
+use Rattle.fish_lanes.specs.within.Advancing.{IsOn, IsWorkSoFar}
+use Rattle.fish_lanes.specs.Causes.{HasFaultCause, IsUndamaged}
 use Rattle.fish_lanes.specs.within.Controlled.{HasControlled}
 use Rattle.fish_lanes.specs.within.Full.{IsHandedBack, StopsFull, SaysLast, done_of}
 use Rattle.fish_lanes.specs.Gains.{WasShut}
-use Rattle.fish_lanes.specs.Plans.{KnowsRows}
-use Rattle.fish_lanes.specs.Records.{LaneRow, contents}
+use Rattle.fish_lanes.specs.Plans.{KnowsListed}
+use Rattle.fish_lanes.specs.Records.{LaneRow, contents_of_rows}
 use Rattle.fish_lanes.specs.Registering.{registry_of}
 use Rattle.fish_lanes.specs.within.Running.{HasRun, SayPlans}
 use Rattle.fish_lanes.specs.Seen.{Shown, shown_by}
 use Rattle.fish_lanes.specs.Single.{SaysSingle}
-use Rattle.fish_lanes.specs.Spans.{IsAnswer, Span, answers, behind, is_answer}
+use Rattle.fish_lanes.specs.Spans.{IsAnswerItem, Span, answers, span_after, is_answer}
 use Rattle.fish_lanes.specs.Telling.{SaysItems}
 use Rattle.fish_lanes.specs.declared.lane.Lane.{Lane}
 use Rattle.fish_lanes.specs.declared.work.LaneFault.{LaneFault}
@@ -69,7 +69,7 @@ rest_there (w ∷ works) (suc n) less =
 says_short : (z : Whole) (s : Span) (before : List LaneRow) (shown : List Shown) (rows : List LaneRow) (works : List Work)
     (items : List Item) (w : Work) (later : List Work) → length items ≡ length works → SaysItems z s before shown rows works items
     → SaysItems z s before shown rows (works ++ w ∷ later) items
-says_short z s before shown rows [] [] w later size none = (0, ap contents none)
+says_short z s before shown rows [] [] w later size none = (0, ap contents_of_rows none)
 says_short z s before shown rows [] (x ∷ items) w later size h = elim h [ ]
 says_short z s before shown rows (y ∷ works) [] w later size h = absurd (omega arith)
 says_short z s before shown rows (y ∷ works) (x ∷ items) w later size (mine, rest, parts, mine_is, here, after, there) = (
@@ -79,7 +79,7 @@ says_short z s before shown rows (y ∷ works) (x ∷ items) w later size (mine,
   mine_is,
   here,
   after,
-  says_short z (behind x s) (before ++ mine) (shown ++ shown_by x) rest works items w later (omega arith) there,
+  says_short z (span_after x s) (before ++ mine) (shown ++ shown_by x) rest works items w later (omega arith) there,
 )
 
 -- so a run that met no fault is one of more statements that memory stopped
@@ -112,7 +112,7 @@ controlled_short Past v u r s works items w later h =
       closed = h.closed;
       only = λ end e wait one is. subst (AllOf (SaysSingle Past v u r.catalog end one))
           (sym (none_there (answers items) works size (only_last works w later one is).0)) tt;
-      plans = λ rows from bounds low. plans_longer (KnowsRows u) (registry_of v r) rows from works (w ∷ later) items size
+      plans = λ rows from bounds low. plans_longer (KnowsListed u) (registry_of v r) rows from works (w ∷ later) items size
           (h.plans rows from bounds low);
       is = λ e. absurd cc;
       each = h.each;
@@ -140,10 +140,10 @@ handed_none works kept left many why last (inr (inr h)) e = h.0
 
 -- a fault of the disk it met before, with its cause
 pub handed_cause : (before now : ℕ) (works kept left : List Work) (many : ℕ) (why last : LaneFault)
-    → IsHandedBack works many why kept left last → HasCause before now why → HasCause before now last
-handed_cause before now works kept left many why last (inl h) cause = subst (HasCause before now) (sym h.1) cause
-handed_cause before now works kept left many why last (inr (inl h)) cause = subst (HasCause before now) (sym h.1) tt
-handed_cause before now works kept left many why last (inr (inr h)) cause = subst (HasCause before now) (sym h.1) tt
+    → IsHandedBack works many why kept left last → HasFaultCause before now why → HasFaultCause before now last
+handed_cause before now works kept left many why last (inl h) cause = subst (HasFaultCause before now) (sym h.1) cause
+handed_cause before now works kept left many why last (inr (inl h)) cause = subst (HasFaultCause before now) (sym h.1) tt
+handed_cause before now works kept left many why last (inr (inr h)) cause = subst (HasFaultCause before now) (sym h.1) tt
 
 pub handed_disk : (works kept left : List Work) (many : ℕ) (why last : LaneFault) → IsHandedBack works many why kept left last
     → (last ≡ fault.Disk → ⊥) → why ≡ fault.Disk → ⊥
@@ -230,13 +230,13 @@ left_none v (w ∷ left) was unshut = absurd (not_both v (unshut (λ e. absurd c
 -- ---- the others
 
 -- where all items are answers, these are all
-pub all_answers : (items : List Item) → AllOf IsAnswer items → answers items ≡ items
+pub all_answers : (items : List Item) → AllOf IsAnswerItem items → answers items ≡ items
 all_answers [] h = refl
 all_answers (x ∷ items) h =
     filter_first is_answer x items h.0 ∙ ap (λ (z : List Item). x ∷ z) (all_answers items h.1)
 
 -- as many items as answers
-far_size : {Past : Whole → Type 0} (v u : View) (works : List Work) (items : List Item) → IsSoFar Past v u works items
+far_size : {Past : Whole → Type 0} (v u : View) (works : List Work) (items : List Item) → IsWorkSoFar Past v u works items
     → length (answers items) ≡ length items
 far_size v u works items h = h.said.size ∙ length-take-le (length items) works h.few
 
@@ -252,13 +252,13 @@ on_handed Past v u works kept left items fault.Disk last h (inl b) =
 on_handed Past v u works kept left items (fault.Damaged n) last h (inl b) =
     subst (λ (z : List Work × LaneFault). HasRun Past v u z.0 items z.1 × SayPlans v u z.0 items) (λ i. (sym b.2 i, sym b.1 i)) h
 on_handed Past v u works kept left items why last h (inr (inl b)) =
-    let far : IsSoFar Past v u works items = subst (IsOn Past v u works items) b.0 h in
+    let far : IsWorkSoFar Past v u works items = subst (IsOn Past v u works items) b.0 h in
     let same : take (length items) works ≡ kept =
     ap (λ (n : ℕ). take n works) (sym (far_size v u works items far)) ∙ sym b.2 in
     subst (λ (z : List Work × LaneFault). HasRun Past v u z.0 items z.1 × SayPlans v u z.0 items) (λ i. (same i, sym b.1 i))
     (run_ended v u (take (length items) works) items far.told, far.said.plans)
 on_handed Past v u works kept left items why last h (inr (inr b)) =
-    let far : IsSoFar Past v u works items = subst (IsOn Past v u works items) b.0 h in
+    let far : IsWorkSoFar Past v u works items = subst (IsOn Past v u works items) b.0 h in
     let size = far_size v u works items far in
     let many = length items in
     let less = b.4 in

@@ -7,9 +7,9 @@ use Rattle.fish_lanes.proofs.Keeping.{keeps_self}
 use Rattle.fish_lanes.proofs.Lists.{empty_list, some_once}
 use Rattle.fish_lanes.specs.within.Blocks.{AreJoined, CanGive, CanTake, HasGiven, HasSeat, HasTakenAll, HasTakenSeat, IsBack}
 use Rattle.fish_lanes.specs.Blocks.{IsNewLane}
-use Rattle.fish_lanes.specs.within.Blocks.{IsOfLane, IsSeated, IsShutOfLane}
+use Rattle.fish_lanes.specs.within.Blocks.{IsOwnOfLane, IsSeated, IsShutOfLane}
 use Rattle.fish_lanes.specs.Running.{IsShared}
-use Rattle.fish_lanes.specs.within.Running.{CanBegin, HasDone, IsReady}
+use Rattle.fish_lanes.specs.within.Running.{CanBegin, HasDone, IsLaneReady}
 use Rattle.fish_lanes.specs.declared.lane.Lane.{Lane}
 use Rattle.fish_lanes.specs.declared.lane.LanePass.{LanePass}
 use Rattle.fish_rule.proofs.laws.Clocks.{later_both, later_noted, later_self, later_ticked}
@@ -98,7 +98,7 @@ seated_by log v m i l x y at h s = record {
 
 -- a lane that got a pass may begin
 pub seated_ready : (log : Log) (v : View) (i : ℕ) (x y : Lane) → IsNewLane (i + 2) x → All IsShared x.works
-    → IsSeated log v i x y → IsReady log y
+    → IsSeated log v i x y → IsLaneReady log y
 seated_ready log v i x y new shared s = record {
   seat = s.seat;
   seat_is = ap (λ (z : Lane). z.seat) s.is;
@@ -108,7 +108,7 @@ seated_ready log v i x y new shared s = record {
 }
 
 -- the pass of a lane that is ready
-pub ready_seat : (log : Log) (x : Lane) (seat : LanePass) → IsReady log x → x.seat ≡ Some seat → CanBegin log seat.pass
+pub ready_seat : (log : Log) (x : Lane) (seat : LanePass) → IsLaneReady log x → x.seat ≡ Some seat → CanBegin log seat.pass
 ready_seat log x seat h is =
     subst (λ (z : LanePass). CanBegin log z.pass) (some_once h.seat seat (sym h.seat_is ∙ is)) h.can
 
@@ -187,7 +187,7 @@ taken_more log m u t lanes i x joined h at by =
       learned = λ j y seat below at_y seat_y. pick j y seat below at_y seat_y (dec_lt j i);
       own = λ o n. ⊎_elim
           (λ (n : Among o u.own). ⊎_elim (λ (k : Among o m.own). inl k)
-          (λ (k : IsOfLane lanes i o). let less = k.below in inr (record {
+          (λ (k : IsOwnOfLane lanes i o). let less = k.below in inr (record {
             position = k.position;
             lane = k.lane;
             seat = k.seat;

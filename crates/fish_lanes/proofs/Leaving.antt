@@ -15,12 +15,12 @@ use Rattle.fish_lanes.proofs.Registrations.{registry_later}
 use Rattle.fish_lanes.specs.Blocks.{EachLane}
 use Rattle.fish_lanes.specs.within.Blocks.{IsShutOfLane}
 use Rattle.fish_lanes.specs.within.Course.{AllBack, AllRan, HasFoundEnd}
-use Rattle.fish_lanes.specs.Ending.{HasEnd}
+use Rattle.fish_lanes.specs.Ending.{EndsAlone}
 use Rattle.fish_lanes.specs.Full.{AreFullLast}
 use Rattle.fish_lanes.specs.within.Full.{StopsFull}
 use Rattle.fish_lanes.specs.Gains.{WasShut}
 use Rattle.fish_lanes.specs.Outcome.{HandsBack, IsCutShort, IsFullIn, LanesSayPlans, SayFullLast, SaysShutBy}
-use Rattle.fish_lanes.specs.Plans.{PlansHold, KnowsRows}
+use Rattle.fish_lanes.specs.Plans.{PlansHold, KnowsListed}
 use Rattle.fish_lanes.specs.Registering.{KnowsRegistry, Registry, registry_of}
 use Rattle.fish_lanes.specs.Sizes.{NamesOneClaim, SaysClaim, claim_of}
 use Rattle.fish_lanes.specs.declared.block.BlockEnd.{BlockEnd}
@@ -36,7 +36,7 @@ use Rattle.fish_rule.proofs.laws.Learning.{learns_both}
 use Rattle.fish_rule.proofs.laws.Lists.{among_right}
 use Rattle.fish_rule.specs.Logs.{Learns}
 use Rattle.fish_rule.specs.Passes.{view}
-use Rattle.fish_rule.specs.Table.{Stands}
+use Rattle.fish_rule.specs.Table.{IsOfMoment}
 use Rattle.fish_rule.specs.Views.{Among}
 use Rattle.fish_rule.specs.declared.table.Log.{Log}
 use Rattle.fish_rule.specs.declared.view.Learned.{Learned}
@@ -47,7 +47,7 @@ use Rattle.fish_whole.specs.Whole.{Whole}
 module _ {Past : Whole → Type 0} {log : Log} {v w u t : View} {r q kept : Registrar} {first first' : Lane}
     {before done after : List Lane} {last : BlockEnd} (run : AllRan Past log v w r q first first' before done)
     (returned : AllBack w u done after) (ended : HasFoundEnd u t q kept last)
-    (start : (from : ℕ) × HasEnd v from) (stands : Stands t) where
+    (start : (from : ℕ) × EndsAlone v from) (stands : IsOfMoment t) where
   -- what is known of the block's course
   knows : Knows t kept
   knows = course.knows run returned ended start stands
@@ -59,19 +59,19 @@ module _ {Past : Whole → Type 0} {log : Log} {v w u t : View} {r q kept : Regi
   end_learns = course.end_learns run returned ended start stands
 
   -- what the items say of plans, by the rows that the registrar keeps
-  first_plans : (from : ℕ) → HasEnd v from
-      → PlansHold (KnowsRows t) (registry_of v r) kept.catalog from first'.works first'.items
+  first_plans : (from : ℕ) → EndsAlone v from
+      → PlansHold (KnowsListed t) (registry_of v r) kept.catalog from first'.works first'.items
   first_plans from end =
       let low = end.settled in
       let same : run.control.learned.settled ≡ v.learned.settled = ap (λ (z : Learned). z.settled) run.gives.learned in
       let said = run.first_did.controlled.plans kept.catalog from
       (bounds_before w t kept.catalog end_learns (bounds_in t kept stands knows)) (omega arith) in
-      subst (λ (z : Registry). PlansHold (KnowsRows t) z kept.catalog from first'.works first'.items)
+      subst (λ (z : Registry). PlansHold (KnowsListed t) z kept.catalog from first'.works first'.items)
       (given_registry v run.control r run.gives.learned)
       (plans_later w t (registry_of run.control r) kept.catalog from first'.works first'.items end_learns said)
 
-  others_plans : Knows v r → KnowsRegistry v (registry_of v r) → (from : ℕ) → HasEnd v from
-      → LanesSayPlans (KnowsRows t) (registry_of v r) kept.catalog from after
+  others_plans : Knows v r → KnowsRegistry v (registry_of v r) → (from : ℕ) → EndsAlone v from
+      → LanesSayPlans (KnowsListed t) (registry_of v r) kept.catalog from after
   others_plans before_ registry from end i y at =
       let z = course.ran_at run returned i y at in
       let less = slice_get_within done i z.0 z.1 in
@@ -89,14 +89,14 @@ module _ {Past : Whole → Type 0} {log : Log} {v w u t : View} {r q kept : Regi
       let said = p.run_of.plans (registry_of v r) (read_later v (view start.pass) r.catalog learns (bounds_read v r before_))
       (registry_later v (view start.pass) (registry_of v r) learns registry) kept.catalog from
       (bounds_before (view e.pass) t kept.catalog back (bounds_in t kept stands knows)) (omega arith) in
-      subst (λ (q : List Work × List Item). PlansHold (KnowsRows t) (registry_of v r) kept.catalog from q.0 q.1)
+      subst (λ (q : List Work × List Item). PlansHold (KnowsListed t) (registry_of v r) kept.catalog from q.0 q.1)
       (λ j. (sym w'.works j, sym w'.items j))
       (plans_later (view e.pass) t (registry_of v r) kept.catalog from z.0.works z.0.items back said)
 
-  pub all_plans : Knows v r → KnowsRegistry v (registry_of v r) → (from : ℕ) → HasEnd v from
-      → LanesSayPlans (KnowsRows t) (registry_of v r) kept.catalog from (first' ∷ after)
+  pub all_plans : Knows v r → KnowsRegistry v (registry_of v r) → (from : ℕ) → EndsAlone v from
+      → LanesSayPlans (KnowsListed t) (registry_of v r) kept.catalog from (first' ∷ after)
   all_plans before_ registry from end =
-      at_places (λ i x. PlansHold (KnowsRows t) (registry_of v r) kept.catalog from x.works x.items) first' after (first_plans from end)
+      at_places (λ i x. PlansHold (KnowsListed t) (registry_of v r) kept.catalog from x.works x.items) first' after (first_plans from end)
       (others_plans before_ registry from end)
 
   -- what shuts the pass did so before, or an item tells of it

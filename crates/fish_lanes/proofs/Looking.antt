@@ -6,7 +6,7 @@ use Rattle.fish_lanes.proofs.Growing.{rows_both, rows_polled}
 use Rattle.fish_lanes.proofs.Registrations.{gains_changes, reads_gain, reads_know, reads_start, waiting_made}
 use Rattle.fish_lanes.proofs.Stepping.{rows_self}
 use Rattle.fish_lanes.specs.Controlling.{CanControl}
-use Rattle.fish_lanes.specs.within.Controlling.{Controls, HasLooked, Looks}
+use Rattle.fish_lanes.specs.within.Controlling.{Controls, HasLooked, LooksForBoundary}
 use Rattle.fish_registry.specs.Changing.{Changes}
 use Rattle.fish_registry.specs.Knowing.{IsWaitingFor, Knows}
 use Rattle.fish_registry.specs.Looking.{at_lane}
@@ -36,7 +36,7 @@ module _ (log : Log) (p q : Pass) (r s : Registrar) (can : CanControl log p r) (
       }
 
   -- a look
-  pub looks : (answer : Poll) → PollSays (view p) r (view q) s answer → Looks log p r q s
+  pub looks : (answer : Poll) → PollSays (view p) r (view q) s answer → LooksForBoundary log p r q s
   looks answer says = record {
     on = changed (rows_polled (view p) (view q) r s answer changes says);
     loads = changes.loads;

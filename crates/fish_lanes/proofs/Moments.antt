@@ -2,7 +2,7 @@
 use Rattle.std.proofs.Common.{◌≡◌, ◌≢◌, ℕ, ◌+◌, ◌<◌, ◌≤◌, zero, suc, List, [], ◌∷◌, length, refl, sym, ◌∙◌, subst}
 use Rattle.std.proofs.Common.{⊎_elim, arith, Some, slice_get}
 use Rattle.std.proofs.Math.Decide.{dec_lt}
-use Rattle.fish_lanes.specs.Ending.{HasEnd}
+use Rattle.fish_lanes.specs.Ending.{EndsAlone}
 use Rattle.fish_rule.proofs.laws.Regions.{code_once, mark-past}
 use Rattle.fish_rule.proofs.laws.Regions.{starts_rise}
 use Rattle.fish_rule.proofs.laws.Regions.{published}
@@ -11,8 +11,8 @@ use Rattle.fish_rule.specs.declared.view.Kind.TheVariants.{Mark}
 pub use Rattle.fish_rule.proofs.laws.Learning.{learns_same}
 use Rattle.fish_rule.proofs.laws.Learning.{learns_self}
 use Rattle.fish_rule.specs.Logs.{Learns, KnowsMark}
-use Rattle.fish_rule.specs.Parts.{Rests}
-use Rattle.fish_rule.specs.Table.{Stands}
+use Rattle.fish_rule.specs.Parts.{RestsAt}
+use Rattle.fish_rule.specs.Table.{IsOfMoment}
 use Rattle.fish_rule.specs.World.{World, high, low}
 use Rattle.fish_rule.specs.declared.view.View.{View}
 
@@ -36,15 +36,15 @@ get_there (x ∷ xs) zero h = (x, refl)
 get_there (x ∷ xs) (suc i) h = get_there xs i (omega arith)
 
 -- the log doesn't end before a settled number
-pub ends_behind : (t : View) (to from : ℕ) → Stands t → HasEnd t to → from ≤ t.learned.settled → from ≤ to
+pub ends_behind : (t : View) (to from : ℕ) → IsOfMoment t → EndsAlone t to → from ≤ t.learned.settled → from ≤ to
 ends_behind t to from s h less =
     let w : World = s.moment in
     let r = s.rule in
     let floor = r.floors s.seat t s.at in
     let within = r.settling.within in
     let tail = h.tail in
-    let rests : Rests w.count w.line (Some (record { number = high tail.0; line = low tail.0 })) =
-    subst (Rests w.count w.line) tail.1 (r.tails s.seat t s.at h.alone.control h.alone.all) in
+    let rests : RestsAt w.count w.line (Some (record { number = high tail.0; line = low tail.0 })) =
+    subst (RestsAt w.count w.line) tail.1 (r.tails s.seat t s.at h.alone.control h.alone.all) in
     let count : high tail.0 ≡ w.count = rests.0 in
     let same : high tail.0 ≡ h.count = tail.2 in
     let above = h.above in
@@ -59,21 +59,21 @@ ends_behind t to from s h less =
         (mark t (learns_self t) s.moment s.rule s.seat s.at))
 
 -- the control pass has counted up to the end
-pub counted_from : (v : View) (from : ℕ) → HasEnd v from → from ≤ v.learned.count
+pub counted_from : (v : View) (from : ℕ) → EndsAlone v from → from ≤ v.learned.count
 counted_from v from h =
     let a = h.counted in
     ⊎_elim (λ (e : from ≡ h.count). omega arith)
     (λ (n : (from < h.count) × KnowsMark v from). let b = n.0 in omega arith) h.ends
 
 -- at most 16 numbers are claimed past the end
-pub few_behind : (t : View) (to : ℕ) → Stands t → HasEnd t to → t.learned.count ≤ to + 16
+pub few_behind : (t : View) (to : ℕ) → IsOfMoment t → EndsAlone t to → t.learned.count ≤ to + 16
 few_behind t to s h =
     let w : World = s.moment in
     let r = s.rule in
     let counted = (r.facts s.seat t s.at).counted in
     let tail = h.tail in
-    let rests : Rests w.count w.line (Some (record { number = high tail.0; line = low tail.0 })) =
-    subst (Rests w.count w.line) tail.1 (r.tails s.seat t s.at h.alone.control h.alone.all) in
+    let rests : RestsAt w.count w.line (Some (record { number = high tail.0; line = low tail.0 })) =
+    subst (RestsAt w.count w.line) tail.1 (r.tails s.seat t s.at h.alone.control h.alone.all) in
     let count : high tail.0 ≡ w.count = rests.0 in
     let same : high tail.0 ≡ h.count = tail.2 in
     ⊎_elim (λ (e : to ≡ h.count). omega arith)

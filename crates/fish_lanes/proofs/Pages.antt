@@ -5,7 +5,7 @@ use Rattle.fish_cold.specs.declared.cold.Cold.{Cold}
 use Rattle.fish_disk.specs.Content.{StillReads}
 use Rattle.fish_disk.specs.declared.disk.Disk.{Ghosts as Disks}
 use Rattle.fish_image.specs.Reached.{Reached}
-use Rattle.fish_lanes.specs.within.Parts.{OnlyReads}
+use Rattle.fish_lanes.specs.within.Parts.{OnlyReadsFile}
 use Rattle.fish_lanes.specs.within.Pasts.{IsHere, WasHere}
 use Rattle.fish_rule.specs.declared.view.Key.{Key}
 use Rattle.fish_scan.proofs.Carrying.{carried_last, stays_both, stays_none}
@@ -55,13 +55,13 @@ module _ {D : Type 0} (disks : Disks D) (k : Key) where
   -- ---- with what is kept of the last commit
 
   -- nothing was read
-  pub reads_none : (disk : D) (file : StoreFile) → IsBelow k file.cold → OnlyReads disks k disk file disk file
+  pub reads_none : (disk : D) (file : StoreFile) → IsBelow k file.cold → OnlyReadsFile disks k disk file disk file
   reads_none disk file below = record { below = below; flusher = refl; pages = pages_none file.cold disk }
 
   -- something was, and then something else
-  module _ {first mid now : D} {file read after : StoreFile} (a : OnlyReads disks k first file mid read)
-      (b : OnlyReads disks k mid read now after) where
-    pub reads_both : OnlyReads disks k first file now after
+  module _ {first mid now : D} {file read after : StoreFile} (a : OnlyReadsFile disks k first file mid read)
+      (b : OnlyReadsFile disks k mid read now after) where
+    pub reads_both : OnlyReadsFile disks k first file now after
     reads_both = record {
       below = b.below;
       flusher = b.flusher ∙ a.flusher;

@@ -5,7 +5,7 @@ use Rattle.std.specs.Prelude.{IfErr, IfOk, IsErrOf, OnErr, OnOk, is_err}
 use Rattle.fish_lanes.proofs.Gaining.{gains_scans}
 use Rattle.fish_lanes.proofs.Keeping.{keeps_scans}
 use Rattle.fish_lanes.specs.within.Doing.{GainsFirst, IsFit, IsItem, IsPart}
-use Rattle.fish_lanes.specs.Records.{contents}
+use Rattle.fish_lanes.specs.Records.{contents_of_rows}
 use Rattle.fish_lanes.specs.Telling.{content_of, count_of}
 use Rattle.fish_lanes.specs.declared.work.Work.{Work}
 use Rattle.fish_lanes.specs.declared.work.Work.TheVariants as work
@@ -52,7 +52,7 @@ err_told (Err e) b is test p = p
 -- ---- scans
 
 -- nothing is the first of nothing
-take_none : (n : ℕ) → contents [] ≡ take n (content_of work.Checkpoint)
+take_none : (n : ℕ) → contents_of_rows [] ≡ take n (content_of work.Checkpoint)
 take_none zero = refl
 take_none (suc n) = refl
 

@@ -11,7 +11,7 @@ use Rattle.fish_lanes.proofs.Lists.{filter_first, filter_skip}
 use Rattle.fish_lanes.specs.within.Doing.{IsFit, IsRefusedAt}
 use Rattle.fish_lanes.specs.Plans.{PlansHold, IsNamedAt, SaysFirstPlans, SaysPlans, SaysPlansOf}
 use Rattle.fish_lanes.specs.within.Plans.{AreBoundsIn, AreReadBounds}
-use Rattle.fish_lanes.specs.Plans.{KnowsRows, SaysUncovered, works_behind}
+use Rattle.fish_lanes.specs.Plans.{KnowsListed, SaysUncovered, works_behind}
 use Rattle.fish_lanes.specs.Registering.{KnowsRegistry, Registry, after, after_all}
 use Rattle.fish_lanes.specs.Spans.{answers, is_answer}
 use Rattle.fish_lanes.specs.declared.work.Work.{Work}
@@ -21,7 +21,7 @@ use Rattle.fish_report.specs.declared.item.Item.TheVariants as item
 use Rattle.fish_report.specs.declared.item.ScanCause.{ScanCause}
 use Rattle.fish_report.specs.declared.item.ScanCause.TheVariants as cause
 use Rattle.fish_rule.specs.Logs.{Learns}
-use Rattle.fish_rule.specs.Table.{Stands}
+use Rattle.fish_rule.specs.Table.{IsOfMoment}
 use Rattle.fish_rule.specs.declared.view.View.{View}
 use Rattle.fish_scan.specs.Scans.{IsNamed}
 use Rattle.fish_scan.specs.declared.ask.Ask.{Ask}
@@ -31,20 +31,20 @@ use Rattle.fish_whole.specs.Whole.{Whole}
 
 -- the name is known to mean its text at the version that was loaded
 named_at : (v u : View) (known : Known) (ask : Ask) (position version : ℕ) → version ≡ version_of known
-    → IsNamed v u known ask position → IsNamedAt (KnowsRows u) ask version
+    → IsNamed v u known ask position → IsNamedAt (KnowsListed u) ask version
 named_at v u known ask position version is named = record {
   rows = rows_of known;
-  are = subst (λ (z : ℕ). KnowsRows u z (rows_of known)) (sym is) named.read.rows;
+  are = subst (λ (z : ℕ). KnowsListed u z (rows_of known)) (sym is) named.read.rows;
   position = position;
   newest = named.newest;
 }
 
-module _ (v u : View) (r : Registry) (rows : List CatRow) (start : ℕ) (stands : Stands u) (on : Learns v u)
+module _ (v u : View) (r : Registry) (rows : List CatRow) (start : ℕ) (stands : IsOfMoment u) (on : Learns v u)
     (read : AreReadBounds v r.rows) (registry : KnowsRegistry v r) (bounds : AreBoundsIn u rows) (low : start ≤ v.learned.settled)
   where
     -- a refusal
     refused_so : (ask : Ask) (version first last : ℕ) → IsRefusedAt v u ask version (cause.NotCovered first last)
-        → SaysUncovered (KnowsRows u) r.rows rows ask first last version
+        → SaysUncovered (KnowsListed u) r.rows rows ask first last version
     unfolding named_at
     refused_so ask version first last f =
         let h = f.refused.1 in
@@ -56,36 +56,36 @@ module _ (v u : View) (r : Registry) (rows : List CatRow) (start : ℕ) (stands 
         }
 
     scan_refused_so : (ask : Ask) (version : ℕ) (why : ScanCause) → IsRefusedAt v u ask version why
-        → SaysPlansOf (KnowsRows u) r.rows rows start ask (item.ScanRefused ask.name version why)
+        → SaysPlansOf (KnowsListed u) r.rows rows start ask (item.ScanRefused ask.name version why)
     scan_refused_so ask version (cause.NotCovered first last) f = refused_so ask version first last f
     scan_refused_so ask version cause.UnknownName f = tt
     scan_refused_so ask version (cause.EmptyRange first last) f = tt
 
     explain_refused_so : (ask : Ask) (version : ℕ) (why : ScanCause) → IsRefusedAt v u ask version why
-        → SaysPlansOf (KnowsRows u) r.rows rows start ask (item.ExplainRefused ask.name version why)
+        → SaysPlansOf (KnowsListed u) r.rows rows start ask (item.ExplainRefused ask.name version why)
     explain_refused_so ask version (cause.NotCovered first last) f = refused_so ask version first last f
     explain_refused_so ask version cause.UnknownName f = tt
     explain_refused_so ask version (cause.EmptyRange first last) f = tt
 
     -- an item that fits its statement
-    pub fit_so : (Past : Whole → Type 0) (w : Work) (x : Item) → IsFit Past v u w x → SaysPlans (KnowsRows u) r.rows rows start w x
+    pub fit_so : (Past : Whole → Type 0) (w : Work) (x : Item) → IsFit Past v u w x → SaysPlans (KnowsListed u) r.rows rows start w x
     unfolding named_at
     fit_so Past (work.Register name def) x f = tt
     fit_so Past (work.Deregister name) x f = tt
     fit_so Past (work.Ingest form begin name file) x f = tt
-    fit_so Past (work.Scan ask) x (inl f) = subst (SaysPlansOf (KnowsRows u) r.rows rows start ask) (sym f.is) tt
+    fit_so Past (work.Scan ask) x (inl f) = subst (SaysPlansOf (KnowsListed u) r.rows rows start ask) (sym f.is) tt
     fit_so Past (work.Scan ask) x (inr f) =
-        subst (SaysPlansOf (KnowsRows u) r.rows rows start ask) (sym f.is) (scan_refused_so ask f.version f.why f.fits)
+        subst (SaysPlansOf (KnowsListed u) r.rows rows start ask) (sym f.is) (scan_refused_so ask f.version f.why f.fits)
     fit_so Past (work.Explain ask) x (inl f) =
         let e = f.fits.explained.planned in
         let least = e.least in
-        subst (SaysPlansOf (KnowsRows u) r.rows rows start ask) (sym f.is) (record {
+        subst (SaysPlansOf (KnowsListed u) r.rows rows start ask) (sym f.is) (record {
           named = named_at v u f.fits.known ask e.position f.version f.fits.version_is e.asked.named;
           plan_is = plan_so v u r.rows rows _ _ ask.how f.from e.settled f.to f.plan start on read
               (are_listed v u r f.fits.known ask e.position stands on registry e.asked.named) bounds (omega arith) e.plan_is;
         })
     fit_so Past (work.Explain ask) x (inr f) =
-        subst (SaysPlansOf (KnowsRows u) r.rows rows start ask) (sym f.is) (explain_refused_so ask f.version f.why f.fits)
+        subst (SaysPlansOf (KnowsListed u) r.rows rows start ask) (sym f.is) (explain_refused_so ask f.version f.why f.fits)
     fit_so Past work.Checkpoint x f = tt
 
 -- ---- definitions that are others
@@ -125,7 +125,7 @@ module _ {A B : ℕ → List Listed → Type 0} (so : (n : ℕ) (ls : List Liste
 
 -- by the words of a pass that knows more they are the same
 pub plans_later : (u t : View) (r : Registry) (rows : List CatRow) (start : ℕ) (works : List Work) (items : List Item) → Learns u t
-    → PlansHold (KnowsRows u) r rows start works items → PlansHold (KnowsRows t) r rows start works items
+    → PlansHold (KnowsListed u) r rows start works items → PlansHold (KnowsListed t) r rows start works items
 plans_later u t r rows start works items learns = plans_so (λ n ls. knows_later u t n ls learns) r rows start works items
 
 -- ---- one item more

@@ -25,13 +25,13 @@ use Rattle.fish_lanes.specs.within.Registering.{KeepsRegistry}
 use Rattle.fish_lang.specs.Canonical.{definition_text}
 use Rattle.fish_lang.specs.Definition.{definition_of}
 use Rattle.fish_lang.specs.declared.definition.Def.{Def}
-use Rattle.fish_epoch.specs.Rows.{OnlyReads}
+use Rattle.fish_epoch.specs.Rows.{OnlyLearns}
 use Rattle.fish_registry.proofs.Changing.{changes_stays, learns_changes}
 use Rattle.fish_registry.proofs.Knowing.{knows_on}
-use Rattle.fish_registry.specs.Changing.{Changes, Stays}
+use Rattle.fish_registry.specs.Changing.{Changes, OnlyLoads}
 use Rattle.fish_registry.specs.Knowing.{Awaits, IsAwaited, IsWaiting, IsWaitingFor, Knows}
 use Rattle.fish_registry.specs.Looking.{at_lane}
-use Rattle.fish_registry.specs.Refusing.{HasBegun}
+use Rattle.fish_registry.specs.Refusing.{HasBegunChange}
 use Rattle.fish_registry.specs.declared.registrar.Registrar.{Registrar}
 use Rattle.fish_registry.specs.declared.registrar.Waiting.{Waiting}
 use Rattle.fish_report.specs.declared.item.Item.{Item}
@@ -42,7 +42,7 @@ use Rattle.fish_rule.proofs.laws.Versions.{has_read}
 use Rattle.fish_rule.specs.Logs.{Learns}
 use Rattle.fish_rule.specs.Registry.{KnowsDefinitions, definitions_at, version_in}
 use Rattle.fish_rule.specs.Rounds.{IsRound, Waits}
-use Rattle.fish_rule.specs.Table.{Stands}
+use Rattle.fish_rule.specs.Table.{IsOfMoment}
 use Rattle.fish_rule.specs.declared.view.Epoch.TheVariants.{Out}
 use Rattle.fish_rule.specs.declared.view.View.{View}
 use Rattle.fish_scan.specs.Scans.{OnlyScans}
@@ -74,7 +74,7 @@ pub registry_later : (v u : View) (r : Registry) → Learns v u → KnowsRegistr
 registry_later v u r learns h = knows_later v u r.version (map listed_of r.rows) learns h
 
 -- what was read of the version that the control pass knows are the rows that a registrar keeps for it
-pub all_known : (t : View) (known : Known) → Stands t → AreRead t known → version_of known ≡ t.learned.version → KnowsAll t
+pub all_known : (t : View) (known : Known) → IsOfMoment t → AreRead t known → version_of known ≡ t.learned.version → KnowsAll t
 all_known t known s read version r h =
     let w = s.moment in
     let stays = s.rule.registry.each s.seat t s.at in
@@ -89,7 +89,8 @@ all_known t known s read version r h =
 -- ---- the registry
 
 -- the definitions are listed the same
-module _ (u t : View) (r s : Registrar) (su : Stands u) (st : Stands t) (learns : Learns u t) (ku : Knows u r) (kt : Knows t s) where
+module _ (u t : View) (r s : Registrar) (su : IsOfMoment u) (st : IsOfMoment t) (learns : Learns u t) (ku : Knows u r)
+    (kt : Knows t s) where
   version_kept : map listed_of s.catalog ≡ map listed_of r.catalog → t.learned.version ≡ u.learned.version
   version_kept listed = same_version u t su st ku.control kt.control learns.about (sym kt.listed ∙ listed ∙ ku.listed)
 
@@ -118,7 +119,7 @@ module _ (u t : View) (r s : Registrar) (su : Stands u) (st : Stands t) (learns 
       waiting_is (Some w) h = ap Some h
 
 -- one more is registered
-pub begun_is : (u t : View) (r s : Registrar) (name : List ℕ) (def : Def) (id : ℕ) → HasBegun u r name def t s id
+pub begun_is : (u t : View) (r s : Registrar) (name : List ℕ) (def : Def) (id : ℕ) → HasBegunChange u r name def t s id
     → registry_of t s ≡ begun (registry_of u r) id name (definition_text (definition_of def))
 begun_is u t r s name def id h =
     let text = definition_text (definition_of def) in
@@ -133,7 +134,7 @@ after_more r [] x = refl
 after_more r (y ∷ items) x = after_more (after r y) items x
 
 -- the version of a registration that waits was made
-pub waiting_made : (v : View) (r : Registrar) (w : Waiting) → Stands v → Knows v r → r.waiting ≡ Some w → w.version ≤ v.learned.version
+pub waiting_made : (v : View) (r : Registrar) (w : Waiting) → IsOfMoment v → Knows v r → r.waiting ≡ Some w → w.version ≤ v.learned.version
 waiting_made v r w s k is =
     let m = s.moment in
     let stays = s.rule.registry.each s.seat v s.at in
@@ -171,7 +172,7 @@ few_versions w version none h = pick (dec_lt version 512)
 -- ---- reading
 
 -- a load of the version by a pass that is out, and reading, is all that a scan may do
-pub scans_reads : (v m t : View) → Stays v m → OnlyReads m t → OnlyScans v t
+pub scans_reads : (v m t : View) → OnlyLoads v m → OnlyLearns m t → OnlyScans v t
 scans_reads v m t stays reads =
     let e = reads.extends in
     let epoch : t.epoch ≡ v.epoch = ap (λ (z : View). z.epoch) e.frame ∙ ap (λ (z : View). z.epoch) stays.frame in
@@ -191,14 +192,14 @@ known_read t (Ok done) old new read left h = λ _. read
 known_read t (Err e) old new read left h = subst (IsDefsOf t) (sym left) h
 
 -- and all that a registrar keeps is known
-pub known_all : {E : Type 0} (t : View) (result : Result (Unit {0}) E) (new : Defs) → Stands t → OnOk result (AreRead t new.known)
+pub known_all : {E : Type 0} (t : View) (result : Result (Unit {0}) E) (new : Defs) → IsOfMoment t → OnOk result (AreRead t new.known)
     → {version : ℕ} → OnOk result (version_of new.known ≡ version) → version ≡ t.learned.version → OnOk result (KnowsAll t)
 known_all t (Ok done) new s read is version = all_known t new.known s read (is ∙ version)
 known_all t (Err e) new s read is version = tt
 
 -- ---- a registration that was just made
 
-module _ (v m : View) (r : Registrar) (sv : Stands v) (start : CanStart v) (kv : Knows v r) (only : OnlyScans v m) where
+module _ (v m : View) (r : Registrar) (sv : IsOfMoment v) (start : CanStart v) (kv : Knows v r) (only : OnlyScans v m) where
   idle_now : v.flight ≡ None
   idle_now = idle_law v sv start
 
@@ -212,8 +213,8 @@ module _ (v m : View) (r : Registrar) (sv : Stands v) (start : CanStart v) (kv :
   pub reads_know : Knows m r
   reads_know = knows_kept v m r (ap (λ (z : View). z.lane) only.frame) only.learns (keeps_scans v m only) kv
 
-  module _ (sm : Stands m) (version : m.learned.version ≡ v.learned.version) (known : KnowsAll m) (t : View) (s : Registrar)
-      (st : Stands t) (kt : Knows t s) (changes : Changes m t) where
+  module _ (sm : IsOfMoment m) (version : m.learned.version ≡ v.learned.version) (known : KnowsAll m) (t : View) (s : Registrar)
+      (st : IsOfMoment t) (kt : Knows t s) (changes : Changes m t) where
     -- the registry as it was
     same_before : registry_of m r ≡ registry_of v r
     same_before i = record { rows = r.catalog; waiting = waiting_id r.waiting; version = version i }

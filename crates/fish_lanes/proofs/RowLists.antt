@@ -1,8 +1,8 @@
 -- Rows after other rows.
 use Rattle.std.proofs.Common.{◌≡◌, ℕ, ◌<◌, ◌≤◌, suc, List, [], ◌∷◌, ◌++◌, refl, sym, ap, inl, inr, ◌⊎◌, ⊎_elim, arith}
 use Rattle.fish_rule.proofs.laws.Alone.{knows_as_later}
-use Rattle.fish_lanes.specs.within.Gains.{AreKnown}
-use Rattle.fish_lanes.specs.Records.{Content, HasNumber, LaneRow, contents}
+use Rattle.fish_lanes.specs.within.Gains.{AreRowsKnown}
+use Rattle.fish_lanes.specs.Records.{Content, HasNumber, LaneRow, contents_of_rows}
 use Rattle.fish_lanes.specs.within.Records.{Ascends, entry_of, owned}
 use Rattle.fish_rule.specs.Logs.{Learns}
 use Rattle.fish_rule.specs.Views.{Among}
@@ -29,7 +29,7 @@ pub owned_append : (lane : ℕ) (xs ys : List LaneRow) → owned lane (xs ++ ys)
 owned_append lane [] ys = refl
 owned_append lane (r ∷ xs) ys = ap (λ (z : List Own). record { lane = lane; number = r.number } ∷ z) (owned_append lane xs ys)
 
-pub contents_append : (xs ys : List LaneRow) → contents (xs ++ ys) ≡ contents xs ++ contents ys
+pub contents_append : (xs ys : List LaneRow) → contents_of_rows (xs ++ ys) ≡ contents_of_rows xs ++ contents_of_rows ys
 contents_append [] ys = refl
 contents_append (r ∷ xs) ys = ap (λ (z : List Content). (r.form, r.payload) ∷ z) (contents_append xs ys)
 
@@ -59,12 +59,12 @@ owned_number lane o (r ∷ rows) (inr m) = (let h = owned_number lane o rows m i
 
 -- ---- what is told
 
-pub told_later : (v u : View) (lane : ℕ) (rows : List LaneRow) → Learns v u → AreKnown v lane rows → AreKnown u lane rows
+pub told_later : (v u : View) (lane : ℕ) (rows : List LaneRow) → Learns v u → AreRowsKnown v lane rows → AreRowsKnown u lane rows
 told_later v u lane [] learns h = tt
 told_later v u lane (r ∷ rows) learns h =
     (knows_as_later v u r.number (entry_of lane r) learns h.0, told_later v u lane rows learns h.1)
 
-pub told_append : (v : View) (lane : ℕ) (xs ys : List LaneRow) → AreKnown v lane xs → AreKnown v lane ys
-    → AreKnown v lane (xs ++ ys)
+pub told_append : (v : View) (lane : ℕ) (xs ys : List LaneRow) → AreRowsKnown v lane xs → AreRowsKnown v lane ys
+    → AreRowsKnown v lane (xs ++ ys)
 told_append v lane [] ys h t = t
 told_append v lane (r ∷ xs) ys h t = (h.0, told_append v lane xs ys h.1 t)

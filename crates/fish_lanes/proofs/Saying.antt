@@ -6,14 +6,14 @@ use Rattle.fish_lanes.proofs.Plans.{fit_so, plans_longer, plans_more}
 use Rattle.fish_lanes.proofs.Registrations.{after_more, registry_later}
 pub use Rattle.fish_lanes.specs.within.Advancing.{HasSaid}
 use Rattle.fish_lanes.specs.within.Doing.{IsFit}
-use Rattle.fish_lanes.specs.Plans.{KnowsRows, SaysPlans}
+use Rattle.fish_lanes.specs.Plans.{KnowsListed, SaysPlans}
 use Rattle.fish_lanes.specs.Registering.{Registry, after}
 use Rattle.fish_lanes.specs.within.Running.{IsFree, SayPlans}
 use Rattle.fish_lanes.specs.Spans.{answers}
 use Rattle.fish_lanes.specs.declared.work.Work.{Work}
 use Rattle.fish_report.specs.declared.item.Item.{Item}
 use Rattle.fish_rule.specs.Logs.{Learns}
-use Rattle.fish_rule.specs.Table.{Stands}
+use Rattle.fish_rule.specs.Table.{IsOfMoment}
 use Rattle.fish_rule.specs.declared.view.View.{View}
 use Rattle.fish_whole.specs.Whole.{Whole}
 
@@ -23,7 +23,7 @@ said_self v learns =
     record { size = refl; same = λ r. refl; learns = learns; plans = λ r read registry rows from bounds low. tt }
 
 -- one more
-pub said_more : (Past : Whole → Type 0) (v u t : View) (works : List Work) (items : List Item) (w : Work) (x : Item) → Stands t
+pub said_more : (Past : Whole → Type 0) (v u t : View) (works : List Work) (items : List Item) (w : Work) (x : Item) → IsOfMoment t
     → HasSaid v u works items
     → Learns u t → IsFree w → IsFit Past u t w x → Learns v t → length (answers (items ++ x ∷ [])) ≡ length (works ++ w ∷ [])
     → HasSaid v t (works ++ w ∷ []) (items ++ x ∷ [])
@@ -33,9 +33,9 @@ said_more Past v u t works items w x stands h learns free fit both size = record
   learns = both;
   plans = λ r read registry rows from bounds low.
       let settled = h.learns.settled in
-      plans_more (KnowsRows t) r rows from works (w ∷ []) items x h.size
+      plans_more (KnowsListed t) r rows from works (w ∷ []) items x h.size
       (plans_on v u t r works items learns (h.plans r read registry) rows from bounds low)
-      (subst (λ (z : Registry). SaysPlans (KnowsRows t) z.rows rows from w x) (sym (h.same r))
+      (subst (λ (z : Registry). SaysPlans (KnowsListed t) z.rows rows from w x) (sym (h.same r))
       (fit_so u t r rows from stands learns (read_later v u r.rows h.learns read) (registry_later v u r h.learns registry) bounds
       (omega arith) Past w x fit));
 }
@@ -44,5 +44,5 @@ said_more Past v u t works items w x stands h learns free fit both size = record
 pub said_cut : (v u t : View) (works : List Work) (items : List Item) (later : List Work) → HasSaid v u works items → Learns u t
     → SayPlans v t (works ++ later) items
 said_cut v u t works items later h learns r read registry rows from bounds low =
-    plans_longer (KnowsRows t) r rows from works later items h.size
+    plans_longer (KnowsListed t) r rows from works later items h.size
     (plans_on v u t r works items learns (h.plans r read registry) rows from bounds low)

@@ -12,13 +12,13 @@ use Rattle.fish_epoch.specs.declared.definitions.Known.{Known}
 use Rattle.fish_lanes.proofs.Covering.{cover_by}
 use Rattle.fish_lanes.specs.within.Controlling.{SaysTail}
 use Rattle.fish_lanes.specs.within.Doing.{FitsExplained, FitsRefused, FitsScanned, IsFit, IsRefusedAt}
-use Rattle.fish_lanes.specs.Ending.{HasEnd}
+use Rattle.fish_lanes.specs.Ending.{EndsAlone}
 use Rattle.fish_lanes.specs.Loading.{LoadsAcross, LoadsInTable, LoadsWithin}
 use Rattle.fish_lanes.specs.within.Plans.{AreBoundsIn, AreReadBounds}
 use Rattle.fish_lanes.specs.Registering.{KnowsRegistry, Registry}
 use Rattle.fish_lanes.specs.within.Running.{IsFree}
 use Rattle.fish_lanes.specs.Single.{IsBoundaryAt, IsCauseAt, IsCauseSaid, IsCoverOf, IsPlanFor, IsPlanSaid, IsReadBy, IsScanWork}
-use Rattle.fish_lanes.specs.Single.{IsWhole, NamesNone, SaysOnly, SaysSingle, SaysWhole}
+use Rattle.fish_lanes.specs.Single.{IsWholeAnswer, NamesNone, SaysOnly, SaysSingle, SaysWhole}
 use Rattle.fish_lanes.specs.Spans.{answers}
 use Rattle.fish_lanes.specs.declared.work.Work.{Work}
 use Rattle.fish_lanes.specs.declared.work.Work.TheVariants as work
@@ -37,7 +37,7 @@ use Rattle.fish_rule.specs.Logs.{Learns, KnowsMark}
 use Rattle.fish_rule.specs.LoadSteps.{IsAlone}
 use Rattle.fish_rule.proofs.laws.Versions.{has_read}
 use Rattle.fish_rule.specs.Registry.{definitions_at}
-use Rattle.fish_rule.specs.Table.{Stands}
+use Rattle.fish_rule.specs.Table.{IsOfMoment}
 use Rattle.fish_rule.specs.Views.{AllOf}
 use Rattle.fish_rule.specs.World.{high, low}
 use Rattle.fish_rule.specs.declared.view.Key.{Key}
@@ -46,7 +46,7 @@ use Rattle.fish_scan.proofs.OlderLoads.{all_older_later}
 use Rattle.fish_scan.proofs.Working.{all_allowed_later}
 use Rattle.fish_scan.specs.Below.{AreOlderAllowed}
 use Rattle.fish_scan.specs.Cutting.{pieces_above, pieces_below}
-use Rattle.fish_scan.specs.Naming.{IsNewest}
+use Rattle.fish_scan.specs.Naming.{IsNewestListed}
 use Rattle.fish_scan.specs.Reach.{IsExact, IsRange, end_of}
 use Rattle.fish_scan.specs.Scans.{IsCovered, IsNamed, IsPlan, IsPlanned, IsUncovered, first_asked}
 use Rattle.fish_scan.specs.Work.{AreAllowed, IsWork}
@@ -117,7 +117,7 @@ ends_within u n count h =
     ⊎_elim (λ (e : n ≡ count). omega arith) (λ (m : (n < count) × KnowsMark u n). let less = m.0 in omega arith) h
 
 -- the settled number that a pass finds which is alone is where the log ended
-same_end : (v u : View) (end settled count : ℕ) → HasEnd v end → Learns v u → Stands u → v.learned.settled ≤ settled
+same_end : (v u : View) (end settled count : ℕ) → EndsAlone v end → Learns v u → IsOfMoment u → v.learned.settled ≤ settled
     → settled ≤ u.learned.settled → IsTailCount count v.tail → EndsAt u settled count → settled ≡ end
 same_end v u end settled count h learns s least most counted ends =
     let tail = h.tail in
@@ -137,22 +137,22 @@ same_end v u end settled count h learns s least most counted ends =
         absurd ((s.rule.settling.below end (omega arith) (omega arith)).unmarked (mark u learns s.moment s.rule s.seat s.at))
 
 -- so is that of a scan
-exact_end : (v u : View) (end settled count last : ℕ) (to : Option ℕ) (opens : List ℕ) → HasEnd v end → Learns v u → Stands u
+exact_end : (v u : View) (end settled count last : ℕ) (to : Option ℕ) (opens : List ℕ) → EndsAlone v end → Learns v u → IsOfMoment u
     → v.learned.settled ≤ settled → settled ≤ u.learned.settled → IsExact v u to count settled last opens → settled ≡ end
 exact_end v u end settled count last to opens h learns s least most x =
     same_end v u end settled count h learns s least most x.counted x.ends
 
 -- ---- items
 
-module _ (v u : View) (end : ℕ) (h : HasEnd v end) (learns : Learns v u) (s : Stands u) where
+module _ (v u : View) (end : ℕ) (h : EndsAlone v end) (learns : Learns v u) (s : IsOfMoment u) where
   -- the range is all that is asked for
   whole_at : (ask : Ask) (from to settled : ℕ) (opens : List ℕ) (r : IsRange v u (first_asked ask) ask.to from to opens)
-      → settled ≡ end → IsExact v u ask.to r.count settled to opens → IsWhole ask end from to
+      → settled ≡ end → IsExact v u ask.to r.count settled to opens → IsWholeAnswer ask end from to
   whole_at ask from to settled opens r same x =
       record { begins = r.first_is; ends = subst (λ (z : ℕ). to ≡ end_of ask.to z) same x.last_is }
 
   -- the tail is where the log ends, unless it is full
-  tail_end : (n : ℕ) → Stands v → v.shut ≡ None → IsAtTail v n → n ≡ end
+  tail_end : (n : ℕ) → IsOfMoment v → v.shut ≡ None → IsAtTail v n → n ≡ end
   tail_end n stood unshut at =
       let tail = h.tail in
       let here = at (record { number = high tail.0; line = low tail.0 }) tail.1 in
@@ -161,7 +161,7 @@ module _ (v u : View) (end : ℕ) (h : HasEnd v end) (learns : Learns v u) (s : 
       (λ (m : (end < h.count) × KnowsMark v end). absurd (no_mark v end stood h.alone unshut h.above m.1))
       h.ends
 
-  boundary_at : (x : Item) → Stands v → SaysTail v x → IsBoundaryAt v.shut end x
+  boundary_at : (x : Item) → IsOfMoment v → SaysTail v x → IsBoundaryAt v.shut end x
   boundary_at (item.Registered name id from def) stood at = λ unshut. tail_end from stood unshut at
   boundary_at (item.Deregistered name id to) stood at = λ unshut. tail_end to stood unshut at
   boundary_at x stood at = tt
@@ -181,7 +181,7 @@ module _ (v u : View) (end : ℕ) (h : HasEnd v end) (learns : Learns v u) (s : 
         ∙ (knows_later v u r.version (map listed_of r.rows) learns registry).are g has
 
     newest_at : (definitions : List Listed) (ask : Ask) (position : ℕ) → definitions ≡ map listed_of r.rows
-        → IsNewest definitions ask.name position → IsNewest (map listed_of r.rows) ask.name position
+        → IsNewestListed definitions ask.name position → IsNewestListed (map listed_of r.rows) ask.name position
     newest_at definitions ask position same n = record {
       listed = n.listed;
       there = ap (λ (z : List Listed). slice_get z position) (sym same) ∙ n.there;
@@ -281,7 +281,7 @@ module _ (v u : View) (end : ℕ) (h : HasEnd v end) (learns : Learns v u) (s : 
     fit_free Past (work.Deregister name) x free f = elim free [ ]
 
   -- and so does what fits any
-  pub fit_single : (Past : Whole → Type 0) (w : Work) (x : Item) (r : Registry) → Stands v → AreReadBounds v r.rows → KnowsRegistry v r
+  pub fit_single : (Past : Whole → Type 0) (w : Work) (x : Item) (r : Registry) → IsOfMoment v → AreReadBounds v r.rows → KnowsRegistry v r
       → (IsFree w → AreBoundsIn u r.rows × (u.learned.version ≡ r.version)) → SaysTail v x → IsFit Past v u w x
       → SaysSingle Past v u r.rows end w x
   fit_single Past (work.Register name def) x r stood read registry free at f = boundary_at x stood at

@@ -12,17 +12,17 @@ use Rattle.fish_lanes.proofs.Lists.{all_more}
 use Rattle.fish_lanes.proofs.Parts.{around}
 use Rattle.fish_lanes.proofs.Saying.{said_cut, said_more, said_self}
 use Rattle.fish_lanes.proofs.Showing.{fit_answer, free_made}
-use Rattle.fish_lanes.specs.within.Advancing.{HasNext, HasSaid, HasAnswered, IsOn, IsShort, IsSoFar}
-use Rattle.fish_lanes.specs.within.Causes.{fault_at}
+use Rattle.fish_lanes.specs.within.Advancing.{HasNextItem, HasSaid, HasAnswered, IsOn, IsShortFault, IsWorkSoFar}
+use Rattle.fish_lanes.specs.within.Causes.{fault_of_stop}
 use Rattle.fish_lanes.specs.within.Controlled.{IsControlled}
 use Rattle.fish_lanes.specs.within.Doing.{IsFit, IsItem, IsPart}
 use Rattle.fish_lanes.specs.within.Gains.{Gains}
 use Rattle.fish_lanes.specs.Loading.{LoadsWithin}
-use Rattle.fish_lanes.specs.Records.{LaneRow, contents}
+use Rattle.fish_lanes.specs.Records.{LaneRow, contents_of_rows}
 use Rattle.fish_lanes.specs.Running.{IsShared}
 use Rattle.fish_lanes.specs.within.Running.{HasRun, IsFree, SayPlans}
 use Rattle.fish_lanes.specs.within.Pasts.{anywhere}
-use Rattle.fish_lanes.specs.Spans.{IsAnswer, answers}
+use Rattle.fish_lanes.specs.Spans.{IsAnswerItem, answers}
 use Rattle.fish_lanes.specs.Telling.{content_of}
 use Rattle.fish_lanes.specs.declared.statements.Stop.{Stop}
 use Rattle.fish_lanes.specs.declared.statements.Stop.TheVariants as stop
@@ -34,7 +34,7 @@ use Rattle.fish_registry.specs.declared.registrar.Registrar.{Registrar}
 use Rattle.fish_report.specs.declared.item.Item.{Item}
 use Rattle.fish_ingest.specs.Ingestion.{CanStart}
 use Rattle.fish_rule.specs.Logs.{Learns}
-use Rattle.fish_rule.specs.Table.{Stands}
+use Rattle.fish_rule.specs.Table.{IsOfMoment}
 use Rattle.fish_rule.specs.Views.{AllOf}
 use Rattle.fish_rule.specs.declared.view.Epoch.TheVariants.{Out}
 use Rattle.fish_rule.specs.declared.view.View.{View}
@@ -127,13 +127,13 @@ shared_of work.Checkpoint no_register no_end no_commit = absurd (no_commit refl)
 
 -- none is done
 pub far_self : (Past : Whole → Type 0) (v : View) (works : List Work) → v.epoch ≡ Out → v.flight ≡ None → Learns v v
-    → IsSoFar Past v v works []
+    → IsWorkSoFar Past v v works []
 far_self Past v works outside idle learns =
     record { told = told_self Past v outside idle; said = said_self v learns; few = omega arith }
 
-module _ {Past : Whole → Type 0} (v u t : View) (works : List Work) (items : List Item) (h : IsSoFar Past v u works items) where
+module _ {Past : Whole → Type 0} (v u t : View) (works : List Work) (items : List Item) (h : IsWorkSoFar Past v u works items) where
   -- a step that gains nothing and answers nothing
-  pub far_on : Gains u t [] → t.shut ≡ u.shut → IsSoFar Past v t works items
+  pub far_on : Gains u t [] → t.shut ≡ u.shut → IsWorkSoFar Past v t works items
   far_on g same = record {
     told = told_on v u t (take (length items) works) (answers items) h.told g same;
     said = record {
@@ -147,7 +147,7 @@ module _ {Past : Whole → Type 0} (v u t : View) (works : List Work) (items : L
 
   module _ (w : Work) (less : length items < length works) (is : w ≡ get_or works (length items) w) where
     -- one statement more
-    pub far_next : (x : Item) → IsShared w → Stands t → IsItem Past u t w x → IsSoFar Past v t works (items ++ x ∷ [])
+    pub far_next : (x : Item) → IsShared w → IsOfMoment t → IsItem Past u t w x → IsWorkSoFar Past v t works (items ++ x ∷ [])
     far_next x shared stands item =
         let free = shared_free w shared in
         let g = item.gained in
@@ -174,7 +174,7 @@ module _ {Past : Whole → Type 0} (v u t : View) (works : List Work) (items : L
 
     -- a part of one
     pub far_cut : (rows : List LaneRow) (count : ℕ) (why : LaneFault) → why ≢ fault.None → Gains u t rows
-        → contents rows ≡ take count (content_of w) → HasRun Past v t works items why × SayPlans v t works items
+        → contents_of_rows rows ≡ take count (content_of w) → HasRun Past v t works items why × SayPlans v t works items
     far_cut rows count why named g first =
         let split = around works (length items) w less is in (
           subst (λ (z : List Work). HasRun Past v t z items why) split
@@ -185,43 +185,43 @@ module _ {Past : Whole → Type 0} (v u t : View) (works : List Work) (items : L
 
 -- what a statement without an item leaves, where it was stopped since memory ran out
 pub far_part : {Past : Whole → Type 0} (v u t : View) (works : List Work) (items : List Item) (w : Work) (why : LaneFault)
-    → IsSoFar Past v u works items → length items < length works → w ≡ get_or works (length items) w → why ≢ fault.None
+    → IsWorkSoFar Past v u works items → length items < length works → w ≡ get_or works (length items) w → why ≢ fault.None
     → IsPart u t w → HasRun Past v t works items why × SayPlans v t works items
 far_part v u t works items w why h less is named part =
     far_cut v u t works items h w less is part.1.rows part.0 why named part.1.gains part.1.first
 
 -- ---- the next statement
 
-module _ {Past : Whole → Type 0} (v u t : View) (works : List Work) (old new : List Item) (w : Work) (h : IsSoFar Past v u works old)
+module _ {Past : Whole → Type 0} (v u t : View) (works : List Work) (old new : List Item) (w : Work) (h : IsWorkSoFar Past v u works old)
     (less : length old < length works) (is : w ≡ get_or works (length old) w) where
   -- it has its item
-  pub next_done : (done : Unit {0}) → IsShared w → Stands t → HasNext u t w old new (Ok done) → IsSoFar Past v t works new
-  next_done done shared stands n = subst (IsSoFar Past v t works) (sym n.1)
+  pub next_done : (done : Unit {0}) → IsShared w → IsOfMoment t → HasNextItem u t w old new (Ok done) → IsWorkSoFar Past v t works new
+  next_done done shared stands n = subst (IsWorkSoFar Past v t works) (sym n.1)
       (far_next v u t works old h w less is n.0 shared stands (item_fewer anywhere Past u t w n.0 (λ past behind. tt) n.2))
 
   -- it has none: memory ran out, or it is a scan of older records, and the lane is as far as it was
-  pub next_stopped : (why : Stop) → u.epoch ≡ Out → u.flight ≡ None → HasNext u t w old new (Err why)
-      → IsOn Past v t works new (fault_at why)
+  pub next_stopped : (why : Stop) → u.epoch ≡ Out → u.flight ≡ None → HasNextItem u t w old new (Err why)
+      → IsOn Past v t works new (fault_of_stop why)
   next_stopped stop.Memory outside idle n = subst (λ (z : List Item). IsOn Past v t works z fault.Memory) (sym n.0)
       (far_part v u t works old w fault.Memory h less is (λ e. absurd cc) n.1)
-  next_stopped stop.Older outside idle n = subst (IsSoFar Past v t works) (sym n.0)
+  next_stopped stop.Older outside idle n = subst (IsWorkSoFar Past v t works) (sym n.0)
       (far_on v u t works old h (gains_scans u t outside idle n.1.2) (ap (λ (z : View). z.shut) n.1.2.frame))
 
 -- its item is an answer
-pub next_answers : (u t : View) (w : Work) (old new : List Item) (r : Result (Unit {0}) Stop) → HasNext u t w old new r
-    → AllOf IsAnswer old → AllOf IsAnswer new
+pub next_answers : (u t : View) (w : Work) (old new : List Item) (r : Result (Unit {0}) Stop) → HasNextItem u t w old new r
+    → AllOf IsAnswerItem old → AllOf IsAnswerItem new
 next_answers u t w old new (Ok done) n h =
-    subst (AllOf IsAnswer) (sym n.1) (all_more IsAnswer old n.0 h (fit_answer anywhere u t w n.0 n.2.fit))
-next_answers u t w old new (Err stop.Memory) n h = subst (AllOf IsAnswer) (sym n.0) h
-next_answers u t w old new (Err stop.Older) n h = subst (AllOf IsAnswer) (sym n.0) h
+    subst (AllOf IsAnswerItem) (sym n.1) (all_more IsAnswerItem old n.0 h (fit_answer anywhere u t w n.0 n.2.fit))
+next_answers u t w old new (Err stop.Memory) n h = subst (AllOf IsAnswerItem) (sym n.0) h
+next_answers u t w old new (Err stop.Older) n h = subst (AllOf IsAnswerItem) (sym n.0) h
 
 -- a lane stops so where memory runs out, and only then
-pub stopped_short : (why : Stop) → IsShort (fault_at why)
+pub stopped_short : (why : Stop) → IsShortFault (fault_of_stop why)
 stopped_short stop.Memory = inr refl
 stopped_short stop.Older = inl refl
 
 -- no item is lost
-pub next_more : (u t : View) (w : Work) (old new : List Item) (r : Result (Unit {0}) Stop) → HasNext u t w old new r
+pub next_more : (u t : View) (w : Work) (old new : List Item) (r : Result (Unit {0}) Stop) → HasNextItem u t w old new r
     → length old ≤ length new
 next_more u t w old new (Ok done) n = (let e = ap (λ (z : List Item). length z) n.1 ∙ length-append old (n.0 ∷ []) in omega arith)
 next_more u t w old new (Err stop.Memory) n = (let e = ap (λ (z : List Item). length z) n.0 in omega arith)
@@ -229,7 +229,7 @@ next_more u t w old new (Err stop.Older) n = (let e = ap (λ (z : List Item). le
 
 -- the pass may go on
 pub next_start : (u t : View) (w : Work) (old new : List Item) (r : Result (Unit {0}) Stop) → u.flight ≡ None → CanStart u
-    → HasNext u t w old new r → CanStart t
+    → HasNextItem u t w old new r → CanStart t
 next_start u t w old new (Ok done) idle can n = gains_start u t n.2.gained.rows can n.2.gained.gains
 next_start u t w old new (Err stop.Memory) idle can n = gains_start u t n.1.1.rows can n.1.1.gains
 next_start u t w old new (Err stop.Older) idle can n = gains_start u t [] can (gains_scans u t can.outside idle n.1.2)

@@ -12,7 +12,7 @@ use Rattle.fish_rule.specs.declared.table.Pass.{Pass}
 use Rattle.fish_store.proofs.Running.{here_both, here_stays, may_stays}
 use Rattle.fish_store.proofs.Same.{still_self, table_same}
 use Rattle.fish_store.specs.Points.{point_of}
-use Rattle.fish_store.specs.Sound.{GoesOnHere, MayGoOn, Point, RowsGoOn, Stays}
+use Rattle.fish_store.specs.Sound.{GoesOnHere, MayGoOn, Point, RowsGoOn, StoreStays}
 use Rattle.fish_store.specs.declared.file.StoreFile.{StoreFile}
 
 -- the same rows go on
@@ -26,7 +26,7 @@ rows_kept v r s same = subst (λ (z : Registrar). RowsGoOn v r.catalog z.catalog
 -- a pass that learns, and rows that go on
 pub stays_pass : {D : Type 0} (disks : Disks D) (p : Point D) (rows : List CatRow) (u : View) → Learns p.view u
     → RowsGoOn p.view p.rows rows
-    → Stays disks p (record p { rows = rows; view = u })
+    → StoreStays disks p (record p { rows = rows; view = u })
 stays_pass disks p rows u learns grows = record {
   learns = learns;
   rows_on = grows;

@@ -2,7 +2,7 @@
 use Rattle.std.proofs.Common.{◌≡◌, ℕ, [], ◌∷◌, Result, Ok, Err, refl, sym, subst, arith}
 use Rattle.std.specs.Prelude.{IfErr, IfOk, IsErrOf}
 use Rattle.fish_disk.specs.declared.disk.Disk.{Ghosts as Disks}
-use Rattle.fish_flush.specs.Carrying.{HasSettled, Reads}
+use Rattle.fish_flush.specs.Carrying.{HasSettled, ReadsLog}
 use Rattle.fish_flush.specs.Causes.{HasFlushCause}
 use Rattle.fish_flush.specs.declared.refusal.FlushRefusal.{FlushRefusal}
 use Rattle.fish_flush.specs.declared.refusal.FlushRefusal.TheVariants as flush
@@ -17,7 +17,7 @@ use Rattle.fish_lanes.proofs.Gaining.{gains_start}
 use Rattle.fish_lanes.proofs.Registrations.{knows_kept, registry_same}
 use Rattle.fish_lanes.proofs.SoFar.{fit_fewer, items_anywhere, items_fewer, shared_free}
 use Rattle.fish_lanes.proofs.Stepping.{rows_self, stays_pass}
-use Rattle.fish_lanes.specs.Controlling.{IsCommitted}
+use Rattle.fish_lanes.specs.Controlling.{IsCheckpointAtMost}
 use Rattle.fish_lanes.specs.Running.{IsShared}
 use Rattle.fish_lanes.specs.Telling.{content_of}
 use Rattle.fish_lanes.specs.declared.work.LaneFault.{LaneFault}
@@ -29,7 +29,7 @@ use Rattle.fish_lanes.specs.within.CommitRows.{rows_by}
 use Rattle.fish_lanes.specs.within.Controlled.{IsControlled, IsPartControlled}
 use Rattle.fish_lanes.specs.within.Controlling.{Controls, TellsStep}
 use Rattle.fish_lanes.specs.within.Doing.{FitsCheckpoint, IsFit, IsItem, IsPart}
-use Rattle.fish_lanes.specs.within.Parts.{CanRun, OnlyReads, RunsStatement, StopsAt, store_of}
+use Rattle.fish_lanes.specs.within.Parts.{CanRunStore, OnlyReadsFile, RunsStatement, StopsBy, store_of}
 use Rattle.fish_lanes.specs.within.Pasts.{IsHere, anywhere}
 use Rattle.fish_registry.specs.Knowing.{Knows}
 use Rattle.fish_registry.specs.declared.registrar.Registrar.{Registrar}
@@ -45,12 +45,12 @@ use Rattle.fish_store.proofs.Scanning.{pages_stay}
 use Rattle.fish_store.specs.CommitRows.{LeavesRows, by_checkpoint}
 use Rattle.fish_store.specs.Ending.{IsCommitOf}
 use Rattle.fish_store.specs.Points.{Behind, point_at}
-use Rattle.fish_store.specs.Sound.{GoesOnHere, MayGoOn, ReadsPages, Stays}
+use Rattle.fish_store.specs.Sound.{GoesOnHere, MayGoOn, ReadsPages, StoreStays}
 use Rattle.fish_store.specs.declared.file.StoreFile.{StoreFile}
 use Rattle.fish_store.specs.declared.store.Store.{Store}
 use Rattle.fish_whole.specs.Whole.{Whole}
 
-module _ {D : Type 0} (disks : Disks D) (disk : D) (s : Store) (run : CanRun disks.images disk s) where
+module _ {D : Type 0} (disks : Disks D) (disk : D) (s : Store) (run : CanRunStore disks.images disk s) where
   -- ---- on definitions
 
   -- a step that leaves the disk: it has its item, or memory ran out for it
@@ -62,7 +62,7 @@ module _ {D : Type 0} (disks : Disks D) (disk : D) (s : Store) (run : CanRun dis
     abbrev after_step : Store
     after_step = store_of s.file s.log q k
 
-    stays_step : Stays disks (point_at disk s) (point_at disk after_step)
+    stays_step : StoreStays disks (point_at disk s) (point_at disk after_step)
     stays_step = stays_pass disks (point_at disk s) k.catalog (view q) on.gains.on.learns on.grows
 
     pub runs_step : RunsStatement disks disk s disk after_step w (or_memory r)
@@ -95,7 +95,7 @@ module _ {D : Type 0} (disks : Disks D) (disk : D) (s : Store) (run : CanRun dis
   by_commit (Err flush.DiskFault) = Err cause.Disk
   by_commit (Err flush.OutOfMemory) = Err cause.Memory
 
-  module _ (disk' : D) (file : StoreFile) (q : Pass) (of : IsPassOf s.log q) (reads : Reads (view s.pass) (view q))
+  module _ (disk' : D) (file : StoreFile) (q : Pass) (of : IsPassOf s.log q) (reads : ReadsLog (view s.pass) (view q))
       (cold : file.cold ≡ s.file.cold)
       (goes : GoesOnHere disks (point_at disk s) (point_at disk' (store_of file s.log q s.registrar))) where
     -- the store after it
@@ -146,7 +146,7 @@ module _ {D : Type 0} (disks : Disks D) (disk : D) (s : Store) (run : CanRun dis
 
         committed : (z : Result ℕ FlushRefusal)
             → IfOk z (IsCommitOf (disks.images disk') s.log.shape s.registrar.catalog file.flusher (view q))
-            → IfOk (by_commit z) (IsCommitted file.flusher.count)
+            → IfOk (by_commit z) (IsCheckpointAtMost file.flusher.count)
         committed (Ok n) commit = λ m is. (let same : n ≡ m = cc in let count = commit.count in omega arith)
         committed (Err flush.DiskFault) commit = tt
         committed (Err flush.OutOfMemory) commit = tt
@@ -158,7 +158,7 @@ module _ {D : Type 0} (disks : Disks D) (disk : D) (s : Store) (run : CanRun dis
         left (Err flush.OutOfMemory) rows = rows
 
         stops : (z : Result ℕ FlushRefusal) → HasFlushCause (disks.faults disk) (disks.faults disk') z
-            → IfErr (by_commit z) (StopsAt (Behind disks disk s disk') (disks.faults disk) (disks.faults disk'))
+            → IfErr (by_commit z) (StopsBy (Behind disks disk s disk') (disks.faults disk) (disks.faults disk'))
         stops (Ok n) why = tt
         stops (Err flush.DiskFault) why =
             ((λ bad. absurd cc), record { later = why.later; cause = why.failed refl; whole = λ past behind. tt })
@@ -168,10 +168,10 @@ module _ {D : Type 0} (disks : Disks D) (disk : D) (s : Store) (run : CanRun dis
 
   module _ (disk' : D) (file : StoreFile) (q : Pass) (w : Work) (r : Result Item LaneFault) (shared : IsShared w)
       (other : w ≡ work.Checkpoint → ⊥)
-      (of : IsPassOf s.log q) (reads : OnlyReads disks s.log.key disk s.file disk' file)
+      (of : IsPassOf s.log q) (reads : OnlyReadsFile disks s.log.key disk s.file disk' file)
       (item : IfOk r (IsItem (IsHere (disks.content disk') s.log.key s.file.cold) (view s.pass) (view q) w))
       (stops : IfErr r (λ e. IsPart (view s.pass) (view q) w
-      × StopsAt (IsHere (disks.content disk') s.log.key s.file.cold) (disks.faults disk) (disks.faults disk') e)) where
+      × StopsBy (IsHere (disks.content disk') s.log.key s.file.cold) (disks.faults disk) (disks.faults disk') e)) where
     -- the store after it
     abbrev after_shared : Store
     after_shared = store_of file s.log q s.registrar
@@ -190,7 +190,7 @@ module _ {D : Type 0} (disks : Disks D) (disk : D) (s : Store) (run : CanRun dis
         let gain = gained_any Here v u w r item part in
         let learns = gain.1.gains.on.learns in
         let knows : Knows u k = knows_kept v u k gain.1.gains.on.lane learns gain.1.registry run.can.knows in
-        let stays : Stays disks (point_at disk s) (point_at disk' after_shared) =
+        let stays : StoreStays disks (point_at disk s) (point_at disk' after_shared) =
         pages_stay disks (point_at disk s) (point_at disk' after_shared) learns (rows_self v k.catalog) reads.flusher refl
         (subst (λ (z : Key). ReadsPages disks z s.file.cold file.cold disk disk') (sym run.can.of.about) reads.pages) in
         let fit = ok_then r (λ x h. h.fit) item in

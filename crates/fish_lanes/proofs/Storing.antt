@@ -4,7 +4,7 @@ use Rattle.std.proofs.Common.{⊎_elim, arith, append_assoc, append-nil, length-
 use Rattle.std.specs.Prelude.{Err, IfOk, MatchOption, Ok, Result, is_some, option_map, if◌then◌else◌}
 use Rattle.std.proofs.lemmas.List.Sums.{sum_by-append}
 use Rattle.std.proofs.lemmas.Option.{same_Some}
-use Rattle.fish_csv.specs.Left.{left as rows_left}
+use Rattle.fish_csv.specs.Left.{rows_left}
 use Rattle.fish_csv.specs.Reading.{row_of, rows_in}
 use Rattle.fish_csv.specs.Rows as csv
 use Rattle.fish_csv.specs.declared.file.RowTexts.{RowTexts}
@@ -19,29 +19,29 @@ use Rattle.fish_lanes.proofs.RowLists.{contents_append}
 use Rattle.fish_lanes.specs.within.Doing.{GainsFirst, IsItem, IsPart}
 use Rattle.fish_lanes.specs.within.Pasts.{anywhere}
 use Rattle.fish_lanes.specs.within.Gains.{Gains}
-use Rattle.fish_lanes.specs.Records.{Content, contents}
+use Rattle.fish_lanes.specs.Records.{Content, contents_of_rows}
 use Rattle.fish_lanes.specs.within.Registering.{KeepsRegistry}
 use Rattle.fish_lanes.specs.within.Sizes.{IsSizeBetween}
-use Rattle.fish_lanes.specs.within.Storing.{EndsWith, FindsFull, FindsTextFull, IsFullAt, IsGiven, IsPartStored, IsStoredUpTo}
-use Rattle.fish_lanes.specs.within.Storing.{TakesLine, TakesText, item_of, nothing, one_refused, one_stored}
+use Rattle.fish_lanes.specs.within.Storing.{EndsWith, FindsFull, FindsTextFull, IsFullAt, IsRecordText, IsPartStored, IsStoredUpTo}
+use Rattle.fish_lanes.specs.within.Storing.{TakesLine, TakesText, item_of, nothing_stored, one_refused, one_stored}
 use Rattle.fish_lanes.specs.Telling.{AreCounted, all_of}
 use Rattle.fish_lanes.specs.declared.ingesting.Tally.{Tally}
 use Rattle.fish_lanes.specs.declared.work.Work.{Work}
 use Rattle.fish_lanes.specs.declared.work.Work.TheVariants as work
-use Rattle.fish_lines.specs.File.{accepted, refused}
+use Rattle.fish_value.specs.Outcomes.{accepted, refused}
 use Rattle.fish_lines.specs.Resuming.{outcomes_from}
-use Rattle.fish_lines.specs.Texts.{form_of, payload_in, text_form, texts_left}
+use Rattle.fish_lines.specs.Texts.{form_of_texts, payload_in_text, text_form, texts_left}
 use Rattle.fish_lines.specs.declared.resuming.Begin.{Begin}
 use Rattle.fish_lines.specs.declared.texts.RecordText.{RecordText}
 use Rattle.fish_lines.specs.declared.texts.RecordText.TheVariants as text
 use Rattle.fish_lines.specs.declared.texts.RecordTexts.{RecordTexts}
 use Rattle.fish_lines.specs.declared.texts.RecordTexts.TheVariants as texts
 use Rattle.fish_psf.proofs.RecordLemmas.{csv_long, json_long}
-use Rattle.fish_psf.specs.Keys.{keys_of}
+use Rattle.fish_psf.specs.Keys.{keys_for}
 use Rattle.fish_psf.specs.Records.{fields_of_payload, is_record}
 use Rattle.fish_report.specs.declared.item.Item.TheVariants as item
 use Rattle.fish_rule.specs.Logs.{Learns}
-use Rattle.fish_rule.specs.Table.{Stands}
+use Rattle.fish_rule.specs.Table.{IsOfMoment}
 use Rattle.fish_rule.specs.declared.view.Epoch.TheVariants.{Out}
 use Rattle.fish_rule.specs.declared.view.Shut.{Shut}
 use Rattle.fish_rule.specs.declared.view.View.{View}
@@ -71,7 +71,7 @@ take_front form (p ∷ xs) ys = ap (λ (z : List Content). (form, p) ∷ z) (tak
 -- ---- one line
 
 -- a line in JSON is its payload where it is a record
-pub json_record : (line : List ℕ) → is_record Json line ≡ true → json.payload_of line ≡ Some line
+pub json_record : (line : List ℕ) → is_record Json line ≡ true → json.payload_of_line line ≡ Some line
 unfolding is_record
 json_record line h = by (record_of line) h
   where
@@ -79,7 +79,7 @@ json_record line h = by (record_of line) h
     by (Some d) h = refl
     by None h = absurd cc
 
-pub json_refused : (line : List ℕ) → is_record Json line ≡ false → json.payload_of line ≡ None
+pub json_refused : (line : List ℕ) → is_record Json line ≡ false → json.payload_of_line line ≡ None
 unfolding is_record
 json_refused line h = by (record_of line) h
   where
@@ -91,7 +91,7 @@ json_refused line h = by (record_of line) h
 
 -- none
 pub stored_none : (v : View) (form : Form) (outs : List (Option (List ℕ))) (tally : Tally) → v.epoch ≡ Out → v.flight ≡ None
-    → tally ≡ nothing → IsStoredUpTo v v form outs outs tally
+    → tally ≡ nothing_stored → IsStoredUpTo v v form outs outs tally
 stored_none v form outs tally outside idle none = record {
   front = [];
   parts = refl;
@@ -145,7 +145,7 @@ module _ (v u t : View) (form : Form) (outs behind : List (Option (List ℕ))) (
     rows = h.rows ++ [];
     gains = gains_both v u t h.rows [] h.gains gains;
     registry = keeps_both v u t h.registry keeps;
-    content = ap contents (append-nil h.rows) ∙ h.content
+    content = ap contents_of_rows (append-nil h.rows) ∙ h.content
         ∙ sym (ap (all_of form) (accepted_append h.front (None ∷ []) ∙ append-nil (accepted h.front)));
     counted = record {
       stored_is = ap (λ (z : Tally). z.stored) is ∙ (
@@ -169,7 +169,7 @@ stored_later v u t form outs behind tally gains keeps h = record {
   rows = h.rows ++ [];
   gains = gains_both v u t h.rows [] h.gains gains;
   registry = keeps_both v u t h.registry keeps;
-  content = ap contents (append-nil h.rows) ∙ h.content;
+  content = ap contents_of_rows (append-nil h.rows) ∙ h.content;
   counted = h.counted;
 }
 
@@ -222,7 +222,7 @@ claim_size v u form payload shut learns h =
           defs = h.are.defs;
           are = h.are.active.2;
           written = p.written;
-          keys = p.keys ∙ (λ i. keys_of (fields_of_payload (sym p.form_is i) (sym p.payload_is i)) h.are.defs);
+          keys = p.keys ∙ (λ i. keys_for (fields_of_payload (sym p.form_is i) (sym p.payload_is i)) h.are.defs);
         };
         lines_are = h.lines_are;
       };
@@ -238,7 +238,7 @@ size_sooner v u t form payload lines learns h =
 
 -- a text that found the log full
 pub full_text : (v u t : View) (form : Form) (outs behind : List (Option (List ℕ))) (outcome : Option (List ℕ)) (tally after : Tally)
-    (shut : Shut) → Stands t → u.shut ≡ v.shut → IsStoredUpTo v u form outs (outcome ∷ behind) tally
+    (shut : Shut) → IsOfMoment t → u.shut ≡ v.shut → IsStoredUpTo v u form outs (outcome ∷ behind) tally
     → FindsTextFull u t form outcome tally after shut → IsFullAt v t form outs after shut
 full_text v u t form outs behind outcome tally after shut stands same h f =
     let payload = f.0 in
@@ -274,8 +274,8 @@ long_none Json payload h = json_long payload h
 long_none Csv payload h = csv_long payload h
 
 -- a row that is given as a payload is a record
-pub row_record : (fields : List (List ℕ)) (text : List ℕ) → csv.payload_of fields ≡ Some text → is_record Csv text ≡ true
-unfolding is_record csv.payload_of
+pub row_record : (fields : List (List ℕ)) (text : List ℕ) → csv.payload_of_row fields ≡ Some text → is_record Csv text ≡ true
+unfolding is_record csv.payload_of_row
 row_record fields text h = by (csv.stored_text fields) (is_some (row_of (csv.stored_text fields))) refl h
   where
     by : (s : List ℕ) (b : Bool) → is_some (row_of s) ≡ b → (if b then Some s else None) ≡ Some text
@@ -289,16 +289,16 @@ pub head_record : (texts : RowTexts) (text : List ℕ) (more : List (Option (Lis
 unfolding rows_left
 head_record texts text more h = by (rows_in texts.rest.now) h
   where
-    by : (rows : List (List (List ℕ))) → map csv.payload_of rows ≡ Some text ∷ more → is_record Csv text ≡ true
+    by : (rows : List (List (List ℕ))) → map csv.payload_of_row rows ≡ Some text ∷ more → is_record Csv text ≡ true
     by [] h = absurd cc
-    by (fields ∷ rows) h = row_record fields text (first (csv.payload_of fields) (map csv.payload_of rows) h)
+    by (fields ∷ rows) h = row_record fields text (first (csv.payload_of_row fields) (map csv.payload_of_row rows) h)
       where
         first : (o : Option (List ℕ)) (os : List (Option (List ℕ))) → o ∷ os ≡ Some text ∷ more → o ≡ Some text
         first o os e = cc
 
 -- so is a row that a file gives
-pub text_given : (file : RecordTexts) (x : RecordText) (more : List (Option (List ℕ))) → text_form x ≡ form_of file
-    → texts_left file ≡ payload_in x ∷ more → IsGiven x
+pub text_given : (file : RecordTexts) (x : RecordText) (more : List (Option (List ℕ))) → text_form x ≡ form_of_texts file
+    → texts_left file ≡ payload_in_text x ∷ more → IsRecordText x
 text_given file (text.Line line) more same next = tt
 text_given file text.Refused more same next = tt
 text_given (texts.Rows rows) (text.Row row) more same next = head_record rows row more next

@@ -6,8 +6,8 @@ use Rattle.fish_catalog.specs.declared.entry.Entry.{Entry}
 use Rattle.fish_catalog.specs.declared.entry.Entry.TheVariants as entry
 use Rattle.fish_lanes.proofs.Exact.{StandAt, rows_exact}
 use Rattle.fish_lanes.proofs.RowLists.{ascends_lower}
-use Rattle.fish_lanes.specs.Ending.{HasEnd}
-use Rattle.fish_lanes.specs.within.Gains.{AreKnown}
+use Rattle.fish_lanes.specs.Ending.{EndsAlone}
+use Rattle.fish_lanes.specs.within.Gains.{AreRowsKnown}
 use Rattle.fish_lanes.specs.Records.{HasNumber, LaneRow, rows_of_lane}
 use Rattle.fish_lanes.specs.within.Records.{Ascends, entry_of}
 use Rattle.fish_rule.proofs.laws.ClosedLogs.{always_closed, entry_at, settled_within}
@@ -18,9 +18,9 @@ use Rattle.fish_rule.specs.ChainFacts.{Always}
 use Rattle.fish_rule.specs.Logs.{IsEntry, KnowsAs, KnowsMark}
 use Rattle.fish_rule.specs.ClosedLog.{IsClosed}
 use Rattle.fish_rule.specs.declared.close.Remains.{Remains}
-use Rattle.fish_rule.specs.Parts.{IsEntryWord, Rests}
+use Rattle.fish_rule.specs.Parts.{IsEntryWord, RestsAt}
 use Rattle.fish_rule.specs.Regions.{code}
-use Rattle.fish_rule.specs.Table.{Stands}
+use Rattle.fish_rule.specs.Table.{IsOfMoment}
 use Rattle.fish_rule.specs.Views.{Among, Has}
 use Rattle.fish_rule.specs.World.{World, high, low}
 use Rattle.fish_rule.specs.declared.view.Key.{Key}
@@ -35,7 +35,7 @@ use Rattle.fish_whole.specs.Whole.{MayEnd, MayHold, Whole, WillHold}
 -- ---- the end of a table
 
 -- the log of a table ends where its pass knows that it does
-pub closed_length : (v : View) (to : ℕ) (remains : Remains) → HasEnd v to → IsClosed v remains
+pub closed_length : (v : View) (to : ℕ) (remains : Remains) → EndsAlone v to → IsClosed v remains
     → v.about.number + length remains.log ≡ to
 closed_length v to remains h c =
     let floor = c.rule.floors c.seat c.last c.at in
@@ -44,8 +44,8 @@ closed_length v to remains h c =
     let above = h.above in
     let up = settled_within c.rule remains.log c.log in
     let t = h.tail in
-    let rests : Rests c.moment.count c.moment.line (Some (record { number = high t.0; line = low t.0 })) =
-    subst (Rests c.moment.count c.moment.line) t.1 c.rests in
+    let rests : RestsAt c.moment.count c.moment.line (Some (record { number = high t.0; line = low t.0 })) =
+    subst (RestsAt c.moment.count c.moment.line) t.1 c.rests in
     let count : high t.0 ≡ c.moment.count = rests.0 in
     let same : high t.0 ≡ h.count = t.2 in
     let few = c.log.within in
@@ -74,20 +74,20 @@ closed_length v to remains h c =
 -- ---- a pass that knows the end
 
 -- it has counted up to there
-end_counted : (u : View) (to : ℕ) (end : HasEnd u to) → to ≤ end.count
+end_counted : (u : View) (to : ℕ) (end : EndsAlone u to) → to ≤ end.count
 end_counted u to end = ⊎_elim (λ (e : to ≡ end.count). omega arith)
     (λ (m : (to < end.count) × KnowsMark u to). let a = m.0 in omega arith) end.ends
 
 -- its own records lie before it
-pub own_before : (v : View) (to : ℕ) (o : Own) → Stands v → HasEnd v to → Among o v.own → o.number < to
+pub own_before : (v : View) (to : ℕ) (o : Own) → IsOfMoment v → EndsAlone v to → Among o v.own → o.number < to
 own_before v to o s h m =
     let w : World = s.moment in
     let r = s.rule in
     let by = ((r.own s.seat v s.at).sound o m).1 in
     let below = by.below in
     let t = h.tail in
-    let rests : Rests w.count w.line (Some (record { number = high t.0; line = low t.0 })) =
-    subst (Rests w.count w.line) t.1 (r.tails s.seat v s.at h.alone.control h.alone.all) in
+    let rests : RestsAt w.count w.line (Some (record { number = high t.0; line = low t.0 })) =
+    subst (RestsAt w.count w.line) t.1 (r.tails s.seat v s.at h.alone.control h.alone.all) in
     let count : high t.0 ≡ w.count = rests.0 in
     let same : high t.0 ≡ h.count = t.2 in
     let above = h.above in
@@ -100,15 +100,15 @@ own_before v to o s h m =
     })) h.ends
 
 -- what is known to be an entry lies before it
-pub entry_before : (v : View) (to n : ℕ) → Stands v → HasEnd v to → Always v (λ k w. IsEntryWord (w.dir n)) → n < to
+pub entry_before : (v : View) (to n : ℕ) → IsOfMoment v → EndsAlone v to → Always v (λ k w. IsEntryWord (w.dir n)) → n < to
 entry_before v to n s h known =
     let w : World = s.moment in
     let r = s.rule in
     let word = known v (learns_self v) w r s.seat s.at in
     let below = claimed r n word.published in
     let t = h.tail in
-    let rests : Rests w.count w.line (Some (record { number = high t.0; line = low t.0 })) =
-    subst (Rests w.count w.line) t.1 (r.tails s.seat v s.at h.alone.control h.alone.all) in
+    let rests : RestsAt w.count w.line (Some (record { number = high t.0; line = low t.0 })) =
+    subst (RestsAt w.count w.line) t.1 (r.tails s.seat v s.at h.alone.control h.alone.all) in
     let count : high t.0 ≡ w.count = rests.0 in
     let same : high t.0 ≡ h.count = t.2 in
     let above = h.above in
@@ -117,17 +117,17 @@ entry_before v to n s h known =
     before_mark r to n (omega arith) (m.1 v (learns_self v) w r s.seat s.at) word) h.ends
 
 -- and so does an entry that is told
-pub told_before : (v : View) (to n : ℕ) (e : Entry) → Stands v → HasEnd v to → KnowsAs v n e → n < to
+pub told_before : (v : View) (to n : ℕ) (e : Entry) → IsOfMoment v → EndsAlone v to → KnowsAs v n e → n < to
 told_before v to n e s h tells = entry_before v to n s h (λ u learns w r seat at. entry_word w n e (tells u learns w r seat at))
 
 -- the table begins no later than what it settled before
-pub end_above : (v : View) (from : ℕ) → HasEnd v from → v.about.number ≤ v.learned.settled
+pub end_above : (v : View) (from : ℕ) → EndsAlone v from → v.about.number ≤ v.learned.settled
 end_above v from h = (let a = h.above in let b = h.settled in omega arith)
 
 -- ---- the records of lanes
 
 -- a record of the whole in the table before its end is among the control pass's own
-stored_own : (past : Whole) (u : View) (to : ℕ) (w : Whole) → MayEnd past u w → (end : HasEnd u to) → (n lane : ℕ) (form : Form)
+stored_own : (past : Whole) (u : View) (to : ℕ) (w : Whole) → MayEnd past u w → (end : EndsAlone u to) → (n lane : ℕ) (form : Form)
     (payload : List ℕ) → u.about.number ≤ n → n < to → slice_get w.log n ≡ Some (entry.Stored lane form payload)
     → (1 ≤ lane) × Among (record { lane = lane; number = n }) u.own
 stored_own past u to w m end n lane form payload above below is =
@@ -153,7 +153,7 @@ stored_own past u to w m end n lane form payload above below is =
     )
 
 -- a record between the end before a block and the end after it is of a lane of which the control pass has a record there
-pub will_own : (past : Whole) (u : View) (from to many : ℕ) → HasEnd u to → u.about.number ≤ from
+pub will_own : (past : Whole) (u : View) (from to many : ℕ) → EndsAlone u to → u.about.number ≤ from
     → ((o : Own) → Among o u.own → (o.number < from) ⊎ (o.lane ≤ many))
     → WillHold past u (λ w. (n lane : ℕ) (form : Form) (payload : List ℕ) → from ≤ n → n < to
     → slice_get w.log n ≡ Some (entry.Stored lane form payload) → (1 ≤ lane) × (lane ≤ many))
@@ -164,7 +164,7 @@ will_own past u from to many end based all w m n lane form payload above below i
     )
 
 -- rows that are told stand in the whole
-rows_stand : (past : Whole) (v : View) (lane from to : ℕ) (rows : List LaneRow) (w : Whole) → MayHold past v w → AreKnown v lane rows
+rows_stand : (past : Whole) (v : View) (lane from to : ℕ) (rows : List LaneRow) (w : Whole) → MayHold past v w → AreRowsKnown v lane rows
     → (within : from ≤ to) (inside : to ≤ length w.log) (low_ : ℕ) → length past.log ≤ low_ → Ascends low_ rows to
     → StandAt w.log from to lane within inside rows
 rows_stand past v lane from to [] w m told within inside low_ base up = tt
@@ -175,8 +175,8 @@ rows_stand past v lane from to (r ∷ rows) w m told within inside low_ base up 
     )
 
 -- numbers that ascend below one end below another where each of them does
-ascends_before : (v : View) (lane from high_ to : ℕ) (rows : List LaneRow) → Stands v → HasEnd v to → from ≤ to
-    → AreKnown v lane rows → Ascends from rows high_ → Ascends from rows to
+ascends_before : (v : View) (lane from high_ to : ℕ) (rows : List LaneRow) → IsOfMoment v → EndsAlone v to → from ≤ to
+    → AreRowsKnown v lane rows → Ascends from rows high_ → Ascends from rows to
 ascends_before v lane from high_ to [] s h le told up = le
 ascends_before v lane from high_ to (r ∷ rows) s h le told up =
     let less = told_before v to r.number (entry_of lane r) s h told.0 in
@@ -184,8 +184,8 @@ ascends_before v lane from high_ to (r ∷ rows) s h le told up =
 
 -- from the end before a block up to the end after it they are the rows that the lane's pass gained, where the control
 -- pass has no others of the lane
-pub will_rows : (past : Whole) (u : View) (lane from to low_ high_ : ℕ) (rows : List LaneRow) → Stands u → HasEnd u to
-    → u.about.number ≤ from → from ≤ to → from ≤ low_ → AreKnown u lane rows → Ascends low_ rows high_
+pub will_rows : (past : Whole) (u : View) (lane from to low_ high_ : ℕ) (rows : List LaneRow) → IsOfMoment u → EndsAlone u to
+    → u.about.number ≤ from → from ≤ to → from ≤ low_ → AreRowsKnown u lane rows → Ascends low_ rows high_
     → ((o : Own) → Among o u.own → o.lane ≡ lane → (o.number < from) ⊎ HasNumber o.number rows)
     → WillHold past u (λ w. rows_of_lane w.log from to lane ≡ rows)
 will_rows past u lane from to low_ high_ rows s end based within from_ told up all w m =

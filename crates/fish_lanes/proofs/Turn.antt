@@ -15,12 +15,12 @@ use Rattle.fish_lanes.proofs.Parts.{same_fault}
 use Rattle.fish_lanes.proofs.Pending.{found_next, found_polled}
 use Rattle.fish_lanes.proofs.SoFar.{controlled_fewer}
 use Rattle.fish_lanes.proofs.Stepping.{looked_goes, looked_may, rows_self, stays_pass}
-use Rattle.fish_lanes.specs.Controlling.{IsCommitted}
+use Rattle.fish_lanes.specs.Controlling.{IsCheckpointAtMost}
 use Rattle.fish_lanes.specs.Full.{IsNotFull}
 use Rattle.fish_lanes.specs.Gains.{WasShut}
 use Rattle.fish_lanes.specs.Outcome.{Stops}
 use Rattle.fish_lanes.specs.Pending.{AreFound}
-use Rattle.fish_lanes.specs.Records.{LaneRow, contents}
+use Rattle.fish_lanes.specs.Records.{LaneRow, contents_of_rows}
 use Rattle.fish_lanes.specs.Registering.{KnowsRegistry, Registry, after_all, registry_of}
 use Rattle.fish_lanes.specs.Spans.{answers}
 use Rattle.fish_lanes.specs.Telling.{content_of, count_of}
@@ -29,17 +29,17 @@ use Rattle.fish_lanes.specs.declared.work.LaneFault.TheVariants as cause
 use Rattle.fish_lanes.specs.declared.work.Work.{Work}
 use Rattle.fish_lanes.specs.within.CommitRows.{rows_by}
 use Rattle.fish_lanes.specs.within.Controlled.{HasControlled, IsControlled, IsPartControlled}
-use Rattle.fish_lanes.specs.within.Controlling.{HasPolled, Looks}
-use Rattle.fish_lanes.specs.within.Full.{HasFound}
+use Rattle.fish_lanes.specs.within.Controlling.{HasPolled, LooksForBoundary}
+use Rattle.fish_lanes.specs.within.Full.{HasMetFull}
 use Rattle.fish_lanes.specs.within.Gains.{Gains}
-use Rattle.fish_lanes.specs.within.Parts.{CanRun, RunsStatement, RunsWorks, StillRuns, StopsAt, store_of}
+use Rattle.fish_lanes.specs.within.Parts.{CanRunStore, RunsStatement, RunsWorks, StillRuns, StopsBy, store_of}
 use Rattle.fish_registry.specs.Knowing.{Knows}
 use Rattle.fish_registry.specs.declared.registrar.Registrar.{Registrar}
 use Rattle.fish_report.specs.declared.item.Item.{Item}
 use Rattle.fish_rule.proofs.laws.Clocks.{later_self}
 use Rattle.fish_rule.proofs.laws.Learning.{learns_self}
 use Rattle.fish_rule.specs.Passes.{view}
-use Rattle.fish_rule.specs.Table.{Stands}
+use Rattle.fish_rule.specs.Table.{IsOfMoment}
 use Rattle.fish_rule.specs.Views.{AllOf}
 use Rattle.fish_rule.specs.declared.table.Pass.{Pass}
 use Rattle.fish_store.proofs.Running.{behind_on, here_both, here_stays}
@@ -59,13 +59,13 @@ module _ {D : Type 0} (disks : Disks D) (start : D) (s : Store) where
     pub still : StillRuns disks start s disk t ⊥
     pub held : Held (Behind disks start s disk) (view s.pass) s.registrar (view t.pass) t.registrar works items
     pub found : AreFound (view s.pass).clock (view t.pass).clock first items
-    pub committed : AllOf (IsCommitted t.file.flusher.count) items
+    pub committed : AllOf (IsCheckpointAtMost t.file.flusher.count) items
     pub rows : HaveLeft disks start first disk items
-    pub last : (view s.pass).shut ≡ None → HasFound (view t.pass) items
+    pub last : (view s.pass).shut ≡ None → HasMetFull (view t.pass) items
     pub later : disks.faults start ≤ disks.faults disk
 
   -- none yet
-  pub going_self : CanRun disks.images start s → KnowsRegistry (view s.pass) first → (items : List Item) → items ≡ []
+  pub going_self : CanRunStore disks.images start s → KnowsRegistry (view s.pass) first → (items : List Item) → items ≡ []
       → Going start s [] items
   going_self run known items none = subst (Going start s []) (sym none) (
       let v = view s.pass in
@@ -111,7 +111,7 @@ module _ {D : Type 0} (disks : Disks D) (start : D) (s : Store) where
 
   module _ {disk : D} {t : Store} {works : List Work} {items : List Item} (go : Going disk t works items)
       (free : (view s.pass).shut ≡ None → (view t.pass).shut ≡ None) (q : Pass) (k : Registrar)
-      (looks : Looks t.log t.pass t.registrar q k) where
+      (looks : LooksForBoundary t.log t.pass t.registrar q k) where
     -- the store after the look
     abbrev pub looked : Store
     looked = store_of t.file t.log q k
@@ -121,7 +121,7 @@ module _ {D : Type 0} (disks : Disks D) (start : D) (s : Store) where
         looks.on.gains.on.learns looks.on.grows
 
     -- a statement may follow
-    pub looked_run : CanRun disks.images disk looked
+    pub looked_run : CanRunStore disks.images disk looked
     looked_run = record {
       can = looks.on.can;
       commit = looked_may disks disk t.file t.log t.pass q t.registrar k (go.still.again (λ bad. bad)) looks.on.gains.on.learns
@@ -178,7 +178,7 @@ module _ {D : Type 0} (disks : Disks D) (start : D) (s : Store) where
       last_rows : k.catalog ≡ (after_all first items').rows
       last_rows = ap (λ (z : Registry). z.rows) held_look.is
 
-      committed_here : AllOf (IsCommitted t'.file.flusher.count) items'
+      committed_here : AllOf (IsCheckpointAtMost t'.file.flusher.count) items'
       committed_here = committed_on t.file.flusher.count t'.file.flusher.count items' ran.still.goes.rises
           (committed_polled t.file.flusher.count (view t.pass) t.registrar (view q) k items items' polled go.committed)
 
@@ -191,7 +191,8 @@ module _ {D : Type 0} (disks : Disks D) (start : D) (s : Store) where
 
       -- the lane stops there at a fault
       cut : (all rest : List Work) (why : LaneFault) → works ++ w ∷ rest ≡ all → why ≢ cause.None → (rows : List LaneRow) (count : ℕ)
-          → Gains (view q) (view t'.pass) rows → contents rows ≡ take count (content_of w) → (IsErrOf result cause.Disk → why ≡ cause.Disk)
+          → Gains (view q) (view t'.pass) rows → contents_of_rows rows ≡ take count (content_of w)
+          → (IsErrOf result cause.Disk → why ≡ cause.Disk)
           → Stops (Behind disks disk looked disk') (disks.faults disk) (disks.faults disk') why
           → RunsWorks disks start s disk' t' all items' why
       cut all rest why whole named rows count gains content broke stops = record {
@@ -221,7 +222,7 @@ module _ {D : Type 0} (disks : Disks D) (start : D) (s : Store) where
           → RunsWorks disks start s disk' t' all items' why
       failed all rest why whole is =
           let part = subst (λ (z : Result Item LaneFault). IfErr z (λ _. IsPartControlled (view q) (view t'.pass) w)) is ran.part in
-          let stops = subst (λ (z : Result Item LaneFault). IfErr z (StopsAt (Behind disks disk looked disk') (disks.faults disk)
+          let stops = subst (λ (z : Result Item LaneFault). IfErr z (StopsBy (Behind disks disk looked disk') (disks.faults disk)
           (disks.faults disk'))) is ran.stops in
           cut all rest why whole stops.0 part.rows part.count part.gains part.first
           (λ bad. same_fault why cause.Disk (subst (λ (z : Result Item LaneFault). IsErrOf z cause.Disk) is bad)) stops.1
@@ -244,7 +245,7 @@ module _ {D : Type 0} (disks : Disks D) (start : D) (s : Store) where
 
         -- which is told
         pub stepped : (works' : List Work) (items'' : List Item) → works' ≡ works ++ w ∷ [] → items'' ≡ items' ++ x ∷ []
-            → Stands (view s.pass) → Knows (view s.pass) s.registrar → KnowsRegistry (view s.pass) first → Going disk' t' works' items''
+            → IsOfMoment (view s.pass) → Knows (view s.pass) s.registrar → KnowsRegistry (view s.pass) first → Going disk' t' works' items''
         stepped works' items'' next told stood began known =
             subst (λ (z : List Work × List Item). Going disk' t' z.0 z.1) (λ j. (sym next j, sym told j)) (record {
               still = record {
@@ -260,8 +261,8 @@ module _ {D : Type 0} (disks : Disks D) (start : D) (s : Store) where
               found = found_next (view s.pass).clock first (view t.pass) (view q) t.registrar k items items' go.found go.held.is
                   looks.on.gains.on.clock polled (view t'.pass) (view q).learned.count (view t'.pass).learned.count x looks.looked
                   done.gains.on.clock done.tells.rolls done.tells.does.so;
-              committed = all_more (IsCommitted t'.file.flusher.count) items' x committed_here
-                  (subst (λ (z : Result Item LaneFault). IfOk z (IsCommitted t'.file.flusher.count)) is ran.committed);
+              committed = all_more (IsCheckpointAtMost t'.file.flusher.count) items' x committed_here
+                  (subst (λ (z : Result Item LaneFault). IfOk z (IsCheckpointAtMost t'.file.flusher.count)) is ran.committed);
               rows = left_done disks start first disk disk' items' k.catalog last_rows rows_look x
                   (subst (λ (z : Result Item LaneFault). LeavesRows disks disk disk' (rows_by z k.catalog) (k.catalog ∷ [])) is ran.rows);
               last = λ unshut. found_more (Behind disks disk looked disk') (view q) (view t'.pass) w items' x

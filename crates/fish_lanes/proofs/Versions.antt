@@ -10,7 +10,7 @@ use Rattle.fish_lanes.proofs.Lists.{some_once}
 use Rattle.fish_rule.proofs.laws.Versions.{definitions_first, definitions_next}
 use Rattle.fish_rule.specs.Epochs.{Versions}
 use Rattle.fish_rule.specs.Registry.{IsOperation, definitions_at, made, op_at, row_in, version_in}
-use Rattle.fish_rule.specs.Table.{Stands}
+use Rattle.fish_rule.specs.Table.{IsOfMoment}
 use Rattle.fish_rule.specs.declared.view.Key.{Key}
 use Rattle.fish_rule.specs.declared.view.View.{View}
 
@@ -108,7 +108,7 @@ module _ (k : Key) (count : ℕ) (g version_of : ℕ → ℕ) (h : Versions k co
       ∙ (omega arith)
 
 -- so the version that the control pass knows follows from the definitions that it knows
-version_law : (u : View) → Stands u → u.lane ≡ 1
+version_law : (u : View) → IsOfMoment u → u.lane ≡ 1
     → u.learned.version + tally (map listed_of u.about.rows.value) ≡ u.about.version + tally u.rows
 version_law u s control =
     let w = s.moment in
@@ -125,7 +125,7 @@ version_law u s control =
     omega arith
 
 -- the same definitions are those of the same version
-pub same_version : (u t : View) → Stands u → Stands t → u.lane ≡ 1 → t.lane ≡ 1 → t.about ≡ u.about → t.rows ≡ u.rows
+pub same_version : (u t : View) → IsOfMoment u → IsOfMoment t → u.lane ≡ 1 → t.lane ≡ 1 → t.about ≡ u.about → t.rows ≡ u.rows
     → t.learned.version ≡ u.learned.version
 same_version u t su st control_u control_t about rows =
     let a = version_law u su control_u in

@@ -3,7 +3,7 @@ use Rattle.std.specs.Prelude.{ℕ, ◌≡◌, ◌+◌, ◌++◌, ◌<◌, ◌≤
 use Rattle.fish_catalog.specs.declared.entry.Entry.{Entry}
 use Rattle.fish_catalog.specs.declared.entry.Entry.TheVariants as entry
 use Rattle.fish_lanes.specs.Controlling.{bound_items}
-use Rattle.fish_lanes.specs.Ending.{HasEnd}
+use Rattle.fish_lanes.specs.Ending.{EndsAlone}
 use Rattle.fish_lanes.specs.declared.block.BlockEnd.{BlockEnd}
 use Rattle.fish_lanes.specs.declared.work.LaneFault.TheVariants as cause
 use Rattle.fish_registry.specs.declared.registrar.Registrar.{Registrar}
@@ -11,7 +11,7 @@ use Rattle.fish_lanes.specs.Pending.{AreFound}
 use Rattle.fish_lanes.specs.Records.{rows_of_lane}
 use Rattle.fish_lanes.specs.Registering.{ItemsFit, IsAcceptable, KnowsEach, after_all, registry_of}
 use Rattle.fish_lanes.specs.Running.{IsEnded, IsShared}
-use Rattle.fish_lanes.specs.Spans.{IsAnswer, Span}
+use Rattle.fish_lanes.specs.Spans.{IsAnswerItem, Span}
 use Rattle.fish_lanes.specs.Telling.{SaysLane}
 use Rattle.fish_lanes.specs.declared.lane.Lane.{Lane}
 use Rattle.fish_lanes.specs.Gains.{IsMarkAt}
@@ -55,7 +55,7 @@ pub record AreLanes (lanes : List Lane) : Type 0 where
 -- the block lies between the log's end before it and after it, and between the versions there; and what had shut the
 -- pass
 pub record IsBlockSpan (v t : View) (to : ℕ) (s : Span) : Type 0 where
-  pub begins : HasEnd v s.from
+  pub begins : EndsAlone v s.from
   pub ends : s.to ≡ to
   pub first : s.first ≤ v.learned.version
   pub last : t.learned.version ≤ s.last
@@ -102,7 +102,7 @@ IsMarkItem u x = (file : List ℕ) (line lines end stored refused : ℕ)
 -- besides where an index begins
 pub record IsEndedLane (position : ℕ) (x : Lane) : Type 0 where
   pub ended : IsEnded x.works x.items x.fault
-  pub answers : 0 < position → AllOf IsAnswer x.items
+  pub answers : 0 < position → AllOf IsAnswerItem x.items
 
 abbrev pub AreEnded : List Lane → Type 0
 AreEnded lanes = EachLane IsEndedLane lanes

@@ -5,11 +5,11 @@ use Rattle.fish_lanes.specs.declared.work.LaneFault.TheVariants as fault
 use Rattle.fish_outside.specs.Causes.{Rose}
 
 -- a fault of the disk comes only where its count of faults rose
-abbrev pub HasCause : ℕ → ℕ → LaneFault → Type 0
-HasCause before now fault.Disk = Rose before now
-HasCause before now fault.None = ⊤
-HasCause before now fault.Memory = ⊤
-HasCause before now (fault.Damaged number) = ⊤
+abbrev pub HasFaultCause : ℕ → ℕ → LaneFault → Type 0
+HasFaultCause before now fault.Disk = Rose before now
+HasFaultCause before now fault.None = ⊤
+HasFaultCause before now fault.Memory = ⊤
+HasFaultCause before now (fault.Damaged number) = ⊤
 
 -- no record was damaged
 abbrev pub IsUndamaged : LaneFault → Type 0

@@ -26,5 +26,5 @@ bound_items (Some b) = item.Bound b.id b.from ∷ []
 -- ---- registrations
 
 -- a checkpoint that the item tells has no more entries than the last commit
-abbrev pub IsCommitted : ℕ → Item → Type 0
-IsCommitted count x = (n : ℕ) → x ≡ item.Checkpointed n → n ≤ count
+abbrev pub IsCheckpointAtMost : ℕ → Item → Type 0
+IsCheckpointAtMost count x = (n : ℕ) → x ≡ item.Checkpointed n → n ≤ count

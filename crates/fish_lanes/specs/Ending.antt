@@ -7,7 +7,7 @@ use Rattle.fish_rule.specs.declared.view.View.{View}
 use Rattle.fish_walk.specs.Settling.{EndsAt, HasTail}
 
 -- the pass has all lanes and nothing in flight, and the log has so many entries, no fewer than before the table
-pub record HasEnd (v : View) (to : ℕ) : Type 0 where
+pub record EndsAlone (v : View) (to : ℕ) : Type 0 where
   pub alone : IsAlone v
   pub outside : v.epoch ≡ Out
   pub above : v.about.number ≤ to

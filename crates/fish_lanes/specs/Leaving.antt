@@ -4,12 +4,12 @@ use Rattle.std.specs.Prelude.{ℕ, ◌≡◌, ◌≤◌, List, Some, length, sli
 use Rattle.fish_disk.specs.declared.disk.Disk.{Ghosts as Disks}
 use Rattle.fish_lanes.specs.Blocks.{EachLane, AreEnded, AreKept, HasRegistered, IsBlockSpan, NameMarks, SaysBlock}
 use Rattle.fish_lanes.specs.CommitRows.{LeavesRowsOf}
-use Rattle.fish_lanes.specs.Controlling.{CanControl, IsCommitted}
-use Rattle.fish_lanes.specs.Ending.{HasEnd}
+use Rattle.fish_lanes.specs.Controlling.{CanControl, IsCheckpointAtMost}
+use Rattle.fish_lanes.specs.Ending.{EndsAlone}
 use Rattle.fish_lanes.specs.Gains.{WasShut}
 use Rattle.fish_lanes.specs.Outcome.{AreVacant, HandsBack, LanesSayPlans, LeaveNone, Stops, SayFullLast}
 use Rattle.fish_lanes.specs.Outcome.{SaysAlone, SaysShutBy}
-use Rattle.fish_lanes.specs.Plans.{KnowsRows}
+use Rattle.fish_lanes.specs.Plans.{KnowsListed}
 use Rattle.fish_lanes.specs.Registering.{registry_of}
 use Rattle.fish_lanes.specs.Spans.{Span}
 use Rattle.fish_lanes.specs.declared.block.BlockEnd.{BlockEnd}
@@ -36,9 +36,9 @@ pub record LeavesStore {D : Type 0} (disks : Disks D) (disk : D) (s : Store) (di
   pub goes : GoesOnHere disks (point_at disk s) (point_at disk' t)
   pub again : ((x : Lane) → slice_get lanes 0 ≡ Some x → x.fault ≡ cause.Disk → ⊥)
       → MayGoOn disks.images (point_at disk' t)
-  pub ends : HasEnd (view t.pass) end.to
+  pub ends : EndsAlone (view t.pass) end.to
   pub later : Later (view s.pass) (view t.pass)
-  pub committed : (x : Lane) → slice_get lanes 0 ≡ Some x → AllOf (IsCommitted t.file.flusher.count) x.items
+  pub committed : (x : Lane) → slice_get lanes 0 ≡ Some x → AllOf (IsCheckpointAtMost t.file.flusher.count) x.items
   pub rows : (x : Lane) → slice_get lanes 0 ≡ Some x
       → LeavesRowsOf disks disk disk' (registry_of (view s.pass) s.registrar) x.items
 
@@ -63,5 +63,5 @@ pub record ItemsHold
       → (s.from ≤ s.to) × WillHold past u (λ w. SaysBlock w s new)
   pub registered : (x : Lane) → slice_get new 0 ≡ Some x → HasRegistered v u r t x end
   pub alone : SaysAlone Past v u r new
-  pub plans : (from : ℕ) → HasEnd v from
-      → LanesSayPlans (KnowsRows u) (registry_of v r) t.catalog from new
+  pub plans : (from : ℕ) → EndsAlone v from
+      → LanesSayPlans (KnowsListed u) (registry_of v r) t.catalog from new

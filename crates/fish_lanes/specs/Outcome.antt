@@ -3,8 +3,8 @@ use Rattle.std.specs.Prelude.{ℕ, ◌≡◌, ◌≢◌, ◌≤◌, ◌⊎◌, L
 use Rattle.fish_catalog.specs.declared.listed.Listed.{Listed}
 use Rattle.fish_catalog.specs.declared.row.CatRow.{CatRow}
 use Rattle.fish_lanes.specs.Blocks.{EachLane}
-use Rattle.fish_lanes.specs.Causes.{HasCause, IsUndamaged}
-use Rattle.fish_lanes.specs.Ending.{HasEnd}
+use Rattle.fish_lanes.specs.Causes.{HasFaultCause, IsUndamaged}
+use Rattle.fish_lanes.specs.Ending.{EndsAlone}
 use Rattle.fish_lanes.specs.Full.{AreFullLast, EndsFull}
 use Rattle.fish_lanes.specs.Gains.{WasShut, KeepsShut}
 use Rattle.fish_lanes.specs.declared.work.LaneFault.{LaneFault}
@@ -78,7 +78,7 @@ LanesSayPlans Are r rows from lanes = EachLane (λ i x. PlansHold Are r rows fro
 -- boundary, one statement that is all of the block tells what can be told where nothing runs beside it
 pub record SaysAloneBy (Past : Whole → Type 0) (v u : View) (r : Registrar) (x : Lane) : Type 0 where
   pub closed : AllOf NamesNone x.items
-  pub only : (end : ℕ) → HasEnd v end → r.waiting ≡ None → SaysOnly Past v u r.catalog end x.works x.items
+  pub only : (end : ℕ) → EndsAlone v end → r.waiting ≡ None → SaysOnly Past v u r.catalog end x.works x.items
 
 -- the same where the lane is all of the block
 abbrev pub SaysAlone : (Whole → Type 0) → View → View → Registrar → List Lane → Type 0
@@ -96,5 +96,5 @@ AreVacant lanes = EachLane (λ i x. x.seat ≡ None) lanes
 -- damage of no past that a disk has whole
 pub record Stops (Past : Whole → Type 0) (before now : ℕ) (fault : LaneFault) : Type 0 where
   pub later : before ≤ now
-  pub cause : HasCause before now fault
+  pub cause : HasFaultCause before now fault
   pub whole : (past : Whole) → Past past → IsUndamaged fault

@@ -15,7 +15,7 @@ use Rattle.fish_report.specs.declared.item.Item.TheVariants as item
 use Rattle.fish_report.specs.declared.item.ScanCause.TheVariants as cause
 use Rattle.fish_rule.specs.Registry.{KnowsDefinitions}
 use Rattle.fish_rule.specs.declared.view.View.{View}
-use Rattle.fish_scan.specs.Naming.{IsNewest}
+use Rattle.fish_scan.specs.Naming.{IsNewestListed}
 use Rattle.fish_scan.specs.declared.ask.Ask.{Ask}
 use Rattle.fish_scan.specs.declared.ask.How.{How}
 use Rattle.fish_scan.specs.declared.ask.How.TheVariants as how
@@ -58,8 +58,8 @@ pub record IsPlanOf (told rows : List CatRow) (from : ℕ) (text : List ℕ) (wa
 -- ---- items
 
 -- these are the definitions at a version, by the words that the pass knows, or in the whole
-abbrev pub KnowsRows : View → ℕ → List Listed → Type 0
-KnowsRows v version rows = KnowsDefinitions v.about v.learned version rows
+abbrev pub KnowsListed : View → ℕ → List Listed → Type 0
+KnowsListed v version rows = KnowsDefinitions v.about v.learned version rows
 
 abbrev pub RowsAre : Whole → ℕ → List Listed → Type 0
 RowsAre w version rows = w.rows version ≡ rows
@@ -69,7 +69,7 @@ pub record IsNamedAt (Are : ℕ → List Listed → Type 0) (ask : Ask) (version
   pub rows : List Listed
   pub are : Are version rows
   pub position : ℕ
-  pub newest : IsNewest rows ask.name position
+  pub newest : IsNewestListed rows ask.name position
 
 -- a plan, or a refusal, at a version: the text is that which the name means there
 pub record SaysPlanned (Are : ℕ → List Listed → Type 0) (told rows : List CatRow) (from : ℕ) (ask : Ask)

@@ -16,9 +16,9 @@ pub record LaneRow : Type 0 where
 abbrev pub Content : Type 0
 Content = Form × List ℕ
 
-abbrev pub contents : List LaneRow → List Content
-contents [] = []
-contents (r ∷ rows) = (r.form, r.payload) ∷ contents rows
+abbrev pub contents_of_rows : List LaneRow → List Content
+contents_of_rows [] = []
+contents_of_rows (r ∷ rows) = (r.form, r.payload) ∷ contents_of_rows rows
 
 -- one of the rows has the number
 abbrev pub HasNumber : ℕ → List LaneRow → Type 0
@@ -38,5 +38,5 @@ abbrev pub rows_of_lane : List Entry → ℕ → ℕ → ℕ → List LaneRow
 rows_of_lane log from to lane = rows_from lane from (take (to - from) (drop from log))
 
 -- their forms and payloads
-abbrev pub of_lane : List Entry → ℕ → ℕ → ℕ → List Content
-of_lane log from to lane = contents (rows_of_lane log from to lane)
+abbrev pub contents_of_lane : List Entry → ℕ → ℕ → ℕ → List Content
+contents_of_lane log from to lane = contents_of_rows (rows_of_lane log from to lane)

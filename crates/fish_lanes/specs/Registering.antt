@@ -1,6 +1,6 @@
 -- The definitions of a log as the items of a run tell them.
-use Rattle.std.specs.Prelude.{ℕ, ◌≡◌, ◌⊎◌, ◌+◌, ◌<◌, ◌≤◌, List, [], ◌∷◌, ◌++◌, Option, Some, None, ⊤, count_by, length}
-use Rattle.std.specs.Prelude.{map}
+use Rattle.std.specs.Prelude.{ℕ, ◌≡◌, ◌⊎◌, ◌+◌, ◌<◌, ◌≤◌, List, [], ◌∷◌, ◌++◌, Option, Some, None, ⊤}
+use Rattle.std.specs.Prelude.{count_by, length, map}
 use Rattle.fish_catalog.specs.Closing.{with_to}
 use Rattle.fish_catalog.specs.Limits.{most_active}
 use Rattle.fish_catalog.specs.Listing.{listed_of}
@@ -38,15 +38,15 @@ abbrev pub bound : Registry → ℕ → ℕ → Registry
 bound r id from = record { rows = with_from r.rows id from; waiting = None; version = r.version }
 
 -- an index ends
-abbrev pub ended : Registry → ℕ → ℕ → Registry
-ended r id to = record { rows = with_to r.rows id to; waiting = r.waiting; version = r.version + 1 }
+abbrev pub registry_ended : Registry → ℕ → ℕ → Registry
+registry_ended r id to = record { rows = with_to r.rows id to; waiting = r.waiting; version = r.version + 1 }
 
 -- the registry after an item
 abbrev pub after : Registry → Item → Registry
 after r (item.Registered name id from def) = bound (begun r id name def) id from
 after r (item.Rolling name id def seat version) = begun r id name def
 after r (item.Bound id from) = bound r id from
-after r (item.Deregistered name id to) = ended r id to
+after r (item.Deregistered name id to) = registry_ended r id to
 after r x = r
 
 -- and after items
@@ -57,17 +57,17 @@ after_all r (x ∷ items) = after_all (after r x) items
 -- ---- what items tell of it
 
 -- the number lies between two, or is one of them
-abbrev pub IsBetween : ℕ → ℕ → ℕ → Type 0
-IsBetween low high n = (low ≤ n) × (n ≤ high)
+abbrev pub LiesWithin : ℕ → ℕ → ℕ → Type 0
+LiesWithin low high n = (low ≤ n) × (n ≤ high)
 
 -- no registration waits, and one version more may be made
-pub record MayChange (r : Registry) : Type 0 where
+pub record MayAlter (r : Registry) : Type 0 where
   pub settled : r.waiting ≡ None
   pub few : r.version < 512
 
 -- a definition of this name may be registered
 pub record MayRegister (r : Registry) (name : List ℕ) : Type 0 where
-  pub change : MayChange r
+  pub change : MayAlter r
   pub free : ¬ HasActive r.rows name
   pub few_active : count_by is_active r.rows < most_active
   pub few : length r.rows < 256
@@ -76,27 +76,27 @@ pub record MayRegister (r : Registry) (name : List ℕ) : Type 0 where
 abbrev pub IsRegisterCause : Registry → List ℕ → RegisterCause → Type 0
 IsRegisterCause r name (register.Rolling id) = r.waiting ≡ Some id
 IsRegisterCause r name register.TooManyVersions = (r.waiting ≡ None) × (512 ≤ r.version)
-IsRegisterCause r name register.NameActive = MayChange r × HasActive r.rows name
+IsRegisterCause r name register.NameActive = MayAlter r × HasActive r.rows name
 IsRegisterCause r name register.TooManyActive =
-    MayChange r × (¬ HasActive r.rows name) × (most_active ≤ count_by is_active r.rows)
+    MayAlter r × (¬ HasActive r.rows name) × (most_active ≤ count_by is_active r.rows)
 IsRegisterCause r name register.TooManyDefinitions =
-    MayChange r × (¬ HasActive r.rows name) × (count_by is_active r.rows < most_active) × (256 ≤ length r.rows)
+    MayAlter r × (¬ HasActive r.rows name) × (count_by is_active r.rows < most_active) × (256 ≤ length r.rows)
 
 -- why none was ended
 abbrev pub IsDeregisterCause : Registry → List ℕ → DeregisterCause → Type 0
 IsDeregisterCause r name (deregister.Rolling id) = r.waiting ≡ Some id
 IsDeregisterCause r name deregister.TooManyVersions = (r.waiting ≡ None) × (512 ≤ r.version)
-IsDeregisterCause r name deregister.UnknownName = MayChange r × (¬ HasActive r.rows name)
+IsDeregisterCause r name deregister.UnknownName = MayAlter r × (¬ HasActive r.rows name)
 
 -- the item fits the registry: boundaries lie between two numbers, a boundary that waits does so for a lane at an older
 -- version, and scans and plans are at the registry's version
 abbrev pub ItemFits : ℕ → ℕ → Registry → Item → Type 0
 ItemFits low high r (item.Registered name id from def) =
-    MayRegister r name × (id ≡ length r.rows) × IsBetween low high from
-ItemFits low high r (item.Rolling name id def seat version) = MayRegister r name × (id ≡ length r.rows)
-    × (version ≤ r.version)
-ItemFits low high r (item.Bound id from) = (r.waiting ≡ Some id) × IsBetween low high from
-ItemFits low high r (item.Deregistered name id to) = MayChange r × IsActiveNamed r.rows name id × IsBetween low high to
+    MayRegister r name × (id ≡ length r.rows) × LiesWithin low high from
+ItemFits low high r (item.Rolling name id def seat version) =
+    MayRegister r name × (id ≡ length r.rows) × (version ≤ r.version)
+ItemFits low high r (item.Bound id from) = (r.waiting ≡ Some id) × LiesWithin low high from
+ItemFits low high r (item.Deregistered name id to) = MayAlter r × IsActiveNamed r.rows name id × LiesWithin low high to
 ItemFits low high r (item.RegisterRefused name cause) = IsRegisterCause r name cause
 ItemFits low high r (item.DeregisterRefused name cause) = IsDeregisterCause r name cause
 ItemFits low high r (item.Scanned name value from to opens rows version) = version ≡ r.version

@@ -16,7 +16,7 @@ use Rattle.fish_report.specs.declared.item.Item.TheVariants as item
 use Rattle.fish_report.specs.declared.item.ScanCause.{ScanCause}
 use Rattle.fish_report.specs.declared.item.ScanCause.TheVariants as cause
 use Rattle.fish_rule.specs.Views.{Among}
-use Rattle.fish_scan.specs.Naming.{HasNone, IsNewest}
+use Rattle.fish_scan.specs.Naming.{HasNone, IsNewestListed}
 use Rattle.fish_scan.specs.Older.{selectable}
 use Rattle.fish_scan.specs.Reach.{Rise}
 use Rattle.fish_scan.specs.Scans.{AreEmptyEnds, IsEmptyAsk, first_asked}
@@ -37,7 +37,7 @@ pub record Means (w : Whole) (s : Span) (version : ℕ) (name : List ℕ) (def :
   pub rows : List Listed
   pub has : HasRows w s version rows
   pub position : ℕ
-  pub newest : IsNewest rows name position
+  pub newest : IsNewestListed rows name position
   pub accepted : IsAccepted newest.listed.def def
 
 -- the number is one that was asked for
@@ -85,7 +85,7 @@ pub record SaysPlan (w : Whole) (s : Span) (seen : ℕ → Type 0) (ask : Ask) (
   pub rows : List Listed
   pub has : HasRows w s version rows
   pub position : ℕ
-  pub newest : IsNewest rows ask.name position
+  pub newest : IsNewestListed rows ask.name position
   pub holds : HoldsSeen w seen ask from to []
   pub fill : Fill plan from to
   pub indexed : (position id begin end : ℕ) → slice_get plan position ≡ Some (Index id begin end)
@@ -97,7 +97,7 @@ abbrev pub IsRefusedFor : Whole → Span → Ask → ℕ → ScanCause → Type 
 IsRefusedFor w s ask version cause.UnknownName =
     (rows : List Listed) × HasRows w s version rows × HasNone rows ask.name
 IsRefusedFor w s ask version (cause.EmptyRange from to) = AreEmptyEnds ask from to
-    × ((rows : List Listed) × HasRows w s version rows × ((position : ℕ) × IsNewest rows ask.name position))
+    × ((rows : List Listed) × HasRows w s version rows × ((position : ℕ) × IsNewestListed rows ask.name position))
 IsRefusedFor w s ask version (cause.NotCovered from to) = (ask.how ≡ how.Index) × (from < to) × (to ≤ s.to)
     × (first_asked ask ≤ from) × ((end : ℕ) → ask.to ≡ Some end → to ≤ end)
 

@@ -20,7 +20,7 @@ use Rattle.fish_report.specs.declared.item.ScanCause.TheVariants as cause
 use Rattle.fish_rule.specs.Views.{AllOf}
 use Rattle.fish_rule.specs.declared.view.Shut.{Shut}
 use Rattle.fish_rule.specs.declared.view.View.{View}
-use Rattle.fish_scan.specs.Naming.{IsNewest}
+use Rattle.fish_scan.specs.Naming.{IsNewestListed}
 use Rattle.fish_scan.specs.Reach.{end_of}
 use Rattle.fish_scan.specs.Scans.{first_asked}
 use Rattle.fish_scan.specs.declared.ask.Answer.{Answer}
@@ -41,7 +41,7 @@ NamesNone x = ⊤
 -- ---- one statement
 
 -- the range is all that is asked for of a log that ends at this number
-pub record IsWhole (ask : Ask) (end from to : ℕ) : Type 0 where
+pub record IsWholeAnswer (ask : Ask) (end from to : ℕ) : Type 0 where
   pub begins : from ≡ min (first_asked ask) to
   pub ends : to ≡ end_of ask.to end
 
@@ -59,18 +59,18 @@ IsReadBy rows text how.Index from settled to plan = IsCoverOf rows text from set
 
 -- the plan of all that is asked for, by the text of the newest row with the name
 pub record IsPlanFor (rows : List CatRow) (ask : Ask) (end from to : ℕ) (plan : List Piece) : Type 0 where
-  pub whole : IsWhole ask end from to
+  pub whole : IsWholeAnswer ask end from to
   pub position : ℕ
-  pub newest : IsNewest (map listed_of rows) ask.name position
+  pub newest : IsNewestListed (map listed_of rows) ask.name position
   pub is : IsReadBy rows newest.listed.def ask.how from end to plan
 
 -- the numbers are those of the first gap in the cover of it
 pub record IsGapFor (rows : List CatRow) (ask : Ask) (end from to : ℕ) : Type 0 where
   pub position : ℕ
-  pub newest : IsNewest (map listed_of rows) ask.name position
+  pub newest : IsNewestListed (map listed_of rows) ask.name position
   pub first : ℕ
   pub last : ℕ
-  pub whole : IsWhole ask end first last
+  pub whole : IsWholeAnswer ask end first last
   pub plan : List Piece
   pub cover : IsCoverOf rows newest.listed.def first end last plan
   pub gap : IsFirstGap plan end from to

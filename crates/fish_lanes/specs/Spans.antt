@@ -22,16 +22,16 @@ made_by (item.Deregistered name id to) = 1
 made_by x = 0
 
 -- the block after an item of the first lane: the versions that it made are there
-abbrev pub behind : Item → Span → Span
-behind x s = record s { first = s.first + made_by x }
+abbrev pub span_after : Item → Span → Span
+span_after x s = record s { first = s.first + made_by x }
 
 -- whether the item answers a statement: a boundary that was found later answers none
 abbrev pub is_answer : Item → Bool
 is_answer (item.Bound id from) = false
 is_answer x = true
 
-abbrev pub IsAnswer : Item → Type 0
-IsAnswer x = is_answer x ≡ true
+abbrev pub IsAnswerItem : Item → Type 0
+IsAnswerItem x = is_answer x ≡ true
 
 -- the items that answer a statement each
 abbrev pub answers : List Item → List Item

@@ -2,15 +2,15 @@
 use Rattle.std.specs.Prelude.{ℕ, ◌≡◌, ◌<◌, ◌≤◌, ◌+◌, ◌⊎◌, ◌++◌, List, [], ◌∷◌, Option, Some, length, take}
 use Rattle.fish_lang.specs.Canonical.{definition_text}
 use Rattle.fish_lang.specs.Definition.{definition_of}
-use Rattle.fish_lanes.specs.Records.{Content, HasNumber, LaneRow, contents}
+use Rattle.fish_lanes.specs.Records.{Content, HasNumber, LaneRow, contents_of_rows}
 use Rattle.fish_lanes.specs.Registering.{IsDeregisterItem, IsRegisterItem}
 use Rattle.fish_lanes.specs.Scanning.{SaysExplained, SaysRefused, SaysScanned}
 use Rattle.fish_lanes.specs.Seen.{IsSeen, Shown, settled, shown_by}
 use Rattle.fish_lanes.specs.Sizes.{IsEarlier, IsSizeOf}
-use Rattle.fish_lanes.specs.Spans.{Span, answers, behind}
+use Rattle.fish_lanes.specs.Spans.{Span, answers, span_after}
 use Rattle.fish_lanes.specs.declared.work.Work.{Work}
 use Rattle.fish_lanes.specs.declared.work.Work.TheVariants as work
-use Rattle.fish_lines.specs.File.{accepted, refused}
+use Rattle.fish_value.specs.Outcomes.{accepted, refused}
 use Rattle.fish_lines.specs.Resuming.{outcomes_from}
 use Rattle.fish_report.specs.declared.item.Item.{Item}
 use Rattle.fish_report.specs.declared.item.Item.TheVariants as item
@@ -125,13 +125,13 @@ SaysItem w s before shown work.Checkpoint x = SaysCheckpoint s before shown x
 abbrev pub SaysItems : Whole → Span → List LaneRow → List Shown → List LaneRow → List Work → List Item → Type 0
 SaysItems w s before shown rows [] [] = rows ≡ []
 SaysItems w s before shown rows [] (x ∷ items) = ⊥
-SaysItems w s before shown rows (y ∷ works) [] = (j : ℕ) × (contents rows ≡ take j (content_of y))
+SaysItems w s before shown rows (y ∷ works) [] = (j : ℕ) × (contents_of_rows rows ≡ take j (content_of y))
 SaysItems w s before shown rows (y ∷ works) (x ∷ items) = (mine : List LaneRow) × (rest : List LaneRow)
     × (rows ≡ mine ++ rest)
-    × (contents mine ≡ take (count_of x) (content_of y))
+    × (contents_of_rows mine ≡ take (count_of x) (content_of y))
     × SaysItem w s before shown y x
     × StandFrom (told_to x) rest
-    × SaysItems w (behind x s) (before ++ mine) (shown ++ shown_by x) rest works items
+    × SaysItems w (span_after x s) (before ++ mine) (shown ++ shown_by x) rest works items
 
 -- the same from the lane's first statement on, by the items that answer statements
 abbrev pub SaysLane : Whole → Span → List LaneRow → List Work → List Item → Type 0

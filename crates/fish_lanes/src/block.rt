@@ -4,14 +4,14 @@ ghost use Rattle.std.specs.Prelude.{◌≤◌, ◌<◌, ◌∷◌, ℕ, length};
 ghost use Rattle.std.specs.Thread.{IsSync};
 ghost use Rattle.fish_lanes.specs.Blocks.{AreLanes};
 ghost use Rattle.fish_lanes.specs.Controlling.{CanControl};
-ghost use Rattle.fish_lanes.specs.Ending.{HasEnd};
+ghost use Rattle.fish_lanes.specs.Ending.{EndsAlone};
 ghost use Rattle.fish_lanes.specs.Leaving.{ItemsHold, LeavesLanes, LeavesStore};
 ghost use Rattle.fish_lanes.specs.Registering.{KnowsRegistry, registry_of};
 ghost use Rattle.fish_lanes.specs.within.Advancing.{HasGone};
-ghost use Rattle.fish_lanes.specs.within.Blocks.{AreGone, AreReady, CanGive, IsFirst};
+ghost use Rattle.fish_lanes.specs.within.Blocks.{AreGone, AreReady, CanGive, IsFirstLane};
 ghost use Rattle.fish_lanes.specs.within.Course.{HasFoundEnd};
-ghost use Rattle.fish_lanes.specs.within.Parts.{CanRun, RunsFirst, RunsLanes, store_of};
-ghost use Rattle.fish_lanes.specs.within.Running.{IsReady};
+ghost use Rattle.fish_lanes.specs.within.Parts.{CanRunStore, RunsFirst, RunsLanes, store_of};
+ghost use Rattle.fish_lanes.specs.within.Running.{IsLaneReady};
 ghost use Rattle.fish_rule.specs.LoadSteps.{IsAlone};
 ghost use Rattle.fish_rule.specs.Passes.{view};
 ghost use Rattle.fish_scan.specs.Colder.{IsBelow};
@@ -56,7 +56,7 @@ pub struct BlockEnd {
 
 /// Goes on with the statements of a lane by its own pass, which reads the definitions anew.
 fn run_seated<G: Gate>(alloc: Global, log: &Log, lane: &mut Lane, gate: &G)
-    requires ready { IsReady log.now lane.old }
+    requires ready { IsLaneReady log.now lane.old }
     ensures gone { HasGone log.now lane.old lane.new }
 {
     let Some(LanePass { mut pass }) = lane.seat.take() else {
@@ -108,8 +108,8 @@ fn run_first<D: Disk, G: Gate>(
     lane: &mut Lane,
     gate: &G,
 )
-    requires run { CanRun D.images disk.old (store_of file.old log.now control.old registrar.old) }
-    requires first { IsFirst (view control.old) registrar.old lane.old }
+    requires run { CanRunStore D.images disk.old (store_of file.old log.now control.old registrar.old) }
+    requires first { IsFirstLane (view control.old) registrar.old lane.old }
     ensures did { RunsFirst D.Disk disk.old (store_of file.old log.now control.old registrar.old) lane.old disk.new
         (store_of file.new log.now control.new registrar.new) lane.new }
 {
@@ -141,8 +141,8 @@ fn run_all<R: Threads + Sync, D: Disk + Send, G: Gate + Sync>(
     others: &mut [Lane],
     gate: &G,
 )
-    requires run { CanRun D.images disk.old (store_of file.old log.now control.old registrar.old) }
-    requires first { IsFirst (view control.old) registrar.old first.old }
+    requires run { CanRunStore D.images disk.old (store_of file.old log.now control.old registrar.old) }
+    requires first { IsFirstLane (view control.old) registrar.old first.old }
     requires ready { AreReady log.now others.old }
     ensures did { RunsFirst D.Disk disk.old (store_of file.old log.now control.old registrar.old) first.old disk.new
         (store_of file.new log.now control.new registrar.new) first.new }
@@ -177,8 +177,8 @@ fn run_by_passes<R: Threads + Sync, D: Disk + Send, G: Gate + Sync>(
     others: &mut [Lane],
     gate: &G,
 )
-    requires run { CanRun D.images disk.old (store_of file.old log.now control.old registrar.old) }
-    requires first { IsFirst (view control.old) registrar.old first.old }
+    requires run { CanRunStore D.images disk.old (store_of file.old log.now control.old registrar.old) }
+    requires first { IsFirstLane (view control.old) registrar.old first.old }
     requires others { CanGive (view control.old) others.old }
     ensures did { RunsLanes D.Disk disk.old (store_of file.old log.now control.old registrar.old) first.old others.old
         disk.new (store_of file.new log.now control.new registrar.new) first.new others.new }
@@ -218,8 +218,8 @@ fn run_lanes<R: Threads + Sync, D: Disk + Send, G: Gate + Sync>(
     others: &mut [Lane],
     gate: &G,
 ) -> BlockEnd
-    requires run { CanRun D.images disk.old (store_of file.old log.now control.old registrar.old) }
-    requires end { (from : ℕ) × HasEnd (view control.old) from }
+    requires run { CanRunStore D.images disk.old (store_of file.old log.now control.old registrar.old) }
+    requires end { (from : ℕ) × EndsAlone (view control.old) from }
     requires known { KnowsRegistry (view control.old) (registry_of (view control.old) registrar.old) }
     requires lanes { AreLanes (first.old ∷ others.old) }
     ensures store { LeavesStore D.Disk disk.old (store_of file.old log.now control.old registrar.old) disk.new
@@ -272,7 +272,7 @@ pub fn run_block<R: Threads + Sync, D: Disk + Send, G: Gate + Sync>(
     requires can { CanControl store.old.log store.old.pass store.old.registrar }
     requires commit { MayGoOn D.images (point_at disk.old store.old) }
     requires below { IsBelow store.old.log.key store.old.file.cold }
-    requires end { (from : ℕ) × HasEnd (view store.old.pass) from }
+    requires end { (from : ℕ) × EndsAlone (view store.old.pass) from }
     requires known { KnowsRegistry (view store.old.pass) (registry_of (view store.old.pass) store.old.registrar) }
     requires lanes { AreLanes lanes.old }
     ensures store { LeavesStore D.Disk disk.old store.old disk.new store.new lanes.new result }

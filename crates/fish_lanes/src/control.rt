@@ -3,10 +3,10 @@
 
 ghost use Rattle.std.specs.Prelude.{◌≡◌, [], All};
 ghost use Rattle.fish_epoch.specs.Definitions.{IsDefsOf};
-ghost use Rattle.fish_flush.specs.Carrying.{Reads};
+ghost use Rattle.fish_flush.specs.Carrying.{ReadsLog};
 ghost use Rattle.fish_lanes.specs.Registering.{IsAcceptable, KnowsRegistry, registry_of};
 ghost use Rattle.fish_lanes.specs.declared.work.Work.TheVariants as work;
-ghost use Rattle.fish_lanes.specs.within.Parts.{CanRun, RunsStatement, RunsWorks, store_of};
+ghost use Rattle.fish_lanes.specs.within.Parts.{CanRunStore, RunsStatement, RunsWorks, store_of};
 ghost use Rattle.fish_rule.specs.Passes.{view};
 
 use crate::finishing::run_shared;
@@ -37,7 +37,7 @@ pub(crate) fn run_control<D: Disk, G: Gate>(
     items: &mut Items,
     gate: &G,
 ) -> LaneFault
-    requires run { CanRun D.images disk.old (store_of file.old log.now pass.old registrar.old) }
+    requires run { CanRunStore D.images disk.old (store_of file.old log.now pass.old registrar.old) }
     requires known { KnowsRegistry (view pass.old) (registry_of (view pass.old) registrar.old) }
     requires acceptable { All IsAcceptable works.now }
     requires empty { items.old ≡ [] }
@@ -83,7 +83,7 @@ fn run_statement<D: Disk, G: Gate>(
     work: &Work,
     gate: &G,
 ) -> Result<Item, LaneFault>
-    requires run { CanRun D.images disk.old (store_of file.old log.now pass.old registrar.old) }
+    requires run { CanRunStore D.images disk.old (store_of file.old log.now pass.old registrar.old) }
     requires defs { IsDefsOf (view pass.old) defs.old }
     requires acceptable { IsAcceptable work.now }
     ensures defs { IsDefsOf (view pass.new) defs.new }
@@ -111,8 +111,8 @@ fn commit<D: Disk>(
     file: &mut StoreFile,
     disk: &mut D,
 ) -> Result<Item, LaneFault>
-    requires run { CanRun D.images disk.old (store_of file.old log.now pass.old registrar.now) }
-    ensures reads { Reads (view pass.old) (view pass.new) }
+    requires run { CanRunStore D.images disk.old (store_of file.old log.now pass.old registrar.now) }
+    ensures reads { ReadsLog (view pass.old) (view pass.new) }
     ensures ran { RunsStatement D.Disk disk.old (store_of file.old log.now pass.old registrar.now) disk.new
         (store_of file.new log.now pass.new registrar.now) work.Checkpoint result }
 {

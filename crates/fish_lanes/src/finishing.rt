@@ -7,12 +7,12 @@ ghost use Rattle.fish_lanes.specs.Blocks.{EachLane, EachLanePair};
 ghost use Rattle.fish_lanes.specs.Outcome.{Stops};
 ghost use Rattle.fish_lanes.specs.Running.{IsShared};
 ghost use Rattle.fish_lanes.specs.within.Works.{FinishesWorks};
-ghost use Rattle.fish_lanes.specs.within.Advancing.{HasFinished, IsShort};
+ghost use Rattle.fish_lanes.specs.within.Advancing.{HasFinished, IsShortFault};
 ghost use Rattle.fish_lanes.specs.within.Blocks.{AreReady};
 ghost use Rattle.fish_lanes.specs.within.Doing.{IsItem, IsPart};
-ghost use Rattle.fish_lanes.specs.within.Parts.{OnlyReads, StopsAt};
+ghost use Rattle.fish_lanes.specs.within.Parts.{OnlyReadsFile, StopsBy};
 ghost use Rattle.fish_lanes.specs.within.Pasts.{IsHere, WasHere};
-ghost use Rattle.fish_lanes.specs.within.Running.{CanBegin, HasDefs, IsReady};
+ghost use Rattle.fish_lanes.specs.within.Running.{CanBegin, HasDefs, IsLaneReady};
 ghost use Rattle.fish_rule.specs.Passes.{view};
 ghost use Rattle.fish_scan.specs.Colder.{IsBelow};
 
@@ -40,12 +40,12 @@ fn finish_lane<D: Disk, G: Gate>(
     full: bool,
     gate: &G,
 )
-    requires ready { IsReady log.now lane.old }
+    requires ready { IsLaneReady log.now lane.old }
     requires below { IsBelow log.now.key file.old.cold }
-    ensures reads { OnlyReads D.Disk log.now.key disk.old file.old disk.new file.new }
+    ensures reads { OnlyReadsFile D.Disk log.now.key disk.old file.old disk.new file.new }
     ensures finished { HasFinished (WasHere (D.content disk.old) log.now.key file.old.cold (D.content disk.new)) full
         log.now lane.old lane.new }
-    ensures stops { IsShort lane.old.fault → Stops (WasHere (D.content disk.old) log.now.key file.old.cold
+    ensures stops { IsShortFault lane.old.fault → Stops (WasHere (D.content disk.old) log.now.key file.old.cold
         (D.content disk.new)) (D.faults disk.old) (D.faults disk.new) lane.new.fault }
 {
     let LaneFault::None = lane.fault else {
@@ -81,8 +81,8 @@ pub(crate) fn finish_others<D: Disk, G: Gate>(
 )
     requires ready { AreReady log.now lanes.old }
     requires below { IsBelow log.now.key file.old.cold }
-    requires memory { EachLane (λ i x. IsShort x.fault) lanes.old }
-    ensures reads { OnlyReads D.Disk log.now.key disk.old file.old disk.new file.new }
+    requires memory { EachLane (λ i x. IsShortFault x.fault) lanes.old }
+    ensures reads { OnlyReadsFile D.Disk log.now.key disk.old file.old disk.new file.new }
     ensures finished { EachLanePair
         (λ i x y. HasFinished (WasHere (D.content disk.old) log.now.key file.old.cold (D.content disk.new)) full log.now
         x y) lanes.old lanes.new }
@@ -111,7 +111,7 @@ fn finish_works<D: Disk, G: Gate>(
     requires below { IsBelow log.now.key file.old.cold }
     requires shared { All IsShared works.now }
     ensures pass { CanBegin log.now pass.new }
-    ensures reads { OnlyReads D.Disk log.now.key disk.old file.old disk.new file.new }
+    ensures reads { OnlyReadsFile D.Disk log.now.key disk.old file.old disk.new file.new }
     ensures finishes { FinishesWorks (WasHere (D.content disk.old) log.now.key file.old.cold (D.content disk.new)) full
         (view pass.old) (view pass.new) works.now items.old items.new result }
     ensures stops { Stops (WasHere (D.content disk.old) log.now.key file.old.cold (D.content disk.new))
@@ -153,11 +153,11 @@ pub(crate) fn run_shared<D: Disk, G: Gate>(
     requires below { IsBelow log.now.key file.old.cold }
     requires shared { IsShared work.now }
     ensures has { HasDefs log.now pass.new defs.new }
-    ensures reads { OnlyReads D.Disk log.now.key disk.old file.old disk.new file.new }
+    ensures reads { OnlyReadsFile D.Disk log.now.key disk.old file.old disk.new file.new }
     ensures item { IfOk result (IsItem (IsHere (D.content disk.new) log.now.key file.old.cold) (view pass.old)
         (view pass.new) work.now) }
     ensures stops { IfErr result (λ e. IsPart (view pass.old) (view pass.new) work.now
-        × StopsAt (IsHere (D.content disk.new) log.now.key file.old.cold) (D.faults disk.old) (D.faults disk.new) e) }
+        × StopsBy (IsHere (D.content disk.new) log.now.key file.old.cold) (D.faults disk.old) (D.faults disk.new) e) }
 {
     match work {
         Work::Scan { ask } => scan_older(alloc, log, pass, file, disk, defs, ask),

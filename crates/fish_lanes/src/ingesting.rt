@@ -3,14 +3,15 @@
 ghost use Rattle.std.specs.Prelude.{◌≡◌, ◌≤◌, ◌+◌, length, IfOk, IfErr, MatchOption, OnErr};
 ghost use Rattle.fish_epoch.specs.Definitions.{IsDefsOf};
 ghost use Rattle.fish_ingest.specs.Ingestion.{CanIngest, CanStart, HasIngested};
-ghost use Rattle.fish_ingest.specs.Refusal.{HasNotClaimed, HasRefused, IsCause};
+ghost use Rattle.fish_ingest.specs.Refusal.{HasNotClaimed, HasRefused, IsIngestCause};
 ghost use Rattle.fish_lanes.specs.within.Doing.{IsItem, IsPart};
 ghost use Rattle.fish_lanes.specs.within.Pasts.{anywhere};
-ghost use Rattle.fish_lanes.specs.within.Storing.{EndsWith, FindsFull, FindsTextFull, IsGiven, IsPartStored, TakesLine};
-ghost use Rattle.fish_lanes.specs.within.Storing.{TakesText, item_of, nothing};
+ghost use Rattle.fish_lanes.specs.within.Storing.{EndsWith, FindsFull, FindsTextFull, IsRecordText, IsPartStored};
+ghost use Rattle.fish_lanes.specs.within.Storing.{TakesLine};
+ghost use Rattle.fish_lanes.specs.within.Storing.{TakesText, item_of, nothing_stored};
 ghost use Rattle.fish_lanes.specs.declared.work.Work.TheVariants as work;
 ghost use Rattle.fish_lines.specs.Resuming.{outcomes_from};
-ghost use Rattle.fish_lines.specs.Texts.{bytes_left, form_of, payload_in, text_form, texts_left};
+ghost use Rattle.fish_lines.specs.Texts.{bytes_left, form_of_texts, payload_in_text, text_form, texts_left};
 ghost use Rattle.fish_rule.specs.Passes.{IsPassOf, view};
 ghost use Rattle.fish_value.specs.Limits.{longest_file};
 
@@ -109,7 +110,7 @@ fn ingest_records<G: Gate>(
 ) -> Result<Option<Shut>, AllocError>
     requires can { CanIngest log.now pass.old defs.old }
     requires short { length file.now ≤ longest_file }
-    requires none { tally.old ≡ nothing }
+    requires none { tally.old ≡ nothing_stored }
     ensures pass { IsPassOf log.now pass.new }
     ensures defs { IsDefsOf (view pass.new) defs.new }
     ensures ends { IfOk result (EndsWith (view pass.old) (view pass.new) form (outcomes_from form begin file.now)
@@ -138,12 +139,12 @@ fn ingest_texts<G: Gate>(
 ) -> Result<Option<Shut>, AllocError>
     requires can { CanIngest log.now pass.old defs.old }
     requires short { bytes_left texts.old ≤ longest_file }
-    requires none { tally.old ≡ nothing }
+    requires none { tally.old ≡ nothing_stored }
     ensures pass { IsPassOf log.now pass.new }
     ensures defs { IsDefsOf (view pass.new) defs.new }
-    ensures ends { IfOk result (EndsWith (view pass.old) (view pass.new) (form_of texts.old) (texts_left texts.old)
-        tally.new) }
-    ensures part { IfErr result (λ _. IsPartStored (view pass.old) (view pass.new) (form_of texts.old)
+    ensures ends { IfOk result (EndsWith (view pass.old) (view pass.new) (form_of_texts texts.old)
+        (texts_left texts.old) tally.new) }
+    ensures part { IfErr result (λ _. IsPartStored (view pass.old) (view pass.new) (form_of_texts texts.old)
         (texts_left texts.old)) }
 {
     while let Some(text) = texts.next_text(alloc)? {
@@ -166,14 +167,14 @@ fn ingest_text<G: Gate>(
     gate: &G,
 ) -> Result<Option<Shut>, AllocError>
     requires can { CanIngest log.now pass.old defs.old }
-    requires text { IsGiven text }
+    requires text { IsRecordText text }
     requires room { tally.old.stored + tally.old.refused ≤ longest_file }
     ensures pass { IsPassOf log.now pass.new }
     ensures defs { IsDefsOf (view pass.new) defs.new }
     ensures takes { IfOk result
         (λ end. MatchOption end (TakesText (view pass.old) (view pass.new) (text_form text.entry)
-        (payload_in text.entry) tally.old tally.new) (FindsTextFull (view pass.old) (view pass.new)
-        (text_form text.entry) (payload_in text.entry) tally.old tally.new)) }
+        (payload_in_text text.entry) tally.old tally.new) (FindsTextFull (view pass.old) (view pass.new)
+        (text_form text.entry) (payload_in_text text.entry) tally.old tally.new)) }
     ensures left { OnErr result (HasNotClaimed (view pass.old) (view pass.new) × (tally.new ≡ tally.old)) }
 {
     match text {
@@ -237,7 +238,7 @@ fn ingest_at<G: Gate>(
     ensures pass { IsPassOf log.now pass.new }
     ensures defs { IsDefsOf (view pass.new) defs.new }
     ensures ingested { IfOk result (λ number. HasIngested (view pass.old) form payload.now number (view pass.new)) }
-    ensures cause { IfErr result (IsCause form payload.now) }
+    ensures cause { IfErr result (IsIngestCause form payload.now) }
     ensures refused { IfErr result (λ e. HasRefused (view pass.old) form payload.now e (view pass.new)) }
 {
     let pending = start(alloc, log, pass, defs, form, payload)?;

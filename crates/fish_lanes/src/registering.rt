@@ -7,7 +7,8 @@ ghost use Rattle.fish_lang.specs.Canonical.{definition_text};
 ghost use Rattle.fish_lang.specs.Definition.{definition_of};
 ghost use Rattle.fish_lanes.specs.Controlling.{CanControl};
 ghost use Rattle.fish_lanes.specs.Registering.{IsDeregisterItem, IsRegisterItem};
-ghost use Rattle.fish_lanes.specs.within.Controlling.{Controls, HasPolled, IsFound, KnowsAll, Looks, TellsBegun};
+ghost use Rattle.fish_lanes.specs.within.Controlling.{Controls, HasPolled, IsBoundaryFound, KnowsAll, LooksForBoundary};
+ghost use Rattle.fish_lanes.specs.within.Controlling.{TellsBegun};
 ghost use Rattle.fish_lanes.specs.within.Controlling.{TellsStep, WaitsFor, deregister_cause, register_cause};
 ghost use Rattle.fish_registry.specs.Changing.{Changes};
 ghost use Rattle.fish_registry.specs.Refusing.{IsSaid};
@@ -34,7 +35,7 @@ pub(crate) fn find_boundary(
     items: &mut Items,
 ) -> Result<(), AllocError>
     requires can { CanControl log.now pass.old registrar.old }
-    ensures looks { Looks log.now pass.old registrar.old pass.new registrar.new }
+    ensures looks { LooksForBoundary log.now pass.old registrar.old pass.new registrar.new }
     ensures polled { OnOk result
         (HasPolled (view pass.old) registrar.old (view pass.new) registrar.new items.old items.new) }
     ensures refused { OnErr result (items.new ≡ items.old) }
@@ -53,7 +54,7 @@ pub(crate) fn find_last(log: &Log, pass: &mut Pass, registrar: &mut Registrar) -
     ensures can { CanControl log.now pass.new registrar.new }
     ensures grows { RowsGoOn (view pass.old) registrar.old.catalog registrar.new.catalog }
     ensures changes { Changes (view pass.old) (view pass.new) }
-    ensures found { IsFound (view pass.old) registrar.old (view pass.new) registrar.new result }
+    ensures found { IsBoundaryFound (view pass.old) registrar.old (view pass.new) registrar.new result }
     ensures settled { registrar.new.waiting ≡ None }
 {
     match registrar.poll(log, pass) {

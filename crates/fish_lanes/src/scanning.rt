@@ -8,7 +8,7 @@ ghost use Rattle.fish_lanes.specs.declared.work.Work.TheVariants as work;
 ghost use Rattle.fish_lanes.specs.within.Causes.{fault_of};
 ghost use Rattle.fish_lanes.specs.within.Doing.{IsFit, IsRefusedItem, cause_of};
 ghost use Rattle.fish_lanes.specs.within.Older.{ScansOlder};
-ghost use Rattle.fish_lanes.specs.within.Parts.{OnlyReads, StopsAt};
+ghost use Rattle.fish_lanes.specs.within.Parts.{OnlyReadsFile, StopsBy};
 ghost use Rattle.fish_lanes.specs.within.Pasts.{IsHere, anywhere};
 ghost use Rattle.fish_lanes.specs.within.Running.{HasDefs};
 ghost use Rattle.fish_psf.specs.Blanks.{IsBlankOf};
@@ -68,11 +68,11 @@ pub(crate) fn scan_older<D: Disk>(
     requires base { IsBelow log.now.key file.old.cold }
     ensures has { HasDefs log.now pass.new defs.new }
     ensures only { OnlyScans (view pass.old) (view pass.new) }
-    ensures reads { OnlyReads D.Disk log.now.key disk.old file.old disk.new file.new }
+    ensures reads { OnlyReadsFile D.Disk log.now.key disk.old file.old disk.new file.new }
     ensures fits { IfOk result (IsFit (IsHere (D.content disk.new) log.now.key file.old.cold) (view pass.old)
         (view pass.new) (work.Scan ask.now)) }
 
-    ensures stops { IfErr result (StopsAt (IsHere (D.content disk.new) log.now.key file.old.cold) (D.faults disk.old)
+    ensures stops { IfErr result (StopsBy (IsHere (D.content disk.new) log.now.key file.old.cold) (D.faults disk.old)
         (D.faults disk.new)) }
 {
     let (parses, loads) = (Blank::new(1), Blank::new(1));
@@ -275,7 +275,7 @@ fn older_with<P: Ledger, L: Ledger, D: Disk>(
     requires base { IsBelow log.now.key file.old.cold }
     ensures has { HasDefs log.now pass.new defs.new }
     ensures only { OnlyScans (view pass.old) (view pass.new) }
-    ensures reads { OnlyReads D.Disk log.now.key disk.old file.old disk.new file.new }
+    ensures reads { OnlyReadsFile D.Disk log.now.key disk.old file.old disk.new file.new }
     ensures scans { ScansOlder (D.content disk.new) log.now.key file.old.cold (D.faults disk.old) (D.faults disk.new)
         (view pass.old) (view pass.new) defs.new.known ask.now result }
 {

@@ -1,7 +1,8 @@
 //! The passes of the lanes after the first: the control pass gives each its own, and takes them back.
 
 ghost use Rattle.std.specs.Prelude.{◌≡◌, length};
-ghost use Rattle.fish_lanes.specs.within.Blocks.{AreJoined, AreSeated, CanGive, CanTake, HasGiven, HasSeat, HasTaken};
+ghost use Rattle.fish_lanes.specs.within.Blocks.{AreJoined, AreSeated, CanGive, CanTake, HasGiven, HasSeat};
+ghost use Rattle.fish_lanes.specs.within.Blocks.{HasTakenLane};
 ghost use Rattle.fish_lanes.specs.within.Blocks.{HasTakenAll, WasTaken, WereTaken};
 ghost use Rattle.fish_rule.specs.Passes.{IsPassOf, view};
 ghost use Rattle.fish_rule.specs.SeatSteps.{CanSplitPass, split_left, split_right};
@@ -39,7 +40,7 @@ fn take_back(log: &Log, control: &mut Pass, lane: &mut Lane)
     requires pass { IsPassOf log.now control.old }
     requires can { CanTake log.now (view control.old) lane.old }
     ensures pass { IsPassOf log.now control.new }
-    ensures taken { HasTaken (view control.old) (view control.new) lane.old }
+    ensures taken { HasTakenLane (view control.old) (view control.new) lane.old }
     ensures lane { WasTaken lane.old lane.new }
 {
     let Some(LanePass { pass }) = lane.seat.take() else {

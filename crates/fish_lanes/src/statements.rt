@@ -5,8 +5,8 @@ ghost use Rattle.fish_epoch.specs.Definitions.{IsDefsOf};
 ghost use Rattle.fish_ingest.specs.Ingestion.{CanStart};
 ghost use Rattle.fish_lanes.specs.Running.{IsShared};
 ghost use Rattle.fish_lanes.specs.within.Works.{AdvancesWorks};
-ghost use Rattle.fish_lanes.specs.within.Advancing.{HasNext};
-ghost use Rattle.fish_lanes.specs.within.Causes.{fault_at, or_stop};
+ghost use Rattle.fish_lanes.specs.within.Advancing.{HasNextItem};
+ghost use Rattle.fish_lanes.specs.within.Causes.{fault_of_stop, or_stop};
 ghost use Rattle.fish_lanes.specs.within.Doing.{IsItem, IsStopped};
 ghost use Rattle.fish_lanes.specs.within.Pasts.{anywhere};
 ghost use Rattle.fish_lanes.specs.within.Running.{CanBegin};
@@ -73,7 +73,7 @@ pub(crate) fn run_works<G: Gate>(
 
 /// The fault with which a lane stops at a statement without an item: none where it stays before it.
 fn fault_at(stop: Stop) -> LaneFault
-    ensures { result ≡ fault_at stop }
+    ensures { result ≡ fault_of_stop stop }
 {
     match stop {
         Stop::Memory => LaneFault::Memory,
@@ -111,7 +111,7 @@ fn run_next<G: Gate>(
     requires shared { IsShared work.now }
     ensures pass { IsPassOf log.now pass.new }
     ensures defs { IsDefsOf (view pass.new) defs.new }
-    ensures next { HasNext (view pass.old) (view pass.new) work.now items.old items.new result }
+    ensures next { HasNextItem (view pass.old) (view pass.new) work.now items.old items.new result }
 {
     let position = position_of(items);
     gate.reach(lane(pass), Point::Before(position));

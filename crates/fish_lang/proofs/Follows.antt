@@ -11,7 +11,7 @@ use Rattle.fish_lang.specs.Derivation.{more_negs, Neg, not_neg, group, test, Der
 use Rattle.fish_lang.specs.Derivation.{path_steps, step_name, literal_value, test_formula, cond_formula, conj_formula}
 use Rattle.fish_lang.specs.Derivation.{neg_formula, meaning}
 use Rattle.fish_lang.specs.within.Machine as machine
-use Rattle.fish_lang.specs.within.Machine.{State, Head, Owner, Whole, Joint, Operand, complete, at_front, nesting}
+use Rattle.fish_lang.specs.within.Machine.{State, Head, Owner, Enclosing, Joint, Operand, complete, at_front, nesting}
 use Rattle.fish_lang.specs.within.Machine.{joint_nesting, whole_nesting, or_with, whole_of}
 use Rattle.fish_lang.specs.within.Moves.{advance, fault_at, finish, definition_with}
 use Rattle.fish_lang.specs.declared.definition.Op.{Op}
@@ -82,13 +82,13 @@ test_follows h k (start p s) = Follows-append (path_terminals p) _ _ _ _ (test_p
 )
 
 -- what is known after a condition
-abbrev behind_cond : Head → Whole → Cond → State
+abbrev behind_cond : Head → Enclosing → Cond → State
 behind_cond h w (one_conj c) = machine.behind_operand h (machine.in_whole w) (conj_formula c)
 behind_cond h w (more_conjs a c) = machine.behind_operand h (machine.behind_or (cond_formula a) w)
     (conj_formula c)
 
 -- `or` goes on after it
-or_follows : (h : Head) (w : Whole) (c : Cond) → Follows (behind_cond h w c) (keyword word.Or ∷ [])
+or_follows : (h : Head) (w : Enclosing) (c : Cond) → Follows (behind_cond h w c) (keyword word.Or ∷ [])
     (machine.operand h (machine.in_joint (machine.behind_or (cond_formula c) w)))
 or_follows h w (one_conj c) =
     (machine.operand h (machine.in_joint (machine.behind_or (conj_formula c) w)), refl, refl, refl)
@@ -114,7 +114,7 @@ finish_cond h (one_conj c) = refl
 finish_cond h (more_conjs a c) = refl
 
 mutual
-  cond_follows : (h : Head) (w : Whole) (c : Cond) → Follows (machine.operand h (at_front w))
+  cond_follows : (h : Head) (w : Enclosing) (c : Cond) → Follows (machine.operand h (at_front w))
       (cond_terminals (whole_nesting w) c) (behind_cond h w c)
   cond_follows h w (one_conj c) = conj_follows h (machine.in_whole w) c
   cond_follows h w (more_conjs a c) =

@@ -4,7 +4,7 @@ use Rattle.std.specs.Prelude.{Bool, true, false, nat_lt, Result, Ok, Err, if◌t
 use Rattle.std.proofs.lemmas.Bool.Decides.{nat_tests}
 use Rattle.fish_lang.specs.Canonical.{definition_text}
 use Rattle.fish_lang.specs.Definition.{Definition, definition_of}
-use Rattle.fish_lang.specs.Language.{IsVerdict, IsAnswer, IsOutcome, UnlessMemory}
+use Rattle.fish_lang.specs.Language.{IsVerdict, IsParseResult, IsOutcome, UnlessMemory}
 use Rattle.fish_lang.specs.within.Machine.{start}
 use Rattle.fish_lang.specs.Outcome.{Gives}
 use Rattle.fish_lang.specs.within.Outcome.{run, and_then, unless_long, outcome}
@@ -32,12 +32,12 @@ is_not_below a b h = grind (arith, nat_tests)
 read-answer : (b : List ℕ) (d : Definition) (long : Bool)
     → nat_lt longest_canonical (length (definition_text d)) ≡ long
     → IsVerdict (tokens b) (length b) (Ok d)
-    → IsAnswer b (if long then Err (refusal.TooLong (length (definition_text d))) else Ok d)
+    → IsParseResult b (if long then Err (refusal.TooLong (length (definition_text d))) else Ok d)
 read-answer b d true e h = record { said = d; read = h; long = below _ _ e; size = refl }
 read-answer b d false e h = (h, not_below _ _ e)
 
 answer-of : (b : List ℕ) (r : Result Definition LangRefusal) → IsVerdict (tokens b) (length b) r
-    → IsAnswer b (and_then r unless_long)
+    → IsParseResult b (and_then r unless_long)
 answer-of b (Ok d) h = read-answer b d (nat_lt longest_canonical (length (definition_text d))) refl h
 answer-of b (Err (refusal.Unexpected at)) h = h
 answer-of b (Err (refusal.TooDeep at)) h = h
@@ -57,7 +57,7 @@ pub outcome-is : (b : List ℕ) → IsOutcome b (outcome b)
 unfolding outcome
 outcome-is b = source-outcome b (nat_lt longest_source (length b)) refl
 
-only-answer : (b : List ℕ) (due : Result Definition LangRefusal) → IsAnswer b due
+only-answer : (b : List ℕ) (due : Result Definition LangRefusal) → IsParseResult b due
     → and_then (run start (tokens b) (length b)) unless_long ≡ due
 only-answer b (Ok d) h = rw (
   run-only (tokens b) (length b) (Ok d) h.0,

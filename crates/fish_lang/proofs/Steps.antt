@@ -10,7 +10,7 @@ use Rattle.fish_lang.specs.Derivation.{conj_formula, one_conj, more_conjs}
 use Rattle.fish_lang.specs.within.Machine as machine
 use Rattle.fish_lang.specs.within.Moves as moves
 use Rattle.fish_lang.specs.within.Machine.{State, complete, nesting}
-use Rattle.fish_lang.specs.within.Moves.{advance, fault_at, finish, name_of, text_of, value_of, number_of}
+use Rattle.fish_lang.specs.within.Moves.{advance, fault_at, finish, name_of, text_of_token, value_of_token, number_of_token}
 use Rattle.fish_lang.specs.declared.definition.Op.{Op}
 use Rattle.fish_lang.specs.declared.token.Token.{Token}
 use Rattle.fish_lang.specs.declared.token.Token.TheVariants.{Keyword, Ident, Str, Number, Compare, Open, Close, Dot}
@@ -47,10 +47,10 @@ names _ s h = cc
 -- a literal by its token
 record Stands (t : Token) (v : Value) : Type 0 where
   lit : Literal
-  terminal : literal_terminal lit ≡ record { token = t; fault = number_of t }
+  terminal : literal_terminal lit ≡ record { token = t; fault = number_of_token t }
   value : literal_value lit ≡ v
 
-stands : (t : Token) (v : Value) → value_of t ≡ Some v → Stands t v
+stands : (t : Token) (v : Value) → value_of_token t ≡ Some v → Stands t v
 stands (Keyword True) v h = record { lit = truth true; terminal = refl; value = cc }
 stands (Keyword False) v h = record { lit = truth false; terminal = refl; value = cc }
 stands (Number negative n) v h = record { lit = number negative n; terminal = refl; value = cc }
@@ -178,7 +178,7 @@ from_operand k j _ s h = cc
 
 -- a literal
 from_literal : (k : Head) (j : Operand) (p : Path) (op : Op) (t : Token) (s : State)
-    (v : Option Value) → value_of t ≡ v
+    (v : Option Value) → value_of_token t ≡ v
     → option_map (λ x. complete (head_state k) (operand_state j) (compares (path_steps p) op x)) v
     ≡ Some s → Longer (literal k j p op) t s
 from_literal k j p op t s None e h = cc
@@ -193,7 +193,7 @@ from_literal k j p op t s (Some v) e h =
 
 from_prefix : (k : Head) (j : Operand) (p : Path) (t : Token) (s : State)
     → option_map (λ x. complete (head_state k) (operand_state j) (begins (path_steps p) x))
-    (text_of t) ≡ Some s → Longer (prefix k j p) t s
+    (text_of_token t) ≡ Some s → Longer (prefix k j p) t s
 from_prefix k j p (Str x) s h = record {
   next = completed k j (test (start p x));
   stands = cc (completed-state k j (test (start p x)));
@@ -250,6 +250,6 @@ longer (behind_step o p) t s h = from_path o p t s h
 longer (width p) t s h = from_width p t s h
 longer (behind_width p n) t s h = behind_number p n t s h
 longer (operand k j) t s h = from_operand k j t s h
-longer (literal k j p op) t s h = from_literal k j p op t s (value_of t) refl h
+longer (literal k j p op) t s h = from_literal k j p op t s (value_of_token t) refl h
 longer (prefix k j p) t s h = from_prefix k j p t s h
 longer (behind_operand k j c) t s h = from_joint k j c t s h

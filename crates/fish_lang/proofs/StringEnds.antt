@@ -6,7 +6,7 @@ use Rattle.std.proofs.lemmas.Bool.{cases_Bool, eq-eqb, eqb-true, false≢true}
 use Rattle.std.proofs.lemmas.Bool.Decides.{nat_tests}
 use Rattle.std.proofs.lemmas.Grind.{reverse_onto}
 use Rattle.std.proofs.Math.Seq.{drop-length, take-length}
-use Rattle.fish_lang.specs.Pieces.{EndsOdd, IsEnded, IsUnended, backslashes}
+use Rattle.fish_lang.specs.Pieces.{EndsOdd, IsClosedString, IsUnendedString, backslashes}
 use Rattle.fish_lang.specs.Token.{string_length}
 use Rattle.fish_lang.proofs.TokenLemmas.{both}
 
@@ -147,13 +147,13 @@ stops o (c ∷ b) = stops-turn o c b ((c == 34) && not o) refl (stops ((c == 92)
 
 -- ---- ends, in the words of a reader
 
-to-open : (s : List ℕ) → IsOpenFrom false s → IsUnended s
+to-open : (s : List ℕ) → IsOpenFrom false s → IsUnendedString s
 to-open s h front behind e = ends_odd front (h front behind e)
 
-from-open : (s : List ℕ) → IsUnended s → IsOpenFrom false s
+from-open : (s : List ℕ) → IsUnendedString s → IsOpenFrom false s
 from-open s h front behind e = bit_odd front (h front behind e)
 
-to-shut : (s : List ℕ) → IsShutFrom false s → IsEnded s
+to-shut : (s : List ℕ) → IsShutFrom false s → IsClosedString s
 to-shut s h = record {
   inside = h.inside;
   is = h.is;
@@ -165,7 +165,7 @@ not-yes : (b : Bool) → (b ≡ true → ⊥) → b ≡ false
 not-yes true n = absurd (n refl)
 not-yes false n = refl
 
-from-shut : (s : List ℕ) → IsEnded s → IsShutFrom false s
+from-shut : (s : List ℕ) → IsClosedString s → IsShutFrom false s
 from-shut s h = record {
   inside = h.inside;
   is = h.is;
@@ -174,17 +174,17 @@ from-shut s h = record {
 }
 
 -- the bytes that a lexer takes end the string, or the source ends
-pub string-ends : (b : List ℕ) → IsEnded (take (string_length false b) b)
-    ⊎ (IsUnended (take (string_length false b) b) × (drop (string_length false b) b ≡ []))
+pub string-ends : (b : List ℕ) → IsClosedString (take (string_length false b) b)
+    ⊎ (IsUnendedString (take (string_length false b) b) × (drop (string_length false b) b ≡ []))
 string-ends b = elim (stops false b) [
   | inl shut ↦ inl (to-shut (take (string_length false b) b) shut)
-  | inr all ↦ inr (subst (λ n. IsUnended (take n b) × (drop n b ≡ [])) (sym all.1)
-      (subst IsUnended (sym (take-length b)) (to-open b all.0), drop-length b))
+  | inr all ↦ inr (subst (λ n. IsUnendedString (take n b) × (drop n b ≡ [])) (sym all.1)
+      (subst IsUnendedString (sym (take-length b)) (to-open b all.0), drop-length b))
 ]
 
 -- it takes all of a string that ends, and at least all of one that doesn't
-pub ended-taken : (s r : List ℕ) → IsEnded s → string_length false (s ++ r) ≡ length s
+pub ended-taken : (s r : List ℕ) → IsClosedString s → string_length false (s ++ r) ≡ length s
 ended-taken s r h = shut-passed false s r (from-shut s h)
 
-pub unended-taken : (s r : List ℕ) → IsUnended s → length s ≤ string_length false (s ++ r)
+pub unended-taken : (s r : List ℕ) → IsUnendedString s → length s ≤ string_length false (s ++ r)
 unended-taken s r h = omega (arith, open-passed false s r (from-open s h))

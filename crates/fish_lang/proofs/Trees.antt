@@ -56,7 +56,7 @@ pub data Tree : Type 0 where
 
 -- the state that each stands for
 abbrev mutual
-  pub whole_state : Whole → machine.Whole
+  pub whole_state : Whole → machine.Enclosing
   whole_state top = machine.top
   whole_state (in_group k) = machine.in_group (operand_state k)
 

@@ -8,7 +8,7 @@ use Rattle.fish_lang.specs.Language.{kinds, unrefused, IsRead, BeginsWell, Begin
 use Rattle.fish_lang.specs.within.Machine as machine
 use Rattle.fish_lang.specs.within.Machine.{State}
 use Rattle.fish_lang.specs.within.Moves.{advance, fault_at, finish}
-use Rattle.fish_lang.specs.within.Outcome.{run, and_then, end_of, unless_unexpected, refusal_of}
+use Rattle.fish_lang.specs.within.Outcome.{run, and_then, outcome_at, unless_unexpected, refusal_at}
 use Rattle.fish_lang.specs.declared.parse.LangRefusal.{LangRefusal}
 use Rattle.fish_lang.specs.declared.parse.LangRefusal.TheVariants as refusal
 use Rattle.fish_lang.specs.declared.fault.Fault.{Fault}
@@ -42,7 +42,7 @@ begins-with ts p x xs more token e =
 
 -- the end of the tokens
 verdict-end : (ts : List Placed) (s : State) (end : ℕ) (d : Option Definition) → Reached ts s
-    → Follows machine.start (unrefused ts) s → finish s ≡ d → IsVerdict ts end (end_of d end)
+    → Follows machine.start (unrefused ts) s → finish s ≡ d → IsVerdict ts end (outcome_at d end)
 verdict-end ts s end (Some d) r f e =
     let fits : finish (state_of r.tree) ≡ Some d = rw r.stands e in
     let whole = ends r.tree d fits in
@@ -61,7 +61,7 @@ verdict-end ts s end None r f e =
     )
 
 verdict-fault : (fault : Fault) (ts : List Placed) (at end : ℕ) → Faulty fault ts at
-    → IsVerdict ts end (Err (refusal_of fault at))
+    → IsVerdict ts end (Err (refusal_at fault at))
 verdict-fault TooDeep ts at end h = h
 verdict-fault NumberTooLarge ts at end h = h
 verdict-fault ZeroWidth ts at end h = h
@@ -192,7 +192,7 @@ only-end ts end x (Some d) e none =
     absurd (none whole.whole (ap spelled (whole.spells ∙ r.spells) ∙ spelled-unrefused ts))
 
 only-fault : (fault : Fault) (ts : List Placed) (at end : ℕ) → Faulty fault ts at
-    → run machine.start ts end ≡ Err (refusal_of fault at)
+    → run machine.start ts end ≡ Err (refusal_at fault at)
 only-fault fault ts at end h =
     let g = followed h.tree in
     let P : List Terminal → Type 0 = λ z. Follows machine.start z g.state in

@@ -88,15 +88,15 @@ pub record HasLongText (ts : List Placed) (n : ℕ) : Type 0 where
   pub size : n ≡ length (definition_text said)
 
 -- what a source of no more than the most bytes is
-abbrev pub IsAnswer : List ℕ → Result Definition LangRefusal → Type 0
-IsAnswer b (Ok d) = IsRead (tokens b) d × (length (definition_text d) ≤ longest_canonical)
-IsAnswer b (Err (refusal.TooLong n)) = HasLongText (tokens b) n
-IsAnswer b (Err e) = IsVerdict (tokens b) (length b) (Err e)
+abbrev pub IsParseResult : List ℕ → Result Definition LangRefusal → Type 0
+IsParseResult b (Ok d) = IsRead (tokens b) d × (length (definition_text d) ≤ longest_canonical)
+IsParseResult b (Err (refusal.TooLong n)) = HasLongText (tokens b) n
+IsParseResult b (Err e) = IsVerdict (tokens b) (length b) (Err e)
 
 -- what a source is: too long, or what its tokens are
 abbrev pub IsOutcome : List ℕ → Result Definition LangRefusal → Type 0
 IsOutcome b r = ((longest_source < length b) × (r ≡ Err (refusal.TooLong (length b)))) ⊎
-    ((length b ≤ longest_source) × IsAnswer b r)
+    ((length b ≤ longest_source) × IsParseResult b r)
 
 -- the source is this definition
 abbrev pub IsAccepted : List ℕ → Definition → Type 0

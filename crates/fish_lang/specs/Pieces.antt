@@ -18,14 +18,14 @@ abbrev pub EndsOdd : List ℕ → Type 0
 EndsOdd front = backslashes (reverse front) % 2 ≡ 1
 
 -- an odd run of backslashes precedes each quote
-abbrev pub IsUnended : List ℕ → Type 0
-IsUnended s = (front behind : List ℕ) → s ≡ front ++ 34 ∷ behind → EndsOdd front
+abbrev pub IsUnendedString : List ℕ → Type 0
+IsUnendedString s = (front behind : List ℕ) → s ≡ front ++ 34 ∷ behind → EndsOdd front
 
 -- the last byte is the first quote that no odd run of backslashes precedes
-pub record IsEnded (s : List ℕ) : Type 0 where
+pub record IsClosedString (s : List ℕ) : Type 0 where
   pub inside : List ℕ
   pub is : s ≡ inside ++ 34 ∷ []
-  pub unended : IsUnended inside
+  pub unended : IsUnendedString inside
   pub ends : ¬ EndsOdd inside
 
 -- ---- pieces
@@ -36,7 +36,7 @@ IsWord c t = (begins_word c ≡ true) × (list_all is_word_byte t ≡ true)
 
 -- a quote, with the bytes up to the one that ends the string, or up to the end of the source where none does
 abbrev pub IsString : ℕ → List ℕ → List ℕ → Type 0
-IsString c t rest = (c ≡ 34) × (IsEnded t ⊎ (IsUnended t × (rest ≡ [])))
+IsString c t rest = (c ≡ 34) × (IsClosedString t ⊎ (IsUnendedString t × (rest ≡ [])))
 
 -- `!=`, `<=` or `>=`
 abbrev pub IsSign : ℕ → List ℕ → Type 0

@@ -98,7 +98,7 @@ pub fn from_literal(
     ensures { IfOk result
         (λ next. option_map state_view next
         ≡ option_map (λ v. machine.complete (head_view head) (operand_view position) (compares path op v))
-        (moves.value_of token)) }
+        (moves.value_of_token token)) }
 {
     match value_of(token) {
         Some(literal) => {
@@ -114,7 +114,7 @@ pub fn from_literal(
 
 /// A number outside an `i64` is refused, so it does not matter what stands for it.
 fn value_of(token: Token) -> Option<Value>
-    ensures { result ≡ moves.value_of token }
+    ensures { result ≡ moves.value_of_token token }
 {
     match token {
         Token::Keyword(Keyword::True) => Some(Value::Bool(true)),
@@ -139,7 +139,7 @@ pub fn from_prefix(
     ensures { IfOk result
         (λ next. option_map state_view next
         ≡ option_map (λ s. machine.complete (head_view head) (operand_view position) (begins path s))
-        (moves.text_of token)) }
+        (moves.text_of_token token)) }
 {
     match token {
         Token::Str(prefix) => {

@@ -1,7 +1,7 @@
 //! Tokens that fit in their position and are refused there.
 
 ghost use Rattle.std.specs.Prelude.{◌≡◌};
-ghost use Rattle.fish_lang.specs.within.Moves.{fault_at, nests, number_of, width_of};
+ghost use Rattle.fish_lang.specs.within.Moves.{fault_at, nests, number_of_token, width_of};
 ghost use Rattle.fish_lang.specs.within.Views.{state_view};
 
 use crate::position::nests_less;
@@ -46,7 +46,7 @@ fn nests(token: &Token) -> bool
 
 /// The fault of a literal: a number outside an `i64`.
 fn number_of(token: &Token) -> Option<Fault>
-    ensures { result ≡ number_of token.now }
+    ensures { result ≡ number_of_token token.now }
 {
     match token {
         Token::Number { value: None, .. } => Some(Fault::NumberTooLarge),

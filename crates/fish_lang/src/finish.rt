@@ -65,7 +65,7 @@ fn ended_with(
 /// The definition that ends with a whole condition, where no group is open.
 fn ended(head: Head, whole: Whole, cond: Cond) -> Option<Def>
     ensures { option_map definition_of result
-        ≡ moves.ended (head_view head) (whole_view whole) (formula_of cond) }
+        ≡ moves.definition_at (head_view head) (whole_view whole) (formula_of cond) }
 {
     match whole {
         Whole::Top => Some(definition_with(head, cond)),

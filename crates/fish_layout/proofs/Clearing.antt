@@ -2,7 +2,7 @@
 use Rattle.std.proofs.Common.{◌≡◌, ℕ, ◌-◌, ◌*◌, ◌%◌, ◌<◌, ◌≤◌, refl, ◌∙◌, arith}
 use Rattle.std.proofs.Math.Decide.{ℕ_discrete, dec_le}
 use Rattle.fish_layout.specs.Cleared.{IsKeyWord, choose, cleared}
-use Rattle.fish_layout.specs.within.Cleared.{Agrees}
+use Rattle.fish_layout.specs.within.Cleared.{AgreesOutsideKeys}
 use Rattle.fish_layout.specs.Header.{keys_of, lines_of}
 
 -- choices by one test are equal where they are equal on each side that it can take
@@ -31,7 +31,7 @@ pub head_stays : (n : ℕ) → ¬ IsKeyWord n 0
 head_stays n key = omega arith
 
 -- regions that agree off the first words of their key entries have the same cleared word at each position
-cleared_same_at : (f g : ℕ → ℕ) → Agrees f g → (i : ℕ) → cleared g i ≡ cleared f i
+cleared_same_at : (f g : ℕ → ℕ) → AgreesOutsideKeys f g → (i : ℕ) → cleared g i ≡ cleared f i
 unfolding cleared
 cleared_same_at f g same i =
     let head : g 0 ≡ f 0 = same 0 (omega arith) (head_stays (keys_of (f 0))) in
@@ -43,7 +43,7 @@ cleared_same_at f g same i =
     (λ behind. refl))
 
 -- regions that agree off the first words of their key entries are cleared to the same
-pub cleared_same : (f g : ℕ → ℕ) → Agrees f g → cleared g ≡ cleared f
+pub cleared_same : (f g : ℕ → ℕ) → AgreesOutsideKeys f g → cleared g ≡ cleared f
 cleared_same f g same = λ i n. cleared_same_at f g same n i
 
 -- a word within the lines that is the first of no key entry stays

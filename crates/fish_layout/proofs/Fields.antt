@@ -5,7 +5,7 @@ use Rattle.fish_value.specs.declared.field.Form.{Form}
 use Rattle.fish_value.specs.declared.field.Form.TheVariants.{Json, Csv}
 use Rattle.fish_layout.specs.Header.{field, form_code, form_of, header_word, keys_of}
 use Rattle.fish_layout.specs.Header.{lane_of, length_of, lines_of}
-use Rattle.fish_layout.specs.within.Header.{version_of}
+use Rattle.fish_layout.specs.within.Header.{header_version}
 
 -- the fields of a header are within their bits
 pub record FitHeader (lines form keys lane version length : ℕ) : Type 0 where
@@ -62,10 +62,10 @@ lane_of-header {lines} {form} {keys} {lane} {version} {length} fit =
     (omega arith) fit.lane_fit
 
 -- the version in a header is what it was made from
-pub version_of-header : {lines form keys lane version length : ℕ} → FitHeader lines form keys lane version length →
-    version_of (header_word lines form keys lane version length) ≡ version
-unfolding version_of
-version_of-header {lines} {form} {keys} {lane} {version} {length} fit =
+pub header_version-header : {lines form keys lane version length : ℕ} → FitHeader lines form keys lane version length →
+    header_version (header_word lines form keys lane version length) ≡ version
+unfolding header_version
+header_version-header {lines} {form} {keys} {lane} {version} {length} fit =
     field_is length 10 version 32 (lines + form * 2 ^ 16 + keys * 2 ^ 18 + lane * 2 ^ 27) _ (omega arith)
     (omega arith) fit.version_fit
 

@@ -3,18 +3,18 @@ use Rattle.std.proofs.Common.{◌≡◌, ℕ, ◌^◌, ◌<◌, ◌≤◌, Optio
 use Rattle.fish_value.specs.declared.field.Form.{Form}
 use Rattle.fish_value.specs.declared.field.Form.TheVariants.{Json, Csv}
 use Rattle.fish_layout.specs.Header.{form_code, form_of, keys_of, lane_of, length_of, lines_of, void_word}
-use Rattle.fish_layout.specs.within.Header.{version_of}
+use Rattle.fish_layout.specs.within.Header.{header_version}
 use Rattle.fish_layout.specs.Headers.{IsHeader, IsHeaderOf, IsRecordHeader, IsVoidHeader}
 use Rattle.fish_layout.specs.declared.header.Header.{Header}
 use Rattle.fish_layout.proofs.Fields.{FitHeader, form_code_fits, form_of-header, keys_of-header}
-use Rattle.fish_layout.proofs.Fields.{lane_of-header, length_of-header, lines_of-header, version_of-header}
+use Rattle.fish_layout.proofs.Fields.{lane_of-header, length_of-header, lines_of-header, header_version-header}
 
 -- the fields of a word are those of a header
 pub record Says (w : ℕ) (h : Header) : Type 0 where
   pub lines : lines_of w ≡ h.lines
   pub keys : keys_of w ≡ h.keys
   pub lane : lane_of w ≡ h.lane
-  pub version : version_of w ≡ h.version
+  pub version : header_version w ≡ h.version
   pub length : length_of w ≡ h.length
 
 -- limits are within the bits
@@ -37,7 +37,7 @@ header_says {w} {f} {h} is =
       lines = ap lines_of is.is ∙ lines_of-header (fits is);
       keys = ap keys_of is.is ∙ keys_of-header (fits is);
       lane = ap lane_of is.is ∙ lane_of-header (fits is);
-      version = ap version_of is.is ∙ version_of-header (fits is);
+      version = ap header_version is.is ∙ header_version-header (fits is);
       length = ap length_of is.is ∙ length_of-header (fits is);
     }
 

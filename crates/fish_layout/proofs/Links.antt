@@ -3,14 +3,14 @@ use Rattle.std.proofs.Common.{◌≡◌, ℕ, zero, suc, ◌+◌, ◌-◌, ◌*�
 use Rattle.std.proofs.Common.{List, [], ◌∷◌, ◌++◌, length, get_or, replicate}
 use Rattle.std.proofs.Common.{refl, ap, sym, ◌∙◌, ◌≤◌, arith, append_assoc, subst}
 use Rattle.fish_layout.specs.Body.{AreProperKeys, IsApart, IsProper, body_header, body_lines}
-use Rattle.fish_layout.specs.Body.{body_words, key_words, values_of, words_behind}
+use Rattle.fish_layout.specs.Body.{body_words, key_words, values_of, words_after_head}
 use Rattle.fish_layout.specs.Bytes.{words_of_bytes}
 use Rattle.fish_layout.specs.Cleared.{AreUnlinked, IsKeyWord, unlink, unlinked}
 use Rattle.fish_layout.specs.Header.{form_code, header_word}
 use Rattle.fish_layout.specs.Values.{value_bytes}
 use Rattle.fish_layout.specs.declared.parts.BodyParts.{BodyParts}
 use Rattle.fish_layout.specs.declared.parts.KeyPart.{KeyPart}
-use Rattle.fish_layout.proofs.Sizes.{length-words_behind}
+use Rattle.fish_layout.proofs.Sizes.{length-words_after_head}
 
 -- key entries from a position on whose previous nodes are what a function gives for their positions
 abbrev pub relink : (ℕ → ℕ) → ℕ → List KeyPart → List KeyPart
@@ -97,7 +97,7 @@ relink_key r c number position offset (k ∷ ks) t (suc (suc (suc i))) h first =
 abbrev pub after_keys : BodyParts → List ℕ
 after_keys p =
     words_of_bytes (values_of p.keys) ++
-    (words_of_bytes p.payload ++ replicate (body_lines p * 4 - (1 + length (words_behind p))) 0)
+    (words_of_bytes p.payload ++ replicate (body_lines p * 4 - (1 + length (words_after_head p))) 0)
 
 -- a record is its header, its key entries and what follows them
 pub body_parted : (p : BodyParts) → body_words p ≡ body_header p ∷ (key_words p.number 0 0 p.keys ++ after_keys p)
@@ -105,10 +105,10 @@ unfolding body_words
 body_parted p = simp append_assoc
 
 -- as many words
-relinked_length : (r : ℕ → ℕ) (p : BodyParts) → length (words_behind (relinked r p)) ≡ length (words_behind p)
+relinked_length : (r : ℕ → ℕ) (p : BodyParts) → length (words_after_head (relinked r p)) ≡ length (words_after_head p)
 relinked_length r p =
-    length-words_behind (relinked r p)
-    ∙ rw (length-relink r 0 p.keys, values_of-relink r 0 p.keys) (sym (length-words_behind p))
+    length-words_after_head (relinked r p)
+    ∙ rw (length-relink r 0 p.keys, values_of-relink r 0 p.keys) (sym (length-words_after_head p))
 
 -- as many lines
 pub relinked_lines : (r : ℕ → ℕ) (p : BodyParts) → body_lines (relinked r p) ≡ body_lines p
@@ -130,7 +130,7 @@ relinked_after r p =
     (words_of_bytes p.payload ++ replicate ((1 + n + 3) / 4 * 4 - (1 + n)) 0)) (relinked_length r p)
     ∙ ap (λ b.
     words_of_bytes b ++
-    (words_of_bytes p.payload ++ replicate (body_lines p * 4 - (1 + length (words_behind p))) 0))
+    (words_of_bytes p.payload ++ replicate (body_lines p * 4 - (1 + length (words_after_head p))) 0))
     (values_of-relink r 0 p.keys)
 
 -- as proper

@@ -3,7 +3,7 @@ use Rattle.std.proofs.Common.{◌≡◌, ℕ, zero, suc, ◌+◌, ◌-◌, ◌*�
 use Rattle.std.proofs.Common.{List, [], ◌∷◌, ◌++◌, length, get_or, replicate, refl, sym, ap, ◌∙◌, arith}
 use Rattle.std.proofs.lemmas.List.{ext_get_or}
 use Rattle.std.proofs.Math.Decide.{ℕ_discrete, dec_le}
-use Rattle.fish_layout.specs.Body.{IsBody, IsProper, body_header, body_words, key_words, values_of, words_behind}
+use Rattle.fish_layout.specs.Body.{IsBody, IsProper, body_header, body_words, key_words, values_of, words_after_head}
 use Rattle.fish_layout.specs.Bytes.{words_of_bytes}
 use Rattle.fish_layout.specs.within.Cleared.{IsNumberWord}
 use Rattle.fish_layout.specs.within.Entry.{renumbered}
@@ -13,7 +13,7 @@ use Rattle.fish_layout.specs.declared.parts.BodyParts.{BodyParts}
 use Rattle.fish_layout.specs.declared.parts.KeyPart.{KeyPart}
 use Rattle.fish_layout.proofs.Links.{after_keys, body_parted}
 use Rattle.fish_layout.proofs.Outlines.{body_length}
-use Rattle.fish_layout.proofs.Sizes.{length-body_words, length-words_behind}
+use Rattle.fish_layout.proofs.Sizes.{length-body_words, length-words_after_head}
 
 -- a word that is the second of no entry has no number
 number_at : (m n position offset : ℕ) (ks : List KeyPart) (t : List ℕ) (i : ℕ) → ¬ ((i < 3 * length ks) × (i % 3 ≡ 1)) →
@@ -41,8 +41,8 @@ abbrev numbered : ℕ → BodyParts → BodyParts
 numbered m p = record p { number = m }
 
 -- as many words
-numbered_length : (m : ℕ) (p : BodyParts) → length (words_behind (numbered m p)) ≡ length (words_behind p)
-numbered_length m p = length-words_behind (numbered m p) ∙ sym (length-words_behind p)
+numbered_length : (m : ℕ) (p : BodyParts) → length (words_after_head (numbered m p)) ≡ length (words_after_head p)
+numbered_length m p = length-words_after_head (numbered m p) ∙ sym (length-words_after_head p)
 
 -- the words of a record with another number, with the parts that stay as they are in the record
 numbered_parted : (m : ℕ) (p : BodyParts) →

@@ -4,7 +4,7 @@ use Rattle.std.proofs.Common.{List, [], ◌∷◌, ◌++◌, length, get_or, tak
 use Rattle.std.proofs.Common.{refl, sym, ap, ◌∙◌, subst, arith, length-append, length-drop}
 use Rattle.std.proofs.lemmas.List.{take_all}
 use Rattle.std.proofs.Math.Seq.{drop-append-add, drop-append_seam}
-use Rattle.fish_layout.specs.Body.{IsBody, body_header, body_lines, body_words, key_words, values_of, words_behind}
+use Rattle.fish_layout.specs.Body.{IsBody, body_header, body_lines, body_words, key_words, values_of, words_after_head}
 use Rattle.fish_layout.specs.Bytes.{bytes_in, words_for, words_of_bytes}
 use Rattle.fish_layout.specs.Cleared.{entry_at}
 use Rattle.fish_layout.specs.Entry.{value_offset, value_size}
@@ -17,12 +17,12 @@ use Rattle.fish_layout.proofs.Bytes.{bytes_back}
 use Rattle.fish_layout.proofs.Entries.{some_element, values_of-more}
 use Rattle.fish_layout.proofs.KeyWords.{body_key}
 use Rattle.fish_layout.proofs.Links.{after_keys, body_parted}
-use Rattle.fish_layout.proofs.Sizes.{length-body_words, length-key_words, length-words_behind, length-words_of_bytes}
+use Rattle.fish_layout.proofs.Sizes.{length-body_words, length-key_words, length-words_after_head, length-words_of_bytes}
 use Rattle.fish_layout.proofs.Utf8.{bytes_text, bytes_values}
 
 -- the padding of a record
 abbrev padding : BodyParts → List ℕ
-padding p = replicate (body_lines p * 4 - (1 + length (words_behind p))) 0
+padding p = replicate (body_lines p * 4 - (1 + length (words_after_head p))) 0
 
 -- after the key entries stand the values
 pub drop_keys : (p : BodyParts) →
@@ -74,7 +74,7 @@ body_length {p} {ws} h = ap length h.is ∙ length-body_words p
 
 -- all of it stands within the words
 pub body_room : {p : BodyParts} {ws : List ℕ} → IsBody p ws → payload_place p + words_for (length p.payload) ≤ length ws
-body_room {p} {ws} h = omega (arith, ap length h.is, length-body_words p, length-words_behind p)
+body_room {p} {ws} h = omega (arith, ap length h.is, length-body_words p, length-words_after_head p)
 
 -- the last key entry says where the values end
 last_key : {p : BodyParts} {ws : List ℕ} → IsBody p ws → (k : KeyPart) (n : ℕ) → n + 1 ≡ length p.keys →

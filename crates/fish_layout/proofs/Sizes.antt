@@ -6,7 +6,7 @@ use Rattle.std.proofs.lemmas.List.FromFn.{length-map-range_with_len}
 use Rattle.fish_value.specs.declared.value.Value.{Value}
 use Rattle.fish_value.specs.declared.value.Value.TheVariants as kind
 use Rattle.fish_layout.specs.Body.{AreProperKeys, IsProper, IsProperValue, body_lines}
-use Rattle.fish_layout.specs.Body.{body_words, key_words, values_of, words_behind}
+use Rattle.fish_layout.specs.Body.{body_words, key_words, values_of, words_after_head}
 use Rattle.fish_layout.specs.Bytes.{word_at, words_for, words_of_bytes}
 use Rattle.fish_layout.specs.Values.{value_bytes}
 use Rattle.fish_layout.specs.declared.parts.BodyParts.{BodyParts}
@@ -42,10 +42,10 @@ few_value_bytes least (k ∷ ks) keys =
     )
 
 -- how many words come after the header, without the padding
-pub length-words_behind : (p : BodyParts) →
-    length (words_behind p) ≡
+pub length-words_after_head : (p : BodyParts) →
+    length (words_after_head p) ≡
     3 * length p.keys + words_for (length (values_of p.keys)) + words_for (length p.payload)
-length-words_behind p =
+length-words_after_head p =
     let keys = key_words p.number 0 0 p.keys in
     let values = words_of_bytes (values_of p.keys) in
     omega (
@@ -68,15 +68,15 @@ some_lines p = omega arith
 -- a record has at most 18,625 lines
 pub few_lines : (p : BodyParts) → IsProper p → body_lines p ≤ 18625
 few_lines p h =
-    omega (arith, length-words_behind p, few_keys_of h, few_value_bytes 0 p.keys h.keys, h.short)
+    omega (arith, length-words_after_head p, few_keys_of h, few_value_bytes 0 p.keys h.keys, h.short)
 
 -- all words of the key entries stand within the lines
 pub roomy : (p : BodyParts) → 1 + 3 * length p.keys ≤ body_lines p * 4
-roomy p = omega (arith, length-words_behind p)
+roomy p = omega (arith, length-words_after_head p)
 
 -- a record fills its lines
 pub length-body_words : (p : BodyParts) → length (body_words p) ≡ body_lines p * 4
 unfolding body_words
 length-body_words p =
-    let padding = body_lines p * 4 - (1 + length (words_behind p)) in
-    omega (arith, length-append (words_behind p) (replicate padding 0), length-replicate {A = ℕ} padding 0)
+    let padding = body_lines p * 4 - (1 + length (words_after_head p)) in
+    omega (arith, length-append (words_after_head p) (replicate padding 0), length-replicate {A = ℕ} padding 0)

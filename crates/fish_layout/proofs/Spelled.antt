@@ -6,10 +6,10 @@ use Rattle.std.proofs.Math.Decide.{ℕ_discrete, dec_le}
 use Rattle.fish_layout.specs.Body.{IsBody, IsProper, body_header, body_lines, body_words}
 use Rattle.fish_layout.specs.Cleared.{IsKeyWord, Spells, body_of, cleared, unlinked}
 use Rattle.fish_layout.specs.Header.{form_code, form_of, keys_of, lane_of, length_of, lines_of}
-use Rattle.fish_layout.specs.within.Header.{version_of}
+use Rattle.fish_layout.specs.within.Header.{header_version}
 use Rattle.fish_layout.specs.declared.parts.BodyParts.{BodyParts}
 use Rattle.fish_layout.proofs.Fields.{FitHeader, form_code_fits, form_of-header, keys_of-header}
-use Rattle.fish_layout.proofs.Fields.{lane_of-header, length_of-header, lines_of-header, version_of-header}
+use Rattle.fish_layout.proofs.Fields.{lane_of-header, length_of-header, lines_of-header, header_version-header}
 use Rattle.fish_layout.proofs.Clearing.{cleared_at, cleared_behind, cleared_head, cleared_key}
 use Rattle.fish_layout.proofs.Links.{AreUnlinked-unlink, relink-none, relink-relink, relinked}
 use Rattle.fish_layout.proofs.Links.{relinked_at, relinked_key, relinked_lines, relinked_proper}
@@ -125,7 +125,7 @@ pub record SaysParts (p : BodyParts) (w : ℕ) : Type 0 where
   pub form : form_of w ≡ form_code p.form
   pub keys : keys_of w ≡ length p.keys
   pub lane : lane_of w ≡ p.lane
-  pub version : version_of w ≡ p.version
+  pub version : header_version w ≡ p.version
   pub length : length_of w ≡ length p.payload
 
 -- a record's first word says the fields of its parts
@@ -137,6 +137,6 @@ body_says {p} {ws} h =
       form = ap form_of head ∙ form_of-header (header_fits p h.proper);
       keys = ap keys_of head ∙ keys_of-header (header_fits p h.proper);
       lane = ap lane_of head ∙ lane_of-header (header_fits p h.proper);
-      version = ap version_of head ∙ version_of-header (header_fits p h.proper);
+      version = ap header_version head ∙ header_version-header (header_fits p h.proper);
       length = ap length_of head ∙ length_of-header (header_fits p h.proper);
     }

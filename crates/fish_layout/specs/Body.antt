@@ -53,12 +53,12 @@ parts_of head keys payload =
     }
 
 -- the words after the header, without the padding: the key entries, the values and the payload
-abbrev pub words_behind : BodyParts → List ℕ
-words_behind p = key_words p.number 0 0 p.keys ++ words_of_bytes (values_of p.keys) ++ words_of_bytes p.payload
+abbrev pub words_after_head : BodyParts → List ℕ
+words_after_head p = key_words p.number 0 0 p.keys ++ words_of_bytes (values_of p.keys) ++ words_of_bytes p.payload
 
 -- the least number of lines of four words that hold all words
 abbrev pub body_lines : BodyParts → ℕ
-body_lines p = (1 + length (words_behind p) + 3) / 4
+body_lines p = (1 + length (words_after_head p) + 3) / 4
 
 -- the header word
 abbrev pub body_header : BodyParts → ℕ
@@ -66,7 +66,7 @@ body_header p = header_word (body_lines p) (form_code p.form) (length p.keys) p.
 
 -- the words of a record: its header, the words after it, and zeros up to a whole line
 unfoldable pub body_words : BodyParts → List ℕ
-body_words p = body_header p ∷ words_behind p ++ replicate (body_lines p * 4 - (1 + length (words_behind p))) 0
+body_words p = body_header p ∷ words_after_head p ++ replicate (body_lines p * 4 - (1 + length (words_after_head p))) 0
 
 -- ---- which parts a record may have
 

@@ -9,7 +9,7 @@ ghost use Rattle.fish_layout.specs.Entry.{entry_id, entry_number, entry_place, v
 ghost use Rattle.fish_layout.specs.within.Entry.{renumbered};
 ghost use Rattle.fish_layout.specs.Header.{form_code, form_of, header_word, keys_of, lane_of, length_of, lines_of};
 ghost use Rattle.fish_layout.specs.Header.{void_word};
-ghost use Rattle.fish_layout.specs.within.Header.{version_of};
+ghost use Rattle.fish_layout.specs.within.Header.{header_version};
 
 use crate::header::Header;
 use fish_value::Form;
@@ -50,9 +50,9 @@ pub(crate) fn lane_in(word: u64) -> u8
 }
 
 /// The version, by a header.
-#[tactic(auto, unfolding(crate::specs::within::Header::version_of, crate::specs::Header::field))]
+#[tactic(auto, unfolding(crate::specs::within::Header::header_version, crate::specs::Header::field))]
 pub(crate) fn version_in(word: u64) -> u16
-    ensures value { result ≡ version_of word }
+    ensures value { result ≡ header_version word }
     ensures fits { result < 2 ^ 10 }
 {
     (word / 0x1_0000_0000 % 0x400) as u16

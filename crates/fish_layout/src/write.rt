@@ -3,7 +3,7 @@
 ghost use Rattle.std.specs.Prelude.{◌≡◌, ◌+◌, ◌<◌, ◌≤◌, ◌^◌, ◌++◌, ◌∷◌, [], IfOk, OnOk, length, slice_index};
 ghost use Rattle.fish_layout.specs.Body.{AreProperKeys, IsProper, IsProperValue, body_header};
 ghost use Rattle.fish_layout.specs.Body.{body_lines, body_words, entry_word, key_words, parts_of};
-ghost use Rattle.fish_layout.specs.Body.{value_word, values_of, words_behind};
+ghost use Rattle.fish_layout.specs.Body.{value_word, values_of, words_after_head};
 ghost use Rattle.std.specs.Int.{from_le_bytes};
 ghost use Rattle.std.specs.Int.Width.{w64};
 ghost use Rattle.fish_layout.specs.Bytes.{words_for as words_for_bytes, words_of_bytes};
@@ -123,7 +123,7 @@ fn push_words(
 ) -> Result<(), AllocError>
     requires { IsProper (parts_of head keys.now payload.now) }
     ensures { OnOk result (words.new.items ≡ words.old.items
-        ++ words_behind (parts_of head keys.now payload.now)) }
+        ++ words_after_head (parts_of head keys.now payload.now)) }
 {
     push_keys(words, head.number, keys)?;
     push_values(alloc, words, keys)?;

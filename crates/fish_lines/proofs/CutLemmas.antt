@@ -5,7 +5,8 @@ use Rattle.std.specs.List.{slice_split, onto_first}
 use Rattle.std.specs.Str.Lines.{strip_carriage_return}
 use Rattle.std.proofs.lemmas.List.{map-append}
 use Rattle.std.proofs.lemmas.List.Elements.{filter-append}
-use Rattle.fish_json.specs.Lines.{is_blank, is_line_end, lines_of, outcomes, outcomes_of, payload_of, without_mark}
+use Rattle.fish_json.specs.Lines.{is_blank_line, is_line_end, lines_of_parts, line_outcomes, line_outcomes_of, payload_of_line}
+use Rattle.fish_json.specs.Lines.{without_mark}
 use Rattle.fish_lines.proofs.MarkLemmas.{decided_stays, undecided_cases}
 use Rattle.fish_lines.proofs.PartLemmas.{Parts, parts_at, parts_of_bytes}
 use Rattle.fish_lines.specs.File as file
@@ -39,26 +40,27 @@ split_at (c ∷ front) after = split_next c front after (is_line_end c) refl (sp
 
 -- ---- lines
 
-lines_append : (xs ys : List (List ℕ)) → lines_of (xs ++ ys) ≡ lines_of xs ++ lines_of ys
+lines_append : (xs ys : List (List ℕ)) → lines_of_parts (xs ++ ys) ≡ lines_of_parts xs ++ lines_of_parts ys
 lines_append xs ys =
-    ap (filter (λ line. not (is_blank line))) (map-append strip_carriage_return xs ys)
-    ∙ filter-append (λ line. not (is_blank line)) (map strip_carriage_return xs) (map strip_carriage_return ys)
+    ap (filter (λ line. not (is_blank_line line))) (map-append strip_carriage_return xs ys)
+    ∙ filter-append (λ line. not (is_blank_line line)) (map strip_carriage_return xs) (map strip_carriage_return ys)
 
 lines_cut : (front after : List ℕ)
-    → lines_of (slice_split is_line_end (front ++ 10 ∷ after))
-    ≡ lines_of (slice_split is_line_end (front ++ 10 ∷ [])) ++ lines_of (slice_split is_line_end after)
+    → lines_of_parts (slice_split is_line_end (front ++ 10 ∷ after))
+    ≡ lines_of_parts (slice_split is_line_end (front ++ 10 ∷ [])) ++ lines_of_parts (slice_split is_line_end after)
 lines_cut front after =
     let parts = slice_split is_line_end front in
-    ap lines_of (split_at front after) ∙ lines_append parts (slice_split is_line_end after)
-    ∙ ap (λ (lines : List (List ℕ)). lines ++ lines_of (slice_split is_line_end after))
-    (sym (ap lines_of (split_at front []) ∙ lines_append parts ([] ∷ []) ∙ append-nil (lines_of parts)))
+    ap lines_of_parts (split_at front after) ∙ lines_append parts (slice_split is_line_end after)
+    ∙ ap (λ (lines : List (List ℕ)). lines ++ lines_of_parts (slice_split is_line_end after))
+    (sym (ap lines_of_parts (split_at front []) ∙ lines_append parts ([] ∷ []) ∙ append-nil (lines_of_parts parts)))
 
 outcomes_of_cut : (front after : List ℕ)
-    → outcomes_of (slice_split is_line_end (front ++ 10 ∷ after))
-    ≡ outcomes_of (slice_split is_line_end (front ++ 10 ∷ [])) ++ outcomes_of (slice_split is_line_end after)
-unfolding outcomes_of
-outcomes_of_cut front after = ap (map payload_of) (lines_cut front after)
-    ∙ map-append payload_of (lines_of (slice_split is_line_end (front ++ 10 ∷ []))) (lines_of (slice_split is_line_end after))
+    → line_outcomes_of (slice_split is_line_end (front ++ 10 ∷ after))
+    ≡ line_outcomes_of (slice_split is_line_end (front ++ 10 ∷ [])) ++ line_outcomes_of (slice_split is_line_end after)
+unfolding line_outcomes_of
+outcomes_of_cut front after = ap (map payload_of_line) (lines_cut front after)
+    ∙ map-append payload_of_line (lines_of_parts (slice_split is_line_end (front ++ 10 ∷ [])))
+    (lines_of_parts (slice_split is_line_end after))
 
 -- ---- the mark at a file's start
 
@@ -76,13 +78,13 @@ marked_at front true h = undecided_cases Marked
 marked_at front false h = record { rest = without_mark front; are = λ after. decided_stays front h (10 ∷ after) }
 
 outcomes_cut : (front after : List ℕ)
-    → outcomes (front ++ 10 ∷ after) ≡ outcomes (front ++ 10 ∷ []) ++ outcomes_of (slice_split is_line_end after)
-unfolding outcomes
+    → line_outcomes (front ++ 10 ∷ after) ≡ line_outcomes (front ++ 10 ∷ []) ++ line_outcomes_of (slice_split is_line_end after)
+unfolding line_outcomes
 outcomes_cut front after =
     let m = marked_at front (is_undecided front) refl in
-    ap (λ (b : List ℕ). outcomes_of (slice_split is_line_end b)) (m.are after)
+    ap (λ (b : List ℕ). line_outcomes_of (slice_split is_line_end b)) (m.are after)
     ∙ outcomes_of_cut m.rest after
-    ∙ ap (λ (b : List ℕ). outcomes_of (slice_split is_line_end b) ++ outcomes_of (slice_split is_line_end after)) (sym (m.are []))
+    ∙ ap (λ (b : List ℕ). line_outcomes_of (slice_split is_line_end b) ++ line_outcomes_of (slice_split is_line_end after)) (sym (m.are []))
 
 -- where a file in JSON is cut after an LF, its lines are those before the cut and then those after it
 pub cut_after_line : (begin : Begin) (front after : List ℕ)
@@ -90,6 +92,6 @@ pub cut_after_line : (begin : Begin) (front after : List ℕ)
     ≡ outcomes_from Json begin (front ++ 10 ∷ []) ++ outcomes_from Json After after
 unfolding outcomes_from file.outcomes
 cut_after_line (Start header) front after =
-    ap outcomes (append_assoc front (10 ∷ []) after) ∙ outcomes_cut front after
+    ap line_outcomes (append_assoc front (10 ∷ []) after) ∙ outcomes_cut front after
 cut_after_line After front after =
-    ap (λ (b : List ℕ). outcomes_of (slice_split is_line_end b)) (append_assoc front (10 ∷ []) after) ∙ outcomes_of_cut front after
+    ap (λ (b : List ℕ). line_outcomes_of (slice_split is_line_end b)) (append_assoc front (10 ∷ []) after) ∙ outcomes_of_cut front after

@@ -8,15 +8,15 @@ use Rattle.std.proofs.lemmas.Bool.{eqb-true}
 use Rattle.std.proofs.lemmas.Bool.Decides.{nat_tests}
 use Rattle.std.proofs.lemmas.List.{take-take, take_all, take_at, take-append-le, length-take-le, get_or_push}
 use Rattle.std.proofs.Math.Seq.{take-append-add}
-use Rattle.fish_json.specs.Lines.{is_blank, is_line_end}
+use Rattle.fish_json.specs.Lines.{is_blank_line, is_line_end}
 use Rattle.fish_value.specs.Limits.{longest_payload}
 use Rattle.fish_lines.specs.Lines.{given, given_of}
-use Rattle.fish_lines.specs.Open.{IsOpen, ends_in_cr, line_in}
+use Rattle.fish_lines.specs.Open.{IsLineOpen, ends_in_cr, line_in}
 use Rattle.fish_lines.specs.within.Open.{cr_if}
 use Rattle.fish_lines.specs.declared.open_line.OpenLine.{OpenLine}
 use Rattle.fish_lines.specs.Open.{longest_kept}
 use Rattle.fish_lines.specs.declared.splitter.Line.TheVariants.{TooLong}
-use Rattle.fish_lines.proofs.LineLemmas.{lines_of-cons}
+use Rattle.fish_lines.proofs.LineLemmas.{lines_of_parts-cons}
 use Rattle.fish_lines.proofs.PartLemmas.{no_end-append}
 
 -- as much of a text as there is room for after a front
@@ -120,11 +120,11 @@ kept-grown k t d p =
     ∙ ap (λ l. take k (l ++ more)) (strip-whole t) ∙ ap (take k) (sym (strip-append t d p))
 
 -- an open line that grew
-pub IsOpen-grown : (o : OpenLine) (bytes : List ℕ) (t : List ℕ) (d : ℕ) (p : List ℕ)
-    → slice_split is_line_end (d ∷ p) ≡ (d ∷ p) ∷ [] → IsOpen o t
+pub IsLineOpen-grown : (o : OpenLine) (bytes : List ℕ) (t : List ℕ) (d : ℕ) (p : List ℕ)
+    → slice_split is_line_end (d ∷ p) ≡ (d ∷ p) ∷ [] → IsLineOpen o t
     → bytes ≡ take longest_kept (o.bytes ++ cr_if o.ends_in_cr ++ strip_carriage_return (d ∷ p))
-    → IsOpen (record { bytes = bytes; ends_in_cr = ends_in_cr (d ∷ p) }) (t ++ d ∷ p)
-IsOpen-grown o bytes t d p one was is = record {
+    → IsLineOpen (record { bytes = bytes; ends_in_cr = ends_in_cr (d ∷ p) }) (t ++ d ∷ p)
+IsLineOpen-grown o bytes t d p one was is = record {
   no_end = no_end-append t (d ∷ p) was.no_end one;
   kept = is ∙ ap (λ l. take longest_kept (l ++ cr_if o.ends_in_cr ++ strip_carriage_return (d ∷ p))) was.kept
       ∙ ap (λ cr. take longest_kept (take longest_kept (strip_carriage_return t) ++ cr_if cr ++ strip_carriage_return (d ∷ p)))
@@ -133,19 +133,19 @@ IsOpen-grown o bytes t d p one was is = record {
   cr = sym (ends_in_cr-append t d p);
 }
 
-pub IsOpen-grow : (o : OpenLine) (bytes : List ℕ) (t p : List ℕ) → (length p == 0) ≡ false
-    → slice_split is_line_end p ≡ p ∷ [] → IsOpen o t
+pub IsLineOpen-grow : (o : OpenLine) (bytes : List ℕ) (t p : List ℕ) → (length p == 0) ≡ false
+    → slice_split is_line_end p ≡ p ∷ [] → IsLineOpen o t
     → bytes ≡ take longest_kept (o.bytes ++ cr_if o.ends_in_cr ++ strip_carriage_return p)
-    → IsOpen (record { bytes = bytes; ends_in_cr = ends_in_cr p }) (t ++ p)
-IsOpen-grow o bytes t [] some one was is = cc
-IsOpen-grow o bytes t (d ∷ p) some one was is = IsOpen-grown o bytes t d p one was is
+    → IsLineOpen (record { bytes = bytes; ends_in_cr = ends_in_cr p }) (t ++ p)
+IsLineOpen-grow o bytes t [] some one was is = cc
+IsLineOpen-grow o bytes t (d ∷ p) some one was is = IsLineOpen-grown o bytes t d p one was is
 
 -- no more is kept than is kept
 take-within : (k : ℕ) (b s : List ℕ) → b ≡ take k s → length b ≤ k
 take-within k b s h = omega (arith, ap length h, length-take k s)
 
-pub IsOpen-within : (o : OpenLine) (t : List ℕ) → IsOpen o t → length o.bytes ≤ longest_kept
-IsOpen-within o t h = take-within longest_kept o.bytes (strip_carriage_return t) h.kept
+pub IsLineOpen-within : (o : OpenLine) (t : List ℕ) → IsLineOpen o t → length o.bytes ≤ longest_kept
+IsLineOpen-within o t h = take-within longest_kept o.bytes (strip_carriage_return t) h.kept
 
 -- a CR and no more of a text than counts, after bytes
 pub append_cr : (k : ℕ) (cr : Bool) (bytes text more : List ℕ) → cr ≡ true → more ≡ (13 ∷ []) ++ take k text
@@ -165,22 +165,23 @@ map-with_line s false = refl
 
 -- a line over the limit is given as too long, and so is what is kept of it
 long-given : (s : List ℕ) → nat_le (length s) longest_payload ≡ false
-    → (if is_blank s then [] else given s ∷ []) ≡ TooLong ∷ []
+    → (if is_blank_line s then [] else given s ∷ []) ≡ TooLong ∷ []
 long-given s h = rw h refl
 
 kept-cases : (s : List ℕ) (short : Bool) → nat_le (length s) longest_payload ≡ short
-    → (if is_blank (take longest_kept s) then [] else given (take longest_kept s) ∷ []) ≡ (if is_blank s then [] else given s ∷ [])
+    → (if is_blank_line (take longest_kept s) then [] else given (take longest_kept s) ∷ [])
+    ≡ (if is_blank_line s then [] else given s ∷ [])
 kept-cases s true h =
     let fits : length s ≤ longest_kept = grind (arith, nat_tests) in
-    ap (λ l. if is_blank l then [] else given l ∷ []) (take_all longest_kept s fits)
+    ap (λ l. if is_blank_line l then [] else given l ∷ []) (take_all longest_kept s fits)
 kept-cases s false h =
     let over : longest_kept ≤ length s = grind (arith, nat_tests) in
     let kept : nat_le (length (take longest_kept s)) longest_payload ≡ false = rw (length-take-le longest_kept s over) refl in
     long-given (take longest_kept s) kept ∙ sym (long-given s h)
 
 -- an open line is given as the line of its bytes
-pub line_in_open : (o : OpenLine) (t : List ℕ) → IsOpen o t → line_in o ≡ given_of (t ∷ [])
+pub line_in_open : (o : OpenLine) (t : List ℕ) → IsLineOpen o t → line_in o ≡ given_of (t ∷ [])
 line_in_open o t h =
     let s = strip_carriage_return t in
-    ap (λ b. if is_blank b then [] else given b ∷ []) h.kept ∙ kept-cases s (nat_le (length s) longest_payload) refl
-    ∙ sym (map-with_line s (is_blank s)) ∙ sym (ap (map given) (lines_of-cons t []))
+    ap (λ b. if is_blank_line b then [] else given b ∷ []) h.kept ∙ kept-cases s (nat_le (length s) longest_payload) refl
+    ∙ sym (map-with_line s (is_blank_line s)) ∙ sym (ap (map given) (lines_of_parts-cons t []))

@@ -5,8 +5,8 @@ use Rattle.std.specs.List.{slice_split, onto_first}
 use Rattle.std.specs.Str.Lines.{strip_carriage_return}
 use Rattle.std.proofs.lemmas.List.{map-append}
 use Rattle.std.proofs.lemmas.List.Elements.{filter-append}
-use Rattle.fish_json.specs.Lines.{is_blank, is_line_end}
-use Rattle.fish_lines.specs.Lines.{ended, given, given_of, last_part}
+use Rattle.fish_json.specs.Lines.{is_blank_line, is_line_end}
+use Rattle.fish_lines.specs.Lines.{ended_parts, given, given_of, last_part}
 
 -- parts with at least one among them
 pub record Parts (parts : List (List ℕ)) : Type 0 where
@@ -37,17 +37,17 @@ parts_of_bytes [] = record { first = []; more = []; are = refl }
 parts_of_bytes (c ∷ x) = parts-cons c x (is_line_end c) refl (parts_of_bytes x)
 
 -- all but the last, and the last, are all
-pub ended-last : (first : List ℕ) (more : List (List ℕ))
-    → ended (first ∷ more) ++ last_part (first ∷ more) ∷ [] ≡ first ∷ more
-ended-last first [] = refl
-ended-last first (next ∷ more) = ap (λ parts. first ∷ parts) (ended-last next more)
+pub ended_parts-last : (first : List ℕ) (more : List (List ℕ))
+    → ended_parts (first ∷ more) ++ last_part (first ∷ more) ∷ [] ≡ first ∷ more
+ended_parts-last first [] = refl
+ended_parts-last first (next ∷ more) = ap (λ parts. first ∷ parts) (ended_parts-last next more)
 
 -- the last of two lists of parts is that of the second
-pub ended-append : (front : List (List ℕ)) (first : List ℕ) (more : List (List ℕ))
-    → ended (front ++ first ∷ more) ≡ front ++ ended (first ∷ more)
-ended-append [] first more = refl
-ended-append (part ∷ []) first more = refl
-ended-append (part ∷ next ∷ front) first more = ap (λ parts. part ∷ parts) (ended-append (next ∷ front) first more)
+pub ended_parts-append : (front : List (List ℕ)) (first : List ℕ) (more : List (List ℕ))
+    → ended_parts (front ++ first ∷ more) ≡ front ++ ended_parts (first ∷ more)
+ended_parts-append [] first more = refl
+ended_parts-append (part ∷ []) first more = refl
+ended_parts-append (part ∷ next ∷ front) first more = ap (λ parts. part ∷ parts) (ended_parts-append (next ∷ front) first more)
 
 pub last-append : (front : List (List ℕ)) (first : List ℕ) (more : List (List ℕ))
     → last_part (front ++ first ∷ more) ≡ last_part (first ∷ more)
@@ -57,17 +57,17 @@ last-append (part ∷ next ∷ front) first more = last-append (next ∷ front) 
 
 -- a byte that ends no line goes before the first part, be it the last or not
 onto_first-append : (c : ℕ) (p : List ℕ) (first : List ℕ) (more : List (List ℕ)) → is_line_end c ≡ false
-    → onto_first c (ended (first ∷ more) ++ slice_split is_line_end (last_part (first ∷ more) ++ p))
-    ≡ ended (onto_first c (first ∷ more)) ++ slice_split is_line_end (last_part (onto_first c (first ∷ more)) ++ p)
+    → onto_first c (ended_parts (first ∷ more) ++ slice_split is_line_end (last_part (first ∷ more) ++ p))
+    ≡ ended_parts (onto_first c (first ∷ more)) ++ slice_split is_line_end (last_part (onto_first c (first ∷ more)) ++ p)
 onto_first-append c p first [] h = sym (parts_at c (first ++ p) false h)
 onto_first-append c p first (next ∷ more) h = refl
 
 -- more bytes go on with the last part
 append-parts : (c : ℕ) (x p : List ℕ) (end : Bool) → is_line_end c ≡ end → (q : Parts (slice_split is_line_end x))
     → slice_split is_line_end (x ++ p)
-    ≡ ended (slice_split is_line_end x) ++ slice_split is_line_end (last_part (slice_split is_line_end x) ++ p)
+    ≡ ended_parts (slice_split is_line_end x) ++ slice_split is_line_end (last_part (slice_split is_line_end x) ++ p)
     → slice_split is_line_end (c ∷ (x ++ p))
-    ≡ ended (slice_split is_line_end (c ∷ x))
+    ≡ ended_parts (slice_split is_line_end (c ∷ x))
     ++ slice_split is_line_end (last_part (slice_split is_line_end (c ∷ x)) ++ p)
 append-parts c x p true h q same =
     rw (parts_at c (x ++ p) true h, parts_at c x true h, same, q.are) refl
@@ -76,14 +76,14 @@ append-parts c x p false h q same =
 
 pub slice_split-append : (x p : List ℕ)
     → slice_split is_line_end (x ++ p)
-    ≡ ended (slice_split is_line_end x) ++ slice_split is_line_end (last_part (slice_split is_line_end x) ++ p)
+    ≡ ended_parts (slice_split is_line_end x) ++ slice_split is_line_end (last_part (slice_split is_line_end x) ++ p)
 slice_split-append [] p = refl
 slice_split-append (c ∷ x) p = append-parts c x p (is_line_end c) refl (parts_of_bytes x) (slice_split-append x p)
 
 -- where an LF was cut off, those that an LF ends begin with the part before it
-pub ended-cut : (part rest : List ℕ)
-    → ended (part ∷ slice_split is_line_end rest) ≡ part ∷ ended (slice_split is_line_end rest)
-ended-cut part rest = let q = parts_of_bytes rest in rw q.are refl
+pub ended_parts-cut : (part rest : List ℕ)
+    → ended_parts (part ∷ slice_split is_line_end rest) ≡ part ∷ ended_parts (slice_split is_line_end rest)
+ended_parts-cut part rest = let q = parts_of_bytes rest in rw q.are refl
 
 pub last-cut : (part rest : List ℕ)
     → last_part (part ∷ slice_split is_line_end rest) ≡ last_part (slice_split is_line_end rest)
@@ -115,7 +115,7 @@ no_end-append t p one two = no_end-front t p p [] one two
 -- the lines of some parts and of others are those of all
 pub given_of-append : (xs ys : List (List ℕ)) → given_of (xs ++ ys) ≡ given_of xs ++ given_of ys
 given_of-append xs ys =
-    ap (λ l. map given (filter (λ line. not (is_blank line)) l)) (map-append strip_carriage_return xs ys)
-    ∙ ap (map given) (filter-append (λ line. not (is_blank line)) (map strip_carriage_return xs)
+    ap (λ l. map given (filter (λ line. not (is_blank_line line)) l)) (map-append strip_carriage_return xs ys)
+    ∙ ap (map given) (filter-append (λ line. not (is_blank_line line)) (map strip_carriage_return xs)
     (map strip_carriage_return ys))
     ∙ map-append given _ _

@@ -6,7 +6,7 @@ use Rattle.std.specs.Prelude.{IfOk, IfSome, MatchOption, None, Ok, Err, Option, 
 use Rattle.fish_csv.specs.Reading.{rows_in}
 use Rattle.fish_csv.specs.Rows as csv
 use Rattle.fish_json.specs.Lines as json
-use Rattle.fish_json.specs.Lines.{is_line_end, lines_of}
+use Rattle.fish_json.specs.Lines.{is_line_end, lines_of_parts}
 use Rattle.fish_lines.specs.File.{outcomes}
 use Rattle.fish_lines.specs.Lines.{file_lines}
 use Rattle.fish_lines.specs.Resuming.{IsLeftOf, outcomes_from}
@@ -44,29 +44,30 @@ pub if_some : {A : Type 0} (Q : A → Type 0) (o : Option A) (x : A) → o ≡ S
 if_some {A} Q o x is h = subst (λ (z : Option A). IfSome z Q) is h
 
 -- the lines that are left give what the others of the file give
-pub lines_left : (header : Bool) (b rest : List ℕ) (many : ℕ) → length rest ≤ length b
-    → lines_of (slice_split is_line_end rest) ≡ drop many (file_lines b) → IsLeftOf Json (Start header) b many rest
-unfolding outcomes_from outcomes json.outcomes json.outcomes_of
-lines_left header b rest many less is = record {
+pub left_lines : (header : Bool) (b rest : List ℕ) (many : ℕ) → length rest ≤ length b
+    → lines_of_parts (slice_split is_line_end rest) ≡ drop many (file_lines b) → IsLeftOf Json (Start header) b many rest
+unfolding outcomes_from outcomes json.line_outcomes json.line_outcomes_of
+left_lines header b rest many less is = record {
   within = less;
-  others = ap (map json.payload_of) is ∙ sym (drop-map json.payload_of many (file_lines b));
+  others = ap (map json.payload_of_line) is ∙ sym (drop-map json.payload_of_line many (file_lines b));
 }
 
 pub lines_left_after : (b rest : List ℕ) (many : ℕ) → length rest ≤ length b
-    → lines_of (slice_split is_line_end rest) ≡ drop many (lines_of (slice_split is_line_end b)) → IsLeftOf Json After b many rest
-unfolding outcomes_from json.outcomes_of
+    → lines_of_parts (slice_split is_line_end rest) ≡ drop many (lines_of_parts (slice_split is_line_end b))
+    → IsLeftOf Json After b many rest
+unfolding outcomes_from json.line_outcomes_of
 lines_left_after b rest many less is = record {
   within = less;
-  others = ap (map json.payload_of) is ∙ sym (drop-map json.payload_of many (lines_of (slice_split is_line_end b)));
+  others = ap (map json.payload_of_line) is ∙ sym (drop-map json.payload_of_line many (lines_of_parts (slice_split is_line_end b)));
 }
 
 -- the same of rows
-pub rows_left : (header : Bool) (b rest : List ℕ) (many : ℕ) → length rest ≤ length b
-    → map csv.payload_of (rows_in rest) ≡ drop many (csv.outcomes header b) → IsLeftOf Csv (Start header) b many rest
+pub left_rows : (header : Bool) (b rest : List ℕ) (many : ℕ) → length rest ≤ length b
+    → map csv.payload_of_row (rows_in rest) ≡ drop many (csv.row_outcomes header b) → IsLeftOf Csv (Start header) b many rest
 unfolding outcomes_from outcomes
-rows_left header b rest many less is = record { within = less; others = is }
+left_rows header b rest many less is = record { within = less; others = is }
 
 pub rows_left_after : (b rest : List ℕ) (many : ℕ) → length rest ≤ length b
-    → map csv.payload_of (rows_in rest) ≡ drop many (map csv.payload_of (rows_in b)) → IsLeftOf Csv After b many rest
+    → map csv.payload_of_row (rows_in rest) ≡ drop many (map csv.payload_of_row (rows_in b)) → IsLeftOf Csv After b many rest
 unfolding outcomes_from
 rows_left_after b rest many less is = record { within = less; others = is }

@@ -5,36 +5,36 @@ use Rattle.std.specs.List.{concat, slice_split}
 use Rattle.std.proofs.lemmas.List.{take_more}
 use Rattle.std.proofs.lemmas.List.Folds.{concat-append}
 use Rattle.fish_json.specs.Lines.{is_line_end, without_mark}
-use Rattle.fish_lines.specs.Lines.{ended, given_of, last_part, lines, parts_of, whole_lines}
-use Rattle.fish_lines.specs.Open.{IsOpen, line_in}
+use Rattle.fish_lines.specs.Lines.{ended_parts, given_of, last_part, given_lines, parts_in, whole_lines}
+use Rattle.fish_lines.specs.Open.{IsLineOpen, line_in}
 use Rattle.fish_lines.specs.Split.{HasTaken, is_undecided}
 use Rattle.fish_lines.specs.declared.open_line.OpenLine.{OpenLine}
 use Rattle.fish_lines.specs.declared.splitter.Line.{Line}
 use Rattle.fish_lines.specs.declared.splitter.Splitter.{Splitter}
 use Rattle.fish_lines.proofs.KeptLemmas.{line_in_open}
 use Rattle.fish_lines.proofs.MarkLemmas.{decided_stays, undecided_cases}
-use Rattle.fish_lines.proofs.PartLemmas.{ended-append, ended-cut, ended-last, given_of-append, last-append, last-cut}
+use Rattle.fish_lines.proofs.PartLemmas.{ended_parts-append, ended_parts-cut, ended_parts-last, given_of-append, last-append, last-cut}
 use Rattle.fish_lines.proofs.PartLemmas.{no_end-front, parts_of_bytes, slice_split-append}
 
 -- ---- a piece after an open line
 
 -- one part in front, and those after it, as lines
 pub given_front : (part rest : List ℕ)
-    → given_of (ended (part ∷ slice_split is_line_end rest))
-    ≡ given_of (part ∷ []) ++ given_of (ended (slice_split is_line_end rest))
-given_front part rest = ap given_of (ended-cut part rest)
-    ∙ given_of-append (part ∷ []) (ended (slice_split is_line_end rest))
+    → given_of (ended_parts (part ∷ slice_split is_line_end rest))
+    ≡ given_of (part ∷ []) ++ given_of (ended_parts (slice_split is_line_end rest))
+given_front part rest = ap given_of (ended_parts-cut part rest)
+    ∙ given_of-append (part ∷ []) (ended_parts (slice_split is_line_end rest))
 
 -- a part was cut off, and its line put after others
 pub given_push : (b part rest : List ℕ) (o : OpenLine) (front : List Line)
-    → slice_split is_line_end b ≡ part ∷ slice_split is_line_end rest → IsOpen o part
-    → (front ++ line_in o) ++ given_of (ended (slice_split is_line_end rest))
-    ≡ front ++ given_of (ended (slice_split is_line_end b))
+    → slice_split is_line_end b ≡ part ∷ slice_split is_line_end rest → IsLineOpen o part
+    → (front ++ line_in o) ++ given_of (ended_parts (slice_split is_line_end rest))
+    ≡ front ++ given_of (ended_parts (slice_split is_line_end b))
 given_push b part rest o front cut is =
-    let more = given_of (ended (slice_split is_line_end rest)) in
+    let more = given_of (ended_parts (slice_split is_line_end rest)) in
     append_assoc front (line_in o) more
     ∙ ap (λ l. front ++ l) (ap (λ l. l ++ more) (line_in_open o part is) ∙ sym (given_front part rest)
-    ∙ ap (λ parts. given_of (ended parts)) (sym cut))
+    ∙ ap (λ parts. given_of (ended_parts parts)) (sym cut))
 
 pub last_push : (b part rest : List ℕ) → slice_split is_line_end b ≡ part ∷ slice_split is_line_end rest
     → last_part (slice_split is_line_end rest) ≡ last_part (slice_split is_line_end b)
@@ -50,37 +50,37 @@ front_ends t piece front behind one cut = no_end-front t piece front (slice_spli
 
 -- the parts of bytes with more after them, where a byte order mark is decided
 parts-more : (b p : List ℕ) → without_mark (b ++ p) ≡ without_mark b ++ p
-    → parts_of (b ++ p) ≡ ended (parts_of b) ++ slice_split is_line_end (last_part (parts_of b) ++ p)
+    → parts_in (b ++ p) ≡ ended_parts (parts_in b) ++ slice_split is_line_end (last_part (parts_in b) ++ p)
 parts-more b p h = ap (slice_split is_line_end) h ∙ slice_split-append (without_mark b) p
 
 -- the lines that an LF ends, and the part after the last, then
 pub whole_lines-more : (b p : List ℕ) → without_mark (b ++ p) ≡ without_mark b ++ p
-    → whole_lines (b ++ p) ≡ whole_lines b ++ given_of (ended (slice_split is_line_end (last_part (parts_of b) ++ p)))
+    → whole_lines (b ++ p) ≡ whole_lines b ++ given_of (ended_parts (slice_split is_line_end (last_part (parts_in b) ++ p)))
 unfolding whole_lines
 whole_lines-more b p h =
-    let q = parts_of_bytes (last_part (parts_of b) ++ p) in
-    let all : ended (parts_of (b ++ p))
-    ≡ ended (parts_of b) ++ ended (slice_split is_line_end (last_part (parts_of b) ++ p)) =
-    ap ended (parts-more b p h ∙ ap (λ l. ended (parts_of b) ++ l) q.are)
-    ∙ ended-append (ended (parts_of b)) q.first q.more
-    ∙ ap (λ l. ended (parts_of b) ++ ended l) (sym q.are) in
-    ap given_of all ∙ given_of-append (ended (parts_of b)) _
+    let q = parts_of_bytes (last_part (parts_in b) ++ p) in
+    let all : ended_parts (parts_in (b ++ p))
+    ≡ ended_parts (parts_in b) ++ ended_parts (slice_split is_line_end (last_part (parts_in b) ++ p)) =
+    ap ended_parts (parts-more b p h ∙ ap (λ l. ended_parts (parts_in b) ++ l) q.are)
+    ∙ ended_parts-append (ended_parts (parts_in b)) q.first q.more
+    ∙ ap (λ l. ended_parts (parts_in b) ++ ended_parts l) (sym q.are) in
+    ap given_of all ∙ given_of-append (ended_parts (parts_in b)) _
 
 pub last_part-more : (b p : List ℕ) → without_mark (b ++ p) ≡ without_mark b ++ p
-    → last_part (parts_of (b ++ p)) ≡ last_part (slice_split is_line_end (last_part (parts_of b) ++ p))
+    → last_part (parts_in (b ++ p)) ≡ last_part (slice_split is_line_end (last_part (parts_in b) ++ p))
 last_part-more b p h =
-    let q = parts_of_bytes (last_part (parts_of b) ++ p) in
-    ap last_part (parts-more b p h ∙ ap (λ l. ended (parts_of b) ++ l) q.are)
-    ∙ last-append (ended (parts_of b)) q.first q.more ∙ ap last_part (sym q.are)
+    let q = parts_of_bytes (last_part (parts_in b) ++ p) in
+    ap last_part (parts-more b p h ∙ ap (λ l. ended_parts (parts_in b) ++ l) q.are)
+    ∙ last-append (ended_parts (parts_in b)) q.first q.more ∙ ap last_part (sym q.are)
 
 -- all lines are those that an LF ends and the one after the last
-lines-whole : (b : List ℕ) → lines b ≡ whole_lines b ++ given_of (last_part (parts_of b) ∷ [])
-unfolding lines whole_lines
-lines-whole b =
+given_lines-whole : (b : List ℕ) → given_lines b ≡ whole_lines b ++ given_of (last_part (parts_in b) ∷ [])
+unfolding given_lines whole_lines
+given_lines-whole b =
     let q = parts_of_bytes (without_mark b) in
-    let all : parts_of b ≡ ended (parts_of b) ++ last_part (parts_of b) ∷ [] =
-    q.are ∙ sym (ended-last q.first q.more) ∙ sym (ap (λ parts. ended parts ++ last_part parts ∷ []) q.are) in
-    ap given_of all ∙ given_of-append (ended (parts_of b)) (last_part (parts_of b) ∷ [])
+    let all : parts_in b ≡ ended_parts (parts_in b) ++ last_part (parts_in b) ∷ [] =
+    q.are ∙ sym (ended_parts-last q.first q.more) ∙ sym (ap (λ parts. ended_parts parts ++ last_part parts ∷ []) q.are) in
+    ap given_of all ∙ given_of-append (ended_parts (parts_in b)) (last_part (parts_in b) ∷ [])
 
 -- ---- the end of the file
 
@@ -96,7 +96,7 @@ finish-cases s b taken false e h = record {
       ∙ ap (λ l. taken ++ l) (append_assoc s.ready.items [] last)
       ∙ sym (append_assoc taken s.ready.items last)
       ∙ ap (λ l. l ++ last) (ap (λ l. taken ++ l) (sym (append-nil s.ready.items)) ∙ before)
-      ∙ ap (λ l. whole_lines b ++ l) (line_in_open s.last (last_part (parts_of b)) g.rest) ∙ sym (lines-whole b);
+      ∙ ap (λ l. whole_lines b ++ l) (line_in_open s.last (last_part (parts_in b)) g.rest) ∙ sym (given_lines-whole b);
   going = λ wrong. cc;
 }
 
@@ -111,12 +111,12 @@ HasTaken-finish s b taken h = finish-cases s b taken s.finished refl h
 pub HasTaken-more : (s u : Splitter) (b p : List ℕ) (taken : List Line) → HasTaken s b taken
     → s.finished ≡ false → s.at_start ≡ false
     → u.finished ≡ false → u.at_start ≡ false
-    → u.ready.items ≡ s.ready.items ++ given_of (ended (slice_split is_line_end (last_part (parts_of b) ++ p)))
-    → IsOpen u.last (last_part (slice_split is_line_end (last_part (parts_of b) ++ p))) → HasTaken u (b ++ p) taken
+    → u.ready.items ≡ s.ready.items ++ given_of (ended_parts (slice_split is_line_end (last_part (parts_in b) ++ p)))
+    → IsLineOpen u.last (last_part (slice_split is_line_end (last_part (parts_in b) ++ p))) → HasTaken u (b ++ p) taken
 HasTaken-more s u b p taken h going behind goes stays ready rest =
     let g = h.going going in
     let decided = g.decided behind in
-    let more = given_of (ended (slice_split is_line_end (last_part (parts_of b) ++ p))) in
+    let more = given_of (ended_parts (slice_split is_line_end (last_part (parts_in b) ++ p))) in
     let before : taken ++ (s.ready.items ++ []) ≡ whole_lines b = rw going at h.all in
     record {
       all = rw goes (
@@ -134,27 +134,27 @@ HasTaken-more s u b p taken h going behind goes stays ready rest =
     }
 
 -- no LF stands in what may begin a byte order mark
-undecided-lines : (b : List ℕ) → is_undecided b ≡ true → whole_lines b ≡ []
+undecided-given_lines : (b : List ℕ) → is_undecided b ≡ true → whole_lines b ≡ []
 unfolding whole_lines
-undecided-lines b h = undecided_cases (λ l. given_of (ended (parts_of l)) ≡ []) refl refl refl b h
+undecided-given_lines b h = undecided_cases (λ l. given_of (ended_parts (parts_in l)) ≡ []) refl refl refl b h
 
 -- and an open line holds all of it
-undecided-held : (o : OpenLine) (b : List ℕ) → is_undecided b ≡ true → IsOpen o (last_part (parts_of b)) → o.bytes ≡ b
-undecided-held o b h = undecided_cases (λ l. IsOpen o (last_part (parts_of l)) → o.bytes ≡ l) (λ is. is.kept)
+undecided-held : (o : OpenLine) (b : List ℕ) → is_undecided b ≡ true → IsLineOpen o (last_part (parts_in b)) → o.bytes ≡ b
+undecided-held o b h = undecided_cases (λ l. IsLineOpen o (last_part (parts_in l)) → o.bytes ≡ l) (λ is. is.kept)
     (λ is. is.kept) (λ is. is.kept) b h
 
 -- from bytes that may begin a byte order mark, all is taken at once
 pub HasTaken-begin : (s u : Splitter) (b whole : List ℕ) (taken : List Line) → is_undecided b ≡ true
     → HasTaken s b taken → s.finished ≡ false
     → u.finished ≡ false → u.at_start ≡ is_undecided whole
-    → u.ready.items ≡ s.ready.items ++ given_of (ended (parts_of whole))
-    → IsOpen u.last (last_part (parts_of whole)) → HasTaken u whole taken
+    → u.ready.items ≡ s.ready.items ++ given_of (ended_parts (parts_in whole))
+    → IsLineOpen u.last (last_part (parts_in whole)) → HasTaken u whole taken
 unfolding whole_lines
 HasTaken-begin s u b whole taken undecided h going goes start ready rest =
-    let more = given_of (ended (parts_of whole)) in
+    let more = given_of (ended_parts (parts_in whole)) in
     let before : taken ++ (s.ready.items ++ []) ≡ whole_lines b = rw going at h.all in
     let none : taken ++ s.ready.items ≡ [] = ap (λ l. taken ++ l) (sym (append-nil s.ready.items)) ∙ before
-    ∙ undecided-lines b undecided in
+    ∙ undecided-given_lines b undecided in
     record {
       all = rw goes (ap (λ l. taken ++ l) (append-nil u.ready.items ∙ ready)
           ∙ sym (append_assoc taken s.ready.items more) ∙ ap (λ l. l ++ more) none);

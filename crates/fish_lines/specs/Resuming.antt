@@ -15,8 +15,8 @@ use Rattle.fish_value.specs.declared.field.Form.TheVariants.{Json, Csv}
 -- each line or row counts, and no byte order mark is looked for
 unfoldable pub outcomes_from : Form → Begin → List ℕ → List (Option (List ℕ))
 outcomes_from form (Start header) b = outcomes form header b
-outcomes_from Json After b = json.outcomes_of (slice_split is_line_end b)
-outcomes_from Csv After b = csv.outcomes_of false (rows_in b)
+outcomes_from Json After b = json.line_outcomes_of (slice_split is_line_end b)
+outcomes_from Csv After b = csv.row_outcomes_of false (rows_in b)
 
 -- the second bytes are what is left of the first once so many of their lines or rows were read
 pub record IsLeftOf (form : Form) (begin : Begin) (b : List ℕ) (many : ℕ) (rest : List ℕ) : Type 0 where

@@ -1,8 +1,8 @@
 -- What is left of a file that is read record by record, in either form.
 use Rattle.std.specs.Prelude.{ℕ, List, Option, Some, None, length, map}
-use Rattle.fish_csv.specs.Left.{left as rows_left}
+use Rattle.fish_csv.specs.Left.{rows_left}
 use Rattle.fish_json.specs.Lines as json
-use Rattle.fish_lines.specs.Left.{left as lines_left}
+use Rattle.fish_lines.specs.Left.{lines_left}
 use Rattle.fish_lines.specs.declared.texts.RecordText.{RecordText}
 use Rattle.fish_lines.specs.declared.texts.RecordText.TheVariants as text
 use Rattle.fish_lines.specs.declared.texts.RecordTexts.{RecordTexts}
@@ -12,7 +12,7 @@ use Rattle.fish_value.specs.declared.field.Form.TheVariants.{Csv, Json}
 
 -- of each line or row that is still to come its payload, or none where it is refused
 abbrev pub texts_left : RecordTexts → List (Option (List ℕ))
-texts_left (texts.Lines lines) = map json.payload_of (lines_left lines)
+texts_left (texts.Lines lines) = map json.payload_of_line (lines_left lines)
 texts_left (texts.Rows rows) = rows_left rows
 
 -- how many bytes they have at most
@@ -21,9 +21,9 @@ bytes_left (texts.Lines lines) = length lines.rest.now
 bytes_left (texts.Rows rows) = length rows.rest.now
 
 -- the form of a file that is so read
-abbrev pub form_of : RecordTexts → Form
-form_of (texts.Lines lines) = Json
-form_of (texts.Rows rows) = Csv
+abbrev pub form_of_texts : RecordTexts → Form
+form_of_texts (texts.Lines lines) = Json
+form_of_texts (texts.Rows rows) = Csv
 
 -- the form of a file that gives a text
 abbrev pub text_form : RecordText → Form
@@ -32,7 +32,7 @@ text_form (text.Row row) = Csv
 text_form text.Refused = Csv
 
 -- the payload that a text is, or none where it is refused
-abbrev pub payload_in : RecordText → Option (List ℕ)
-payload_in (text.Line line) = json.payload_of line.now
-payload_in (text.Row row) = Some row
-payload_in text.Refused = None
+abbrev pub payload_in_text : RecordText → Option (List ℕ)
+payload_in_text (text.Line line) = json.payload_of_line line.now
+payload_in_text (text.Row row) = Some row
+payload_in_text text.Refused = None

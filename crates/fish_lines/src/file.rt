@@ -3,9 +3,10 @@
 ghost use Rattle.std.specs.Prelude.{◌≡◌, ◌↔◌, ◌<◌, length, IfOk, IsErrOf, IsUtf8};
 ghost use Rattle.fish_value.specs.Limits.{longest_file};
 ghost use Rattle.fish_json.specs.Lines as json;
-ghost use Rattle.fish_json.specs.Lines.{payload_of};
+ghost use Rattle.fish_json.specs.Lines.{payload_of_line};
 ghost use Rattle.fish_csv.specs.Rows as csv;
-ghost use Rattle.fish_lines.specs.File.{accepted, outcomes, refused as refused_of};
+ghost use Rattle.fish_lines.specs.File.{outcomes};
+ghost use Rattle.fish_value.specs.Outcomes.{accepted, refused as refused_of};
 
 use crate::found::{Records, RecordsRefusal};
 use crate::lines::Lines;
@@ -31,8 +32,8 @@ pub fn records(alloc: Global, form: Form, header: bool, b: &[u8]) -> Result<Reco
 
 /// The records of a file in CSV.
 fn csv_records(alloc: Global, header: bool, b: &[u8]) -> Result<Records, RecordsRefusal>
-    ensures payloads { IfOk result (λ found. found.payloads ≡ accepted (csv.outcomes header b.now)) }
-    ensures refused { IfOk result (λ found. found.refused ≡ refused_of (csv.outcomes header b.now)) }
+    ensures payloads { IfOk result (λ found. found.payloads ≡ accepted (csv.row_outcomes header b.now)) }
+    ensures refused { IfOk result (λ found. found.refused ≡ refused_of (csv.row_outcomes header b.now)) }
 
     ensures too_long { IsErrOf result RecordsRefusal.FileTooLong ↔ (longest_file < length b.now) }
 {
@@ -47,10 +48,10 @@ fn csv_records(alloc: Global, header: bool, b: &[u8]) -> Result<Records, Records
 }
 
 /// The records of a file in JSON Lines.
-#[tactic(auto, unfolding(fish_json::specs::Lines::outcomes, fish_json::specs::Lines::outcomes_of))]
+#[tactic(auto, unfolding(fish_json::specs::Lines::line_outcomes, fish_json::specs::Lines::line_outcomes_of))]
 fn json_records(alloc: Global, b: &[u8]) -> Result<Records, AllocError>
-    ensures payloads { IfOk result (λ found. found.payloads ≡ accepted (json.outcomes b.now)) }
-    ensures refused { IfOk result (λ found. found.refused ≡ refused_of (json.outcomes b.now)) }
+    ensures payloads { IfOk result (λ found. found.payloads ≡ accepted (json.line_outcomes b.now)) }
+    ensures refused { IfOk result (λ found. found.refused ≡ refused_of (json.line_outcomes b.now)) }
 {
     let mut found = Records::new(alloc);
     let mut reader = JsonReader::new(alloc);
@@ -65,7 +66,7 @@ fn json_records(alloc: Global, b: &[u8]) -> Result<Records, AllocError>
 /// A line as a payload, where it is a record.
 #[tactic(auto, using(crate::proofs::PayloadLemmas::record_is_kept, crate::proofs::PayloadLemmas::no_record_is_refused))]
 fn payload(alloc: Global, reader: &mut JsonReader, line: &[u8]) -> Result<Option<Text>, AllocError>
-    ensures { IfOk result (λ outcome. outcome ≡ payload_of line.now) }
+    ensures { IfOk result (λ outcome. outcome ≡ payload_of_line line.now) }
 {
     match reader.read(alloc, line) {
         Ok(_) => Ok(Some(text_of(alloc, line)?)),

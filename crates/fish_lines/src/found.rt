@@ -36,7 +36,7 @@ impl From<AllocError> for RecordsRefusal {
 }
 
 impl Records {
-    ghost use Rattle.fish_lines.specs.File.{accepted, refused as refused_of};
+    ghost use Rattle.fish_value.specs.Outcomes.{accepted, refused as refused_of};
 
     /// No record.
     pub(crate) fn new(alloc: Global) -> Records

@@ -2,7 +2,7 @@
 
 ghost use Rattle.std.specs.Prelude.{◌≡◌};
 ghost use Rattle.std.specs.List.{list_all};
-ghost use Rattle.fish_json.specs.Lines.{is_blank, is_blank_byte, without_mark};
+ghost use Rattle.fish_json.specs.Lines.{is_blank_line, is_blank_byte, without_mark};
 
 use fish_json::MAX_PAYLOAD;
 
@@ -18,7 +18,7 @@ pub(crate) fn without_mark(b: &[u8]) -> &[u8]
 
 /// Whether a line is all spaces, tabs and CRs, and no longer than a record may be.
 pub(crate) fn is_blank(line: &[u8]) -> bool
-    ensures { result ≡ is_blank line.now }
+    ensures { result ≡ is_blank_line line.now }
 {
     line.len() <= MAX_PAYLOAD && has_blank_bytes_only(line)
 }

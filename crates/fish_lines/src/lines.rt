@@ -2,7 +2,7 @@
 
 ghost use Rattle.std.specs.Prelude.{◌≡◌, ◌<◌, ◌≤◌, ◌∷◌, [], length, IfSome, MatchOption};
 ghost use Rattle.std.specs.List.{slice_split};
-ghost use Rattle.fish_json.specs.Lines.{is_line_end, lines_of};
+ghost use Rattle.fish_json.specs.Lines.{is_line_end, lines_of_parts};
 ghost use Rattle.fish_lines.specs.within.Lines.{with_line};
 
 use crate::line::{is_blank, without_mark};
@@ -15,13 +15,13 @@ pub struct Lines<'b> {
 }
 
 impl<'b> Lines<'b> {
-    ghost use Rattle.fish_lines.specs.Left.{left};
+    ghost use Rattle.fish_lines.specs.Left.{lines_left};
     ghost use Rattle.fish_lines.specs.Lines.{file_lines};
 
     /// Stands before the first line. A byte order mark at the file's start is dropped.
-    #[tactic(auto, unfolding(crate::specs::Left::left))]
+    #[tactic(auto, unfolding(crate::specs::Left::lines_left))]
     pub fn new(b: &'b [u8]) -> Lines<'b>
-        ensures lines { left result ≡ file_lines b.now }
+        ensures lines { lines_left result ≡ file_lines b.now }
         ensures within { length result.rest.now ≤ length b.now }
     {
         Lines {
@@ -44,9 +44,10 @@ impl<'b> Lines<'b> {
     }
 
     /// The next line, without one CR at its end. Blank lines are passed over.
-    #[tactic(auto, unfolding(crate::specs::Left::left))]
+    #[tactic(auto, unfolding(crate::specs::Left::lines_left))]
     pub fn next_line(&mut self) -> Option<&'b [u8]>
-        ensures lines { MatchOption result (left self.old ≡ []) (λ line. left self.old ≡ line.now ∷ left self.new) }
+        ensures lines { MatchOption result (lines_left self.old ≡ [])
+            (λ line. lines_left self.old ≡ line.now ∷ lines_left self.new) }
         ensures shorter { IfSome result (λ _. length self.new.rest.now < length self.old.rest.now) }
     {
         while !self.rest.is_empty() {
@@ -63,8 +64,8 @@ impl<'b> Lines<'b> {
 /// The line before the first LF, or the whole where there is none, and what follows.
 fn first_line(b: &[u8]) -> (&[u8], &[u8])
     requires { 0 < length b.now }
-    ensures lines { lines_of (slice_split is_line_end b.now)
-        ≡ with_line result.0.now (lines_of (slice_split is_line_end result.1.now)) }
+    ensures lines { lines_of_parts (slice_split is_line_end b.now)
+        ≡ with_line result.0.now (lines_of_parts (slice_split is_line_end result.1.now)) }
     ensures shorter { length result.1.now < length b.now }
 {
     match cut_line(b) {

@@ -7,7 +7,7 @@ ghost use Rattle.std.specs.Prelude.{◌≡◌, ◌≤◌, ◌++◌, ◌∷◌, �
 ghost use Rattle.std.specs.List.{slice_split};
 ghost use Rattle.fish_json.specs.Lines.{is_line_end};
 ghost use Rattle.fish_lines.specs.Lines.{given_of};
-ghost use Rattle.fish_lines.specs.Open.{IsOpen, ends_in_cr, line_in, longest_kept};
+ghost use Rattle.fish_lines.specs.Open.{IsLineOpen, ends_in_cr, line_in, longest_kept};
 ghost use Rattle.fish_lines.specs.within.Open.{cr_if};
 
 use crate::line::is_blank;
@@ -31,7 +31,7 @@ pub(crate) struct OpenLine {
 impl OpenLine {
     /// The line of no bytes. Takes no memory.
     pub(crate) fn new(alloc: Global) -> OpenLine
-        ensures open { IsOpen result [] }
+        ensures open { IsLineOpen result [] }
         ensures none { line_in result ≡ [] }
     {
         OpenLine {
@@ -43,7 +43,7 @@ impl OpenLine {
     /// The line that bytes are.
     pub(crate) fn of_part(alloc: Global, part: &[u8]) -> Result<OpenLine, AllocError>
         requires { slice_split is_line_end part.now ≡ part.now ∷ [] }
-        ensures { IfOk result (λ line. IsOpen line part.now) }
+        ensures { IfOk result (λ line. IsLineOpen line part.now) }
     {
         let mut line = OpenLine::new(alloc);
         line.grow(alloc, part)?;
@@ -53,7 +53,7 @@ impl OpenLine {
     /// Puts bytes after the line.
     pub(crate) fn grow(&mut self, alloc: Global, piece: &[u8]) -> Result<(), AllocError>
         requires { slice_split is_line_end piece.now ≡ piece.now ∷ [] }
-        ensures open { OnOk result ((t : List ℕ) → IsOpen self.old t → IsOpen self.new (t ++ piece.now)) }
+        ensures open { OnOk result ((t : List ℕ) → IsLineOpen self.old t → IsLineOpen self.new (t ++ piece.now)) }
         ensures err { OnErr result (self.new ≡ self.old) }
     {
         if piece.is_empty() {
@@ -68,7 +68,7 @@ impl OpenLine {
     /// The line with bytes after it.
     pub(crate) fn grown(&self, alloc: Global, piece: &[u8]) -> Result<OpenLine, AllocError>
         requires { slice_split is_line_end piece.now ≡ piece.now ∷ [] }
-        ensures { IfOk result (λ line. (t : List ℕ) → IsOpen self.now t → IsOpen line (t ++ piece.now)) }
+        ensures { IfOk result (λ line. (t : List ℕ) → IsLineOpen self.now t → IsLineOpen line (t ++ piece.now)) }
     {
         let mut line = OpenLine {
             bytes: self.bytes.again(alloc)?,

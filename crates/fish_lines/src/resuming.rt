@@ -2,11 +2,11 @@
 
 ghost use Rattle.std.specs.Prelude.{◌≡◌, ◌≤◌, length, drop, map, IfOk};
 ghost use Rattle.std.specs.List.{slice_split};
-ghost use Rattle.fish_csv.specs.Left.{left as rows_left};
+ghost use Rattle.fish_csv.specs.Left.{rows_left};
 ghost use Rattle.fish_csv.specs.Reading.{rows_in};
-ghost use Rattle.fish_csv.specs.Rows.{payload_of as row_payload};
-ghost use Rattle.fish_json.specs.Lines.{is_line_end, lines_of};
-ghost use Rattle.fish_lines.specs.Left.{left};
+ghost use Rattle.fish_csv.specs.Rows.{payload_of_row as row_payload};
+ghost use Rattle.fish_json.specs.Lines.{is_line_end, lines_of_parts};
+ghost use Rattle.fish_lines.specs.Left.{lines_left};
 ghost use Rattle.fish_lines.specs.Resuming.{IsLeftOf};
 ghost use Rattle.fish_value.specs.declared.field.Form.TheVariants.{Csv, Json};
 
@@ -57,7 +57,7 @@ fn lines_after(begin: Begin, file: &[u8], many: u64) -> &[u8]
 /// The bytes after the next so many lines.
 fn pass_lines<'b>(lines: Lines<'b>, many: u64) -> &'b [u8]
     ensures within { length result.now ≤ length lines.entry.rest.now }
-    ensures others { lines_of (slice_split is_line_end result.now) ≡ drop many (left lines.entry) }
+    ensures others { lines_of_parts (slice_split is_line_end result.now) ≡ drop many (lines_left lines.entry) }
 {
     let mut lines = lines;
     let mut rest = lines.rest();

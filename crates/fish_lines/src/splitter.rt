@@ -3,8 +3,8 @@
 ghost use Rattle.std.specs.Prelude.{◌≡◌, ◌++◌, ◌∷◌, ℕ, List, [], true, false, IfOk, OnOk, OnErr, option_to_list};
 ghost use Rattle.std.specs.List.{concat, slice_split};
 ghost use Rattle.fish_json.specs.Lines.{is_line_end};
-ghost use Rattle.fish_lines.specs.Lines.{ended, given_of, last_part, lines};
-ghost use Rattle.fish_lines.specs.Open.{IsOpen, line_in};
+ghost use Rattle.fish_lines.specs.Lines.{ended_parts, given_of, last_part, given_lines};
+ghost use Rattle.fish_lines.specs.Open.{IsLineOpen, line_in};
 ghost use Rattle.fish_lines.specs.Split.{HasTaken, is_undecided};
 
 use crate::line::without_mark;
@@ -43,7 +43,7 @@ pub struct Splitter {
 }
 
 impl Splitter {
-    ghost use Rattle.fish_lines.specs.Split.{HasTaken, IsSame, due, is_undecided};
+    ghost use Rattle.fish_lines.specs.Split.{HasTaken, IsSplitterSame, due, is_undecided};
 
     /// A splitter that was given no bytes. Takes no memory.
     pub fn new(alloc: Global) -> Splitter
@@ -66,7 +66,7 @@ impl Splitter {
         ensures fed { OnOk result ((b : List ℕ) (taken : List Line)
             → HasTaken self.old b taken → HasTaken self.new (b ++ piece.now) taken) }
         ensures going { self.new.finished ≡ false }
-        ensures unchanged { OnErr result (IsSame self.old self.new) }
+        ensures unchanged { OnErr result (IsSplitterSame self.old self.new) }
     {
         if !self.at_start {
             return take_piece(self.alloc, &mut self.last, &mut self.ready, piece);
@@ -111,7 +111,7 @@ impl Splitter {
         ensures fed { OnOk result ((b : List ℕ) (taken : List Line)
             → is_undecided b ≡ true → HasTaken self.old b taken → HasTaken self.new whole.now taken) }
         ensures going { self.new.finished ≡ false }
-        ensures unchanged { OnErr result (IsSame self.old self.new) }
+        ensures unchanged { OnErr result (IsSplitterSame self.old self.new) }
     {
         let mut last = OpenLine::new(self.alloc);
         take_piece(self.alloc, &mut last, &mut self.ready, without_mark(whole))?;
@@ -125,7 +125,7 @@ impl Splitter {
 ///
 /// Its contract is the law of cutting: they are those of all bytes in one, whatever the pieces are.
 pub fn lines_of_pieces(alloc: Global, pieces: &[Bytes]) -> Result<LineList, AllocError>
-    ensures { IfOk result (λ found. found ≡ lines (concat pieces.now)) }
+    ensures { IfOk result (λ found. found ≡ given_lines (concat pieces.now)) }
 {
     let mut splitter = Splitter::new(alloc);
     for piece in pieces {
@@ -163,10 +163,10 @@ fn take_piece(
     ready: &mut VecDeque<Line>,
     piece: &[u8],
 ) -> Result<(), AllocError>
-    ensures lines { OnOk result ((t : List ℕ) → IsOpen last.old t
-        → ready.new.items ≡ ready.old.items ++ given_of (ended (slice_split is_line_end (t ++ piece.now)))) }
-    ensures rest { OnOk result ((t : List ℕ) → IsOpen last.old t
-        → IsOpen last.new (last_part (slice_split is_line_end (t ++ piece.now)))) }
+    ensures lines { OnOk result ((t : List ℕ) → IsLineOpen last.old t
+        → ready.new.items ≡ ready.old.items ++ given_of (ended_parts (slice_split is_line_end (t ++ piece.now)))) }
+    ensures rest { OnOk result ((t : List ℕ) → IsLineOpen last.old t
+        → IsLineOpen last.new (last_part (slice_split is_line_end (t ++ piece.now)))) }
 
     ensures same_last { OnErr result (last.new ≡ last.old) }
     ensures same_lines { OnErr result (ready.new.items ≡ ready.old.items) }
@@ -190,7 +190,7 @@ fn push_parts<'b>(
     b: &'b [u8],
 ) -> Result<&'b [u8], AllocError>
     ensures lines { OnOk result
-        (lines.new.items ≡ lines.old.items ++ given_of (ended (slice_split is_line_end b.now))) }
+        (lines.new.items ≡ lines.old.items ++ given_of (ended_parts (slice_split is_line_end b.now))) }
     ensures rest { IfOk result (λ rest. rest.now ≡ last_part (slice_split is_line_end b.now)) }
     ensures no_end { IfOk result (λ rest. slice_split is_line_end rest.now ≡ rest.now ∷ []) }
 {

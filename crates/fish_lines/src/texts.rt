@@ -1,11 +1,11 @@
 //! The texts of the records of a file that is held whole, one after another, in either form.
 
 ghost use Rattle.std.specs.Prelude.{◌≡◌, ◌<◌, ◌≤◌, ◌∷◌, [], length, map, IfOk, IfSome, MatchOption};
-ghost use Rattle.fish_csv.specs.Left.{left as rows_left};
+ghost use Rattle.fish_csv.specs.Left.{rows_left};
 ghost use Rattle.fish_json.specs.Lines as json;
-ghost use Rattle.fish_lines.specs.Left.{left as lines_left};
+ghost use Rattle.fish_lines.specs.Left.{lines_left};
 ghost use Rattle.fish_lines.specs.Resuming.{outcomes_from};
-ghost use Rattle.fish_lines.specs.Texts.{bytes_left, form_of, payload_in, text_form, texts_left};
+ghost use Rattle.fish_lines.specs.Texts.{bytes_left, form_of_texts, payload_in_text, text_form, texts_left};
 ghost use Rattle.fish_value.specs.declared.field.Form.TheVariants.{Csv, Json};
 
 use crate::lines::Lines;
@@ -42,7 +42,7 @@ impl<'b> RecordTexts<'b> {
     ) -> Result<RecordTexts<'b>, AllocError>
         ensures texts { IfOk result (λ texts. texts_left texts ≡ outcomes_from form begin file.now) }
         ensures within { IfOk result (λ texts. bytes_left texts ≤ length file.now) }
-        ensures form { IfOk result (λ texts. form_of texts ≡ form) }
+        ensures form { IfOk result (λ texts. form_of_texts texts ≡ form) }
     {
         match form {
             Form::Json => Ok(RecordTexts::Lines(lines_from(begin, file))),
@@ -53,10 +53,10 @@ impl<'b> RecordTexts<'b> {
     /// The text of the next line or row.
     pub fn next_text(&mut self, alloc: Global) -> Result<Option<RecordText<'b>>, AllocError>
         ensures texts { IfOk result (λ text. MatchOption text (texts_left self.old ≡ [])
-            (λ t. texts_left self.old ≡ payload_in t ∷ texts_left self.new)) }
+            (λ t. texts_left self.old ≡ payload_in_text t ∷ texts_left self.new)) }
         ensures shorter { IfOk result (λ text. IfSome text (λ _. bytes_left self.new < bytes_left self.old)) }
-        ensures kind { IfOk result (λ text. IfSome text (λ t. text_form t ≡ form_of self.old)) }
-        ensures form { form_of self.new ≡ form_of self.old }
+        ensures kind { IfOk result (λ text. IfSome text (λ t. text_form t ≡ form_of_texts self.old)) }
+        ensures form { form_of_texts self.new ≡ form_of_texts self.old }
     {
         match self {
             RecordTexts::Lines(lines) => match lines.next_line() {
@@ -73,9 +73,9 @@ impl<'b> RecordTexts<'b> {
 }
 
 /// Stands before the first line of a file from where its reading begins.
-#[tactic(auto, unfolding(crate::specs::Resuming::outcomes_from, crate::specs::File::outcomes, crate::specs::Left::left, fish_json::specs::Lines::outcomes, fish_json::specs::Lines::outcomes_of))]
+#[tactic(auto, unfolding(crate::specs::Resuming::outcomes_from, crate::specs::File::outcomes, crate::specs::Left::lines_left, fish_json::specs::Lines::line_outcomes, fish_json::specs::Lines::line_outcomes_of))]
 fn lines_from(begin: Begin, file: &[u8]) -> Lines<'_>
-    ensures lines { map json.payload_of (lines_left result) ≡ outcomes_from Json begin file.now }
+    ensures lines { map json.payload_of_line (lines_left result) ≡ outcomes_from Json begin file.now }
     ensures within { length result.rest.now ≤ length file.now }
 {
     match begin {
@@ -85,7 +85,7 @@ fn lines_from(begin: Begin, file: &[u8]) -> Lines<'_>
 }
 
 /// Stands before the first row of a file from where its reading begins.
-#[tactic(auto, unfolding(crate::specs::Resuming::outcomes_from, crate::specs::File::outcomes, fish_csv::specs::Left::left))]
+#[tactic(auto, unfolding(crate::specs::Resuming::outcomes_from, crate::specs::File::outcomes, fish_csv::specs::Left::rows_left))]
 fn rows_from(alloc: Global, begin: Begin, file: &[u8]) -> Result<RowTexts<'_>, AllocError>
     ensures rows { IfOk result (λ rows. rows_left rows ≡ outcomes_from Csv begin file.now) }
     ensures within { IfOk result (λ rows. length rows.rest.now ≤ length file.now) }

@@ -17,8 +17,8 @@ abbrev pub is_planned : FaultPlan → Bool
 is_planned plan = list_any (λ call. call == plan.calls) plan.fails
 
 -- the plan with one more call counted, and one more fault if it failed
-abbrev pub after_call : FaultPlan → Bool → FaultPlan
-after_call plan failed = record plan {
+abbrev pub plan_after_call : FaultPlan → Bool → FaultPlan
+plan_after_call plan failed = record plan {
   calls = counted_on plan.calls 1;
   faults = if failed then counted_on plan.faults 1 else plan.faults;
 }

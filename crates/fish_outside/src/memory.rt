@@ -4,7 +4,7 @@ ghost use Rattle.std.specs.Prelude.{◌≡◌, ◌≤◌, ◌↔◌, [], Some, l
 ghost use Rattle.std.specs.Str.{bytes_eq};
 ghost use Rattle.fish_outside.specs.Causes.{counted_on, HasCause};
 ghost use Rattle.fish_outside.specs.Content.{Reads, Writes};
-ghost use Rattle.fish_outside.specs.Memory.{after_call, file_of, files_of, is_planned, new_plan};
+ghost use Rattle.fish_outside.specs.Memory.{plan_after_call, file_of, files_of, is_planned, new_plan};
 
 use crate::fault::{Failed, FeedRefusal};
 use crate::host::Host;
@@ -48,7 +48,7 @@ impl Source for MemorySource {
 
         ensures cause { HasCause self.old.plan.faults self.new.plan.faults result }
         ensures planned { is_err result ≡ is_planned self.old.plan }
-        ensures counted { self.new.plan ≡ after_call self.old.plan (is_err result) }
+        ensures counted { self.new.plan ≡ plan_after_call self.old.plan (is_err result) }
     {
         self.plan.call()?;
         self.rest.read(buf)
@@ -120,7 +120,7 @@ impl Host for MemoryHost {
         ensures files { self.new.files ≡ self.old.files }
 
         ensures failed { IsErrOf result FeedRefusal.Failed ↔ IsTrue (is_refused self.old name.now) }
-        ensures counted { self.new.plan ≡ after_call self.old.plan (is_refused self.old name.now) }
+        ensures counted { self.new.plan ≡ plan_after_call self.old.plan (is_refused self.old name.now) }
     {
         self.plan.call()?;
         let Some(file) = find_file(self.files.as_slice(), name) else {
@@ -194,7 +194,7 @@ impl Sink for MemorySink {
 
         ensures cause { HasCause self.old.plan.faults self.new.plan.faults result }
         ensures planned { IsTrue (is_planned self.old.plan) → IsErr result }
-        ensures counted { self.new.plan ≡ after_call self.old.plan (is_err result) }
+        ensures counted { self.new.plan ≡ plan_after_call self.old.plan (is_err result) }
     {
         self.plan.call()?;
         match self.bytes.append(piece) {

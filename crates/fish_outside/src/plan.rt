@@ -2,7 +2,7 @@
 
 ghost use Rattle.std.specs.Prelude.{◌≡◌, is_err};
 ghost use Rattle.fish_outside.specs.Causes.{counted_on};
-ghost use Rattle.fish_outside.specs.Memory.{after_call, is_planned, new_plan};
+ghost use Rattle.fish_outside.specs.Memory.{plan_after_call, is_planned, new_plan};
 
 use crate::fault::Failed;
 use fish_value::Numbers64;
@@ -33,7 +33,7 @@ impl FaultPlan {
     /// Counts a call, which fails where that is planned.
     pub fn call(&mut self) -> Result<(), Failed>
         ensures planned { is_err result ≡ is_planned self.old }
-        ensures counted { self.new ≡ after_call self.old (is_err result) }
+        ensures counted { self.new ≡ plan_after_call self.old (is_err result) }
     {
         let planned = self.fails.as_slice().contains(&self.calls);
         self.calls = self.calls.saturating_add(1);

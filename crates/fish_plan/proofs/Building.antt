@@ -6,8 +6,8 @@ use Rattle.std.proofs.lemmas.Option.{same_Some, slice_get_within}
 use Rattle.fish_catalog.specs.declared.interval.Interval.{Interval}
 use Rattle.fish_plan.proofs.Lists.{longer, push_cases}
 use Rattle.fish_plan.specs.Cover.{IsRight, cut}
-use Rattle.fish_plan.specs.Intervals.{IsHeld}
-use Rattle.fish_plan.specs.within.Next.{IsMet, IsNext}
+use Rattle.fish_plan.specs.Intervals.{IsHeldBy}
+use Rattle.fish_plan.specs.within.Next.{IsMet, IsNextPiece}
 use Rattle.fish_plan.specs.Pieces.{Fill, piece_from, piece_to}
 use Rattle.fish_plan.specs.declared.pieces.Piece.{Piece}
 use Rattle.fish_plan.specs.declared.pieces.Piece.TheVariants.{Index, Full}
@@ -22,7 +22,7 @@ pub record IsBuilt (pieces : List Piece) (from end settled to : ℕ) (xs : List 
   pub apart : (k a b c : ℕ) → slice_get pieces k ≡ Some (Full b c) → slice_get pieces (k + 1) ≡ Some (Full a b)
       → settled < c
   -- below a full piece under the settled number an interval holds the next number
-  pub next : (k b : ℕ) → slice_get pieces k ≡ Some (Full end b) → b ≤ settled → from < end → IsHeld xs (end - 1)
+  pub next : (k b : ℕ) → slice_get pieces k ≡ Some (Full end b) → b ≤ settled → from < end → IsHeldBy xs (end - 1)
 
 -- one piece more below the others
 fill_push : (pieces : List Piece) (x : Piece) (from to : ℕ) → Fill pieces from to → piece_to x ≡ from → piece_from x < from
@@ -60,14 +60,14 @@ no_cut from settled to end left less high = omega arith
 
 -- the last number of a full piece isn't held
 clear : (xs : List Interval) (from end : ℕ) (y : Piece) (a b : ℕ) → y ≡ Full a b → piece_to y ≡ end
-    → piece_from y < end → IsRight xs from end y → IsHeld xs (end - 1) → ⊥
+    → piece_from y < end → IsRight xs from end y → IsHeldBy xs (end - 1) → ⊥
 clear xs from end (Index id first last) a b is ends falls right held = absurd cc
 clear xs from end (Full first last) a b is ends falls right held =
     right (omega (arith, ends)) (end - 1) (omega arith) (omega (arith, ends)) held
 
 -- one piece more
 pub built_next : (pieces : List Piece) (from end settled to : ℕ) (xs : List Interval) (x : Piece)
-    → IsBuilt pieces from end settled to xs → from < end → IsNext xs from end x
+    → IsBuilt pieces from end settled to xs → from < end → IsNextPiece xs from end x
     → IsBuilt (pieces ++ x ∷ []) from (piece_from x) settled to xs
 built_next pieces from end settled to xs x h left new = record {
   low = new.within;
@@ -108,6 +108,6 @@ built_next pieces from end settled to xs x h left new = record {
     ]
 
     meets : (y : Piece) (first last : ℕ) → y ≡ Full first last → IsMet xs from y → from < piece_from y
-        → IsHeld xs (piece_from y - 1)
+        → IsHeldBy xs (piece_from y - 1)
     meets (Index id p q) first last is met less = absurd cc
     meets (Full p q) first last is met less = elim met [ inl begins ↦ absurd (omega arith) | inr held ↦ held ]

@@ -5,9 +5,9 @@ use Rattle.std.proofs.Math.Decide.{dec_lt}
 use Rattle.std.proofs.lemmas.Option.{same_Some}
 use Rattle.fish_catalog.specs.declared.interval.Interval.{Interval}
 use Rattle.fish_plan.proofs.Unique.{fill_order}
-use Rattle.fish_plan.specs.Cover.{IsCover, IsIndexed, cut}
+use Rattle.fish_plan.specs.Cover.{IsCover, IsIndexedPiece, cut}
 use Rattle.fish_plan.specs.Laws.{FullIsPlan}
-use Rattle.fish_plan.specs.Intervals.{Holds, IsBelowEnd, IsHeld}
+use Rattle.fish_plan.specs.Intervals.{Holds, IsBelowEnd, IsHeldBy}
 use Rattle.fish_plan.specs.Pieces.{Fill, IsIn, piece_from, piece_to}
 use Rattle.fish_plan.specs.declared.pieces.Piece.{Piece}
 use Rattle.fish_plan.specs.declared.pieces.Piece.TheVariants.{Index, Full}
@@ -44,7 +44,7 @@ pub index_inside : (ps : List Piece) (from settled to : ℕ) (xs : List Interval
     → (from ≤ p) × (q ≤ settled) × (q ≤ to) × (position : ℕ) × (x : Interval) × (slice_get xs position ≡ Some x)
     × (x.id ≡ id) × ((n : ℕ) → p ≤ n → n < q → Holds x n)
 index_inside ps from settled to xs h k id p q there =
-    let i : IsIndexed xs from settled id p q = h.right k (Index id p q) there in
+    let i : IsIndexedPiece xs from settled id p q = h.right k (Index id p q) there in
     let w = piece_within ps from to k (Index id p q) h.fill there in (
       w.0,
       i.below,
@@ -71,7 +71,7 @@ beyond (x ∷ ps) from settled to n (suc k) p q h first there begins below above
 
 -- a number below settled that an interval holds is in an index piece
 pub held_is_indexed : (ps : List Piece) (from settled to : ℕ) (xs : List Interval) → IsCover ps from settled to xs
-    → (n k : ℕ) → n < settled → IsHeld xs n → IsIn ps n k
+    → (n k : ℕ) → n < settled → IsHeldBy xs n → IsIn ps n k
     → (id : ℕ) × (p : ℕ) × (q : ℕ) × (slice_get ps k ≡ Some (Index id p q))
 held_is_indexed ps from settled to xs h n k below held is = kind is.piece is.there is.begins is.ends
   where

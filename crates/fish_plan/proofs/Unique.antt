@@ -4,8 +4,8 @@ use Rattle.std.proofs.Common.{refl, sym, ap, subst, ◌∙◌, arith}
 use Rattle.std.proofs.Math.Decide.{dec_lt}
 use Rattle.std.proofs.lemmas.Option.{same_Some}
 use Rattle.fish_catalog.specs.declared.interval.Interval.{Interval}
-use Rattle.fish_plan.specs.Cover.{IsCover, IsIndexed, cut}
-use Rattle.fish_plan.specs.Intervals.{IsHeld, IsOldest}
+use Rattle.fish_plan.specs.Cover.{IsCover, IsIndexedPiece, cut}
+use Rattle.fish_plan.specs.Intervals.{IsHeldBy, IsOldest}
 use Rattle.fish_plan.specs.Pieces.{Fill, IsIn, piece_from, piece_to}
 use Rattle.fish_plan.specs.declared.pieces.Piece.{Piece}
 use Rattle.fish_plan.specs.declared.pieces.Piece.TheVariants.{Index, Full}
@@ -51,17 +51,17 @@ oldest_same xs n x y one other = elim (one.ahead other.position y other.there ot
 ]
 
 -- a number whose oldest interval is there is held
-held_by : (xs : List Interval) (n : ℕ) (x : Interval) → IsOldest xs n x → IsHeld xs n
+held_by : (xs : List Interval) (n : ℕ) (x : Interval) → IsOldest xs n x → IsHeldBy xs n
 held_by xs n x h = record { position = h.position; interval = x; there = h.there; holds = h.holds }
 
 -- where a full piece below settled begins above the range's beginning, an interval holds the number before it
 above_low : (ps : List Piece) (p q : ℕ) (from settled to : ℕ) (xs : List Interval) → IsCover (Full p q ∷ ps) from settled to xs
-    → q ≤ settled → from < p → IsHeld xs (p - 1)
+    → q ≤ settled → from < p → IsHeldBy xs (p - 1)
 above_low [] p q from settled to xs h below above = absurd (omega (arith, h.fill.2))
 above_low (Index id a b ∷ ps) p q from settled to xs h below above =
     let at : b ≡ p = h.fill.2.0 in
-    let i : IsIndexed xs from settled id a b = h.right 1 (Index id a b) refl in
-    subst (λ (k : ℕ). IsHeld xs (k - 1)) at (held_by xs (b - 1) i.interval i.oldest)
+    let i : IsIndexedPiece xs from settled id a b = h.right 1 (Index id a b) refl in
+    subst (λ (k : ℕ). IsHeldBy xs (k - 1)) at (held_by xs (b - 1) i.interval i.oldest)
 above_low (Full a b ∷ ps) p q from settled to xs h below above =
     let at : b ≡ p = h.fill.2.0 in
     absurd (omega (arith, h.apart 0 a p q refl (ap (λ (k : ℕ). Some (Full a k)) at)))
@@ -72,7 +72,7 @@ no_lower : (ps qs : List Piece) (a c end from settled : ℕ) (xs : List Interval
 no_lower ps qs a c end from settled xs h k below less =
     let low : from ≤ a = fill_order ps from a h.fill.2 in
     let falls : c < end = k.fill.1 in
-    let clear : end ≤ settled → (n : ℕ) → a ≤ n → n < end → ¬ IsHeld xs n = h.right 0 (Full a end) refl in
+    let clear : end ≤ settled → (n : ℕ) → a ≤ n → n < end → ¬ IsHeldBy xs n = h.right 0 (Full a end) refl in
     clear below (c - 1) (omega arith) (omega arith) (above_low qs c end from settled end xs k below (omega arith))
 
 -- so they are one
@@ -94,8 +94,8 @@ full_same ps qs a b c d to from settled xs h k below =
     λ t. Full (same t) (e t)
 
 -- a full piece of one plan and an index piece of another don't end together below settled
-mixed : (xs : List Interval) (from settled id a b p : ℕ) → IsIndexed xs from settled id a b → p < b → b ≤ settled
-    → (b ≤ settled → (n : ℕ) → p ≤ n → n < b → ¬ IsHeld xs n) → ⊥
+mixed : (xs : List Interval) (from settled id a b p : ℕ) → IsIndexedPiece xs from settled id a b → p < b → b ≤ settled
+    → (b ≤ settled → (n : ℕ) → p ≤ n → n < b → ¬ IsHeldBy xs n) → ⊥
 mixed xs from settled id a b p i less below clear =
     clear below (b - 1) (omega arith) (omega arith) (held_by xs (b - 1) i.interval i.oldest)
 
@@ -103,8 +103,8 @@ mixed xs from settled id a b p i less below clear =
 first_same : (x y : Piece) (ps qs : List Piece) (from settled to : ℕ) (xs : List Interval) → IsCover (x ∷ ps) from settled to xs
     → IsCover (y ∷ qs) from settled to xs → to ≤ settled → x ≡ y
 first_same (Index i a b) (Index j c d) ps qs from settled to xs h k below =
-    let one : IsIndexed xs from settled i a b = h.right 0 (Index i a b) refl in
-    let other : IsIndexed xs from settled j c d = k.right 0 (Index j c d) refl in
+    let one : IsIndexedPiece xs from settled i a b = h.right 0 (Index i a b) refl in
+    let other : IsIndexedPiece xs from settled j c d = k.right 0 (Index j c d) refl in
     let ends : b ≡ d = h.fill.0 ∙ sym k.fill.0 in
     let same = oldest_same xs (d - 1) one.interval other.interval
     (subst (λ (n : ℕ). IsOldest xs (n - 1) one.interval) ends one.oldest) other.oldest in
@@ -113,14 +113,14 @@ first_same (Index i a b) (Index j c d) ps qs from settled to xs h k below =
     λ t. Index (ids t) (begins t) (ends t)
 first_same (Index i a b) (Full p q) ps qs from settled to xs h k below =
     let end : b ≡ q = h.fill.0 ∙ sym k.fill.0 in
-    let clear : q ≤ settled → (n : ℕ) → p ≤ n → n < q → ¬ IsHeld xs n = k.right 0 (Full p q) refl in
+    let clear : q ≤ settled → (n : ℕ) → p ≤ n → n < q → ¬ IsHeldBy xs n = k.right 0 (Full p q) refl in
     absurd (mixed xs from settled i a b p (h.right 0 (Index i a b) refl) (omega (arith, k.fill.1, k.fill.0, end)) (omega (arith, h.fill.0))
-    (subst (λ (e : ℕ). e ≤ settled → (n : ℕ) → p ≤ n → n < e → ¬ IsHeld xs n) (sym end) clear))
+    (subst (λ (e : ℕ). e ≤ settled → (n : ℕ) → p ≤ n → n < e → ¬ IsHeldBy xs n) (sym end) clear))
 first_same (Full p q) (Index i a b) ps qs from settled to xs h k below =
     let end : b ≡ q = k.fill.0 ∙ sym h.fill.0 in
-    let clear : q ≤ settled → (n : ℕ) → p ≤ n → n < q → ¬ IsHeld xs n = h.right 0 (Full p q) refl in
+    let clear : q ≤ settled → (n : ℕ) → p ≤ n → n < q → ¬ IsHeldBy xs n = h.right 0 (Full p q) refl in
     absurd (mixed xs from settled i a b p (k.right 0 (Index i a b) refl) (omega (arith, h.fill.1, h.fill.0, end)) (omega (arith, k.fill.0))
-    (subst (λ (e : ℕ). e ≤ settled → (n : ℕ) → p ≤ n → n < e → ¬ IsHeld xs n) (sym end) clear))
+    (subst (λ (e : ℕ). e ≤ settled → (n : ℕ) → p ≤ n → n < e → ¬ IsHeldBy xs n) (sym end) clear))
 first_same (Full a b) (Full c d) ps qs from settled to xs h k below = full_same ps qs a b c d to from settled xs h k below
 
 -- two plans of a range begin with one piece

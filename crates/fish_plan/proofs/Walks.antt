@@ -4,22 +4,22 @@ use Rattle.std.proofs.Common.{length, get_or, take, sym, subst, ◌∙◌, arith
 use Rattle.std.proofs.Math.Decide.{dec_lt}
 use Rattle.fish_catalog.specs.declared.interval.Interval.{Interval}
 use Rattle.fish_plan.proofs.Lists.{last, longer, push_cases}
-use Rattle.fish_plan.specs.Intervals.{Holds, IsBelowEnd, IsHeld}
+use Rattle.fish_plan.specs.Intervals.{Holds, IsBelowEnd, IsHeldBy}
 use Rattle.std.proofs.lemmas.List.{take_more}
 use Rattle.std.proofs.lemmas.Option.{slice_get-get_or}
 use Rattle.fish_plan.specs.within.Next.{IsLowEnd, KeepsLowEnd}
 
 -- a number that is held stays so
-pub held_longer : (xs : List Interval) (x : Interval) (n : ℕ) → IsHeld xs n → IsHeld (xs ++ x ∷ []) n
+pub held_longer : (xs : List Interval) (x : Interval) (n : ℕ) → IsHeldBy xs n → IsHeldBy (xs ++ x ∷ []) n
 held_longer xs x n h =
     record { position = h.position; interval = h.interval; there = longer xs x h.interval h.position h.there; holds = h.holds }
 
 -- the new interval holds its own
-pub held_last : (xs : List Interval) (x : Interval) (n : ℕ) → Holds x n → IsHeld (xs ++ x ∷ []) n
+pub held_last : (xs : List Interval) (x : Interval) (n : ℕ) → Holds x n → IsHeldBy (xs ++ x ∷ []) n
 held_last xs x n h = record { position = length xs; interval = x; there = last xs x; holds = h }
 
 -- and no other number is held
-pub held_cases : (xs : List Interval) (x : Interval) (n : ℕ) → IsHeld (xs ++ x ∷ []) n → IsHeld xs n ⊎ Holds x n
+pub held_cases : (xs : List Interval) (x : Interval) (n : ℕ) → IsHeldBy (xs ++ x ∷ []) n → IsHeldBy xs n ⊎ Holds x n
 held_cases xs x n h = elim (push_cases xs x h.position h.interval h.there) [
   | inl old ↦ inl (record { position = h.position; interval = h.interval; there = old; holds = h.holds })
   | inr new ↦ inr (subst (λ (z : Interval). Holds z n) (sym new.1) h.holds)
@@ -48,7 +48,7 @@ low_more xs x from end old new h up falls met clear = record {
     | inr here ↦ inr (held_last xs x (new - 1) here)
     | inl same ↦ elim h.met [
       | inl begins ↦ inl (same ∙ begins)
-      | inr before ↦ inr (held_longer xs x (new - 1) (subst (λ (k : ℕ). IsHeld xs (k - 1)) (sym same) before))
+      | inr before ↦ inr (held_longer xs x (new - 1) (subst (λ (k : ℕ). IsHeldBy xs (k - 1)) (sym same) before))
     ]
   ];
 }
@@ -77,7 +77,7 @@ low_kept xs x from end old short no_more h =
         ]
 
 -- the walk over a list of which no interval reaches the end, one turn further
-pub low_turn : (xs : List Interval) (i : ℕ) (d : Interval) (from end old new : ℕ) → i < length xs → ¬ IsHeld xs (end - 1)
+pub low_turn : (xs : List Interval) (i : ℕ) (d : Interval) (from end old new : ℕ) → i < length xs → ¬ IsHeldBy xs (end - 1)
     → KeepsLowEnd end old (get_or xs i d) new → IsLowEnd (take i xs) from end old → IsLowEnd (take (i + 1) xs) from end new
 low_turn xs i d from end old new inside free keeps h =
     subst (λ (ys : List Interval). IsLowEnd ys from end new) (sym (take_more xs i d inside))

@@ -1,7 +1,7 @@
 -- What a plan of a range is.
 use Rattle.std.specs.Prelude.{◌≡◌, ℕ, ◌<◌, ◌≤◌, ◌+◌, ◌-◌, List, Some, max, min, slice_get}
 use Rattle.fish_catalog.specs.declared.interval.Interval.{Interval}
-use Rattle.fish_plan.specs.Intervals.{IsHeld, IsOldest}
+use Rattle.fish_plan.specs.Intervals.{IsHeldBy, IsOldest}
 use Rattle.fish_plan.specs.Pieces.{Fill}
 use Rattle.fish_plan.specs.declared.pieces.Piece.{Piece}
 use Rattle.fish_plan.specs.declared.pieces.Piece.TheVariants.{Index, Full}
@@ -11,7 +11,7 @@ abbrev pub cut : ℕ → ℕ → ℕ → ℕ
 cut from settled to = max from (min settled to)
 
 -- the numbers are read by the index of the oldest interval that holds the last of them, from where it begins on
-pub record IsIndexed (xs : List Interval) (from settled id first end : ℕ) : Type 0 where
+pub record IsIndexedPiece (xs : List Interval) (from settled id first end : ℕ) : Type 0 where
   -- they lie below settled
   pub below : end ≤ settled
   pub interval : Interval
@@ -22,8 +22,8 @@ pub record IsIndexed (xs : List Interval) (from settled id first end : ℕ) : Ty
 
 -- an index holds each of its numbers; of a full piece below settled none holds one
 abbrev pub IsRight : List Interval → ℕ → ℕ → Piece → Type 0
-IsRight xs from settled (Index id first end) = IsIndexed xs from settled id first end
-IsRight xs from settled (Full first end) = end ≤ settled → (n : ℕ) → first ≤ n → n < end → ¬ IsHeld xs n
+IsRight xs from settled (Index id first end) = IsIndexedPiece xs from settled id first end
+IsRight xs from settled (Full first end) = end ≤ settled → (n : ℕ) → first ≤ n → n < end → ¬ IsHeldBy xs n
 
 -- the pieces are the plan of the range
 pub record IsCover (pieces : List Piece) (from settled to : ℕ) (xs : List Interval) : Type 0 where

@@ -13,7 +13,7 @@ pub record Holds (x : Interval) (n : ℕ) : Type 0 where
   pub open_still : IsBelowEnd n x.to
 
 -- one of the intervals holds the number
-pub record IsHeld (xs : List Interval) (n : ℕ) : Type 0 where
+pub record IsHeldBy (xs : List Interval) (n : ℕ) : Type 0 where
   pub position : ℕ
   pub interval : Interval
   pub there : slice_get xs position ≡ Some interval

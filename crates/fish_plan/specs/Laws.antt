@@ -2,7 +2,7 @@
 use Rattle.std.specs.Prelude.{◌≡◌, ℕ, ◌<◌, ◌≤◌, List, Some, slice_get}
 use Rattle.fish_catalog.specs.declared.interval.Interval.{Interval}
 use Rattle.fish_plan.specs.Cover.{IsCover}
-use Rattle.fish_plan.specs.Intervals.{Holds, IsHeld}
+use Rattle.fish_plan.specs.Intervals.{Holds, IsHeldBy}
 use Rattle.fish_plan.specs.Pieces.{IsIn, one_full}
 use Rattle.fish_plan.specs.declared.pieces.Piece.{Piece}
 use Rattle.fish_plan.specs.declared.pieces.Piece.TheVariants.{Index}
@@ -28,7 +28,7 @@ IndexInside = (pieces : List Piece) (from settled to : ℕ) (xs : List Interval)
 -- a number below settled that an interval holds is in an index piece
 abbrev pub HeldIsIndexed : Type 0
 HeldIsIndexed = (pieces : List Piece) (from settled to : ℕ) (xs : List Interval) → IsCover pieces from settled to xs
-    → (n k : ℕ) → n < settled → IsHeld xs n → IsIn pieces n k
+    → (n k : ℕ) → n < settled → IsHeldBy xs n → IsIn pieces n k
     → (id : ℕ) × (p : ℕ) × (q : ℕ) × (slice_get pieces k ≡ Some (Index id p q))
 
 -- where nothing is settled, the plan is one full piece

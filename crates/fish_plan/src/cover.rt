@@ -2,7 +2,7 @@
 
 ghost use Rattle.std.specs.Prelude.{◌≡◌, ◌≤◌, ◌<◌, IfOk};
 ghost use Rattle.fish_plan.specs.Cover.{IsCover};
-ghost use Rattle.fish_plan.specs.within.Next.{IsNext};
+ghost use Rattle.fish_plan.specs.within.Next.{IsNextPiece};
 ghost use Rattle.fish_plan.specs.Pieces.{one_full};
 
 use crate::lookup::{low_end, oldest};
@@ -52,7 +52,7 @@ pub fn full(alloc: Global, from: u32, to: u32) -> Result<Plan, AllocError>
 /// The piece that ends at a number, of what is left of a range below settled.
 fn next_piece(from: u32, end: u32, intervals: &[Interval]) -> Piece
     requires { from < end }
-    ensures { IsNext intervals.now from end result }
+    ensures { IsNextPiece intervals.now from end result }
 {
     match oldest(intervals, end - 1) {
         Some(interval) => Piece::Index {

@@ -1,7 +1,7 @@
 //! What intervals say of a number, by one walk over them.
 
 ghost use Rattle.std.specs.Prelude.{◌≡◌, ◌↔◌, ◌-◌, ◌<◌, IsTrue};
-ghost use Rattle.fish_plan.specs.Intervals.{Holds, IsAhead, IsHeld};
+ghost use Rattle.fish_plan.specs.Intervals.{Holds, IsAhead, IsHeldBy};
 ghost use Rattle.fish_plan.specs.within.Next.{IsLowEnd, IsOldestOf, KeepsLowEnd, KeepsOldest};
 
 use fish_catalog::Interval;
@@ -54,7 +54,7 @@ fn is_ahead(interval: &Interval, other: &Interval) -> bool
 /// greater.
 pub(crate) fn low_end(intervals: &[Interval], from: u32, end: u32) -> u32
     requires range { from < end }
-    requires none { ¬ IsHeld intervals.now (end - 1) }
+    requires none { ¬ IsHeldBy intervals.now (end - 1) }
     ensures { IsLowEnd intervals.now from end result }
 {
     let mut low = from;

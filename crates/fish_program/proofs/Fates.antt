@@ -8,8 +8,8 @@ use Rattle.fish_recover.specs.declared.refusal.Asked.{Asked}
 use Rattle.fish_recover.specs.declared.refusal.OpenRefusal.{OpenRefusal}
 use Rattle.fish_recover.specs.declared.refusal.OpenRefusal.TheVariants as opening
 use Rattle.fish_rule.specs.declared.close.Remains.{Remains}
-use Rattle.fish_run.specs.Faults.{IsUndamaged}
-use Rattle.fish_run.specs.Ran.{IsLost, IsStopped, IsWhole}
+use Rattle.fish_run.specs.Faults.{IsRunUndamaged}
+use Rattle.fish_run.specs.Ran.{IsRunLost, IsRunStopped, IsRunWhole}
 use Rattle.fish_run.specs.declared.fault.RunFault.{RunFault}
 use Rattle.fish_run.specs.declared.fault.RunFault.TheVariants as ran
 use Rattle.fish_run.specs.declared.running.Ran.{Ran}
@@ -82,18 +82,18 @@ module _ {D : Type 0} (disks : Disks D) (disk mid disk' : D) (asked : Asked) (to
     pub opens : Opens disks disk mid disk' asked o
     pub report : out.report.items ≡ []
     pub whole : fault_of ≡ None → (log : Remains) × (out.remains ≡ Some log)
-        × IsWhole disks mid disk' o told script log old new out.refused
+        × IsRunWhole disks mid disk' o told script log old new out.refused
     pub stopped : (why : RunFault) → fault_of ≡ Some why → (log : Remains) → out.remains ≡ Some log
-        → IsStopped disks mid disk' o told script log old new out.refused why
+        → IsRunStopped disks mid disk' o told script log old new out.refused why
     pub lost : out.remains ≡ None → (fault_of ≡ Some ran.Memory)
-        × IsLost disks mid disk' o told script old new out.refused
-    pub damaged : IsSome (disks.content disk') → IfSome fault_of IsUndamaged
+        × IsRunLost disks mid disk' o told script old new out.refused
+    pub damaged : IsSome (disks.content disk') → IfSome fault_of IsRunUndamaged
 
   -- the log that a stopped run left, or that it was lost
   left_of : (o : Opened) (why : RunFault) (remains : Option Remains)
       → ((log : Remains) → remains ≡ Some log
-      → IsStopped disks mid disk' o told script log old new out.refused why)
-      → (remains ≡ None → (Some why ≡ Some ran.Memory) × IsLost disks mid disk' o told script old new out.refused)
+      → IsRunStopped disks mid disk' o told script log old new out.refused why)
+      → (remains ≡ None → (Some why ≡ Some ran.Memory) × IsRunLost disks mid disk' o told script old new out.refused)
       → IsLeft disks mid disk' o told script old new out.refused why remains
   left_of o why (Some log) stopped lost = stopped log refl
   left_of o why None stopped lost =
@@ -136,11 +136,11 @@ module _ {D : Type 0} (disks : Disks D) (disk mid disk' : D) (asked : Asked) (to
   pub went_as : (o : Opened) (r : Ran) → Opens disks disk mid disk' asked o
       → out.report.items ≡ [] → out.refused ≡ r.refused → out.remains ≡ r.remains
       → (r.fault ≡ None → (log : Remains) × (r.remains ≡ Some log)
-      × IsWhole disks mid disk' o told script log old new r.refused)
+      × IsRunWhole disks mid disk' o told script log old new r.refused)
       → ((why : RunFault) → r.fault ≡ Some why → (log : Remains) → r.remains ≡ Some log
-      → IsStopped disks mid disk' o told script log old new r.refused why)
-      → (r.remains ≡ None → (r.fault ≡ Some ran.Memory) × IsLost disks mid disk' o told script old new r.refused)
-      → (IsSome (disks.content disk') → IfSome r.fault IsUndamaged)
+      → IsRunStopped disks mid disk' o told script log old new r.refused why)
+      → (r.remains ≡ None → (r.fault ≡ Some ran.Memory) × IsRunLost disks mid disk' o told script old new r.refused)
+      → (IsSome (disks.content disk') → IfSome r.fault IsRunUndamaged)
       → Went o r.fault
   went_as o r opens report refused remains whole stopped lost damaged = record {
     opens = opens;
@@ -148,14 +148,14 @@ module _ {D : Type 0} (disks : Disks D) (disk mid disk' : D) (asked : Asked) (to
     whole = λ none. let all = whole none in (
       all.0,
       remains ∙ all.1,
-      subst (λ (x : Bool). IsWhole disks mid disk' o told script all.0 old new x) (sym refused) all.2,
+      subst (λ (x : Bool). IsRunWhole disks mid disk' o told script all.0 old new x) (sym refused) all.2,
     );
     stopped = λ why some log is.
-        subst (λ (x : Bool). IsStopped disks mid disk' o told script log old new x why) (sym refused)
+        subst (λ (x : Bool). IsRunStopped disks mid disk' o told script log old new x why) (sym refused)
         (stopped why some log (sym remains ∙ is));
     lost = λ is. let all = lost (sym remains ∙ is) in (
       all.0,
-      subst (λ (x : Bool). IsLost disks mid disk' o told script old new x) (sym refused) all.1,
+      subst (λ (x : Bool). IsRunLost disks mid disk' o told script old new x) (sym refused) all.1,
     );
     damaged = damaged;
   }

@@ -7,7 +7,7 @@ use Rattle.fish_recover.specs.declared.opened.Opened.{Opened}
 use Rattle.fish_recover.specs.declared.refusal.Asked.{Asked}
 use Rattle.fish_rule.specs.declared.close.Remains.{Remains}
 use Rattle.fish_run.specs.Blocks.{Round, rounds_of}
-use Rattle.fish_run.specs.Ran.{IsStopped, Keeps, StoodFor, opened_item}
+use Rattle.fish_run.specs.Ran.{IsRunStopped, Keeps, StoodFor, opened_item}
 use Rattle.fish_run.specs.Reports.{first_item}
 use Rattle.fish_run.specs.declared.fault.RunFault.{RunFault}
 use Rattle.fish_catalog.specs.declared.commit.Commit.{Commit}
@@ -46,7 +46,7 @@ module _ {D : Type 0} (disks : Disks D) where
   left_some : (mid disk' : D) (o : Opened) (told : Option Files) (text : List script.Block) (old new : Option (List ℕ)) (refused : Bool)
       (why : RunFault) (remains : Option Remains) (log : Remains) → remains ≡ Some log
       → IsLeft disks mid disk' o told text old new refused why remains
-      → IsStopped disks mid disk' o told text log old new refused why
+      → IsRunStopped disks mid disk' o told text log old new refused why
   left_some mid disk' o told text old new refused why remains log is left =
       subst (IsLeft disks mid disk' o told text old new refused why) is left
 

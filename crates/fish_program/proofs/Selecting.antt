@@ -6,22 +6,23 @@ use Rattle.std.proofs.lemmas.List.Elements.{filter_map-append}
 use Rattle.std.proofs.lemmas.Option.{same_Some}
 use Rattle.std.specs.Prelude.{Err, IfOk, IfSome, Ok, Result}
 use Rattle.fish_feed.proofs.Long.{too_long}
-use Rattle.fish_feed.specs.OpenFiles.{GivesPart, IsPartOf, IsRestOf, IsStuck}
-use Rattle.fish_feed.specs.Parts.{longest_read}
+use Rattle.fish_feed.specs.OpenFiles.{GivesPart, IsFilePart, IsRestOf, IsStuck}
+use Rattle.fish_feed.specs.Parts.{longest_csv_read}
 use Rattle.fish_feed.specs.declared.part.OpenFile.{OpenFile}
 use Rattle.fish_feed.specs.declared.part.Part.{Part}
 use Rattle.fish_lang.specs.Definition.{definition_of}
 use Rattle.fish_lanes.specs.declared.work.Work.{Work}
 use Rattle.fish_lanes.specs.declared.work.Work.TheVariants as work
 use Rattle.fish_lines.proofs.CutLemmas.{cut_after_line}
-use Rattle.fish_lines.specs.File.{accepted, outcomes}
+use Rattle.fish_lines.specs.File.{outcomes}
+use Rattle.fish_value.specs.Outcomes.{accepted}
 use Rattle.fish_lines.specs.Resuming.{outcomes_from}
 use Rattle.fish_lines.specs.declared.resuming.Begin.{Begin}
 use Rattle.fish_lines.specs.declared.resuming.Begin.TheVariants.{After, Start}
 use Rattle.fish_outside.specs.Content.{Took}
 use Rattle.fish_program.specs.Answer.{PassesLimits}
 use Rattle.fish_program.specs.within.Selecting.{HasSelected, IsPassed, IsSelected}
-use Rattle.fish_select.specs.Selection.{HasFound, most_records}
+use Rattle.fish_select.specs.Selection.{HasFoundRows, most_records}
 use Rattle.fish_select.specs.declared.found.Found.{Found}
 use Rattle.fish_value.specs.Limits.{longest_file}
 use Rattle.fish_value.specs.declared.field.Form.{Form}
@@ -51,12 +52,12 @@ module _ {F : Type 0} (left : F → Option (List ℕ)) (s : Select) where
       (h : HasSelected left at_first s o found) where
     -- what is asked, and the records of these lines or rows
     abbrev Adds : Begin → List ℕ → Type 0
-    Adds begin bytes = (os : List (Option (List ℕ))) → HasFound (definition_of s.def) s.value s.form os found
-        → HasFound (definition_of s.def) s.value s.form (os ++ outcomes_from s.form begin bytes) more
+    Adds begin bytes = (os : List (Option (List ℕ))) → HasFoundRows (definition_of s.def) s.value s.form os found
+        → HasFoundRows (definition_of s.def) s.value s.form (os ++ outcomes_from s.form begin bytes) more
 
     -- ---- one more part
 
-    module _ (w : Work) (p : IsPartOf left o w u) where
+    module _ (w : Work) (p : IsFilePart left o w u) where
       joins : (l : List ℕ) → h.before ++ (o.rest ++ (p.more ++ l)) ≡ (h.before ++ p.part) ++ (u.rest ++ l)
       joins l = ap (λ (z : List ℕ). h.before ++ z) (sym (append_assoc o.rest p.more l) ∙ ap (λ (z : List ℕ). z ++ l) p.cut
           ∙ append_assoc p.part u.rest l)
@@ -123,12 +124,12 @@ module _ {F : Type 0} (left : F → Option (List ℕ)) (s : Select) where
     module _ (w : Work) (r : IsRestOf left o w u) where
       -- what the file has, where it is still told
       rest_of : (P : List ℕ → Type 0)
-          → ((l : List ℕ) → r.bytes ≡ take longest_read (o.rest ++ l) → P (h.before ++ (o.rest ++ l)))
+          → ((l : List ℕ) → r.bytes ≡ take longest_csv_read (o.rest ++ l) → P (h.before ++ (o.rest ++ l)))
           → IfSome (left u.feed) (λ _. (b : List ℕ) × (at_first ≡ Some b) × P b)
       rest_of P holds = by (left u.feed) r.all
         where
           by : (y : Option (List ℕ))
-              → IfSome y (λ _. (l : List ℕ) × (left o.feed ≡ Some l) × (r.bytes ≡ take longest_read (o.rest ++ l)))
+              → IfSome y (λ _. (l : List ℕ) × (left o.feed ≡ Some l) × (r.bytes ≡ take longest_csv_read (o.rest ++ l)))
               → IfSome y (λ _. (b : List ℕ) × (at_first ≡ Some b) × P b)
           by None all = tt
           by (Some y) all = (
@@ -138,10 +139,11 @@ module _ {F : Type 0} (left : F → Option (List ℕ)) (s : Select) where
           )
 
       -- what is left is short enough, so it is all
-      all_left : (l : List ℕ) → length r.bytes ≤ longest_file → r.bytes ≡ take longest_read (o.rest ++ l) → r.bytes ≡ o.rest ++ l
+      all_left : (l : List ℕ) → length r.bytes ≤ longest_file → r.bytes ≡ take longest_csv_read (o.rest ++ l) → r.bytes ≡ o.rest ++ l
       all_left l short is =
-          let few : length (o.rest ++ l) ≤ longest_read = omega (ap length is, length-take longest_read (o.rest ++ l), short, arith) in
-          is ∙ take_all longest_read (o.rest ++ l) few
+          let few : length (o.rest ++ l) ≤ longest_csv_read = omega
+          (ap length is, length-take longest_csv_read (o.rest ++ l), short, arith) in
+          is ∙ take_all longest_csv_read (o.rest ++ l) few
 
       outcomes_left : (l : List ℕ) → r.bytes ≡ o.rest ++ l
           → outcomes s.form s.header (h.before ++ (o.rest ++ l)) ≡ h.os ++ outcomes_from s.form o.begin r.bytes
@@ -150,8 +152,8 @@ module _ {F : Type 0} (left : F → Option (List ℕ)) (s : Select) where
           ∙ ap (λ (z : List ℕ). h.os ++ outcomes_from s.form o.begin z) (sym is)
 
       pub selected_rest : Adds o.begin r.bytes → length r.bytes ≤ longest_file → IsSelected left at_first s u more
-      selected_rest adds short = rest_of (λ b. HasFound (definition_of s.def) s.value s.form (outcomes s.form s.header b) more)
-          (λ l is. subst (λ (z : List (Option (List ℕ))). HasFound (definition_of s.def) s.value s.form z more)
+      selected_rest adds short = rest_of (λ b. HasFoundRows (definition_of s.def) s.value s.form (outcomes s.form s.header b) more)
+          (λ l is. subst (λ (z : List (Option (List ℕ))). HasFoundRows (definition_of s.def) s.value s.form z more)
           (sym (outcomes_left l (all_left l short is))) (adds h.os h.found_is))
 
       -- with which there are too many records
@@ -171,7 +173,7 @@ module _ {F : Type 0} (left : F → Option (List ℕ)) (s : Select) where
       passed_long long = rest_of (PassesLimits s.form s.header)
           (λ l is. inl (too_long s.form h.before (o.rest ++ l) o.room h.room_is
           (subst (λ (z : Form × List ℕ). IsStuck z.0 o.room z.1) (λ i. (h.form_is i, is i)) (r.stuck long))
-          (omega (ap length is, length-take longest_read (o.rest ++ l), long, arith))).0)
+          (omega (ap length is, length-take longest_csv_read (o.rest ++ l), long, arith))).0)
 
 -- ---- what was read and added
 
@@ -185,8 +187,8 @@ module _ {F : Type 0} (left : F → Option (List ℕ)) (s : Select) (o u : OpenF
     (begin : Begin) (name bytes b : List ℕ) (gives : GivesPart left o p u) (is : p.work ≡ work.Ingest form begin name bytes)
     (same : b ≡ bytes) where
   abbrev WithBytes : List ℕ → Type 0
-  WithBytes z = (os : List (Option (List ℕ))) → HasFound (definition_of s.def) s.value s.form os found
-      → HasFound (definition_of s.def) s.value s.form (os ++ outcomes_from s.form begin z) more
+  WithBytes z = (os : List (Option (List ℕ))) → HasFoundRows (definition_of s.def) s.value s.form os found
+      → HasFoundRows (definition_of s.def) s.value s.form (os ++ outcomes_from s.form begin z) more
 
   begin_of : (z : List ℕ) → p.work ≡ work.Ingest o.form o.begin o.name z → (begin ≡ o.begin) × (b ≡ z)
   begin_of z at =
@@ -203,8 +205,8 @@ module _ {F : Type 0} (left : F → Option (List ℕ)) (s : Select) (o u : OpenF
       let some : length part.part ≡ length part.line.0 + 1 = ap length part.line.1 ∙ length-append part.line.0 (10 ∷ []) in (
         omega (part.room_is, some, arith),
         λ at_first h. selected_part left s at_first o u found more h p.work part
-            (subst (λ (z : Begin × List ℕ). (os : List (Option (List ℕ))) → HasFound (definition_of s.def) s.value s.form os found
-            → HasFound (definition_of s.def) s.value s.form (os ++ outcomes_from s.form z.0 z.1) more) (λ i. (at.0 i, at.1 i)) adds)
+            (subst (λ (z : Begin × List ℕ). (os : List (Option (List ℕ))) → HasFoundRows (definition_of s.def) s.value s.form os found
+            → HasFoundRows (definition_of s.def) s.value s.form (os ++ outcomes_from s.form z.0 z.1) more) (λ i. (at.0 i, at.1 i)) adds)
             (omega (rises, ap length at.1, arith)),
       )
 
@@ -214,8 +216,8 @@ module _ {F : Type 0} (left : F → Option (List ℕ)) (s : Select) (o u : OpenF
       let rest = gives.rest last.0 in
       let at = begin_of rest.bytes rest.is in
       selected_rest left s at_first o u found more h p.work rest
-      (subst (λ (z : Begin × List ℕ). (os : List (Option (List ℕ))) → HasFound (definition_of s.def) s.value s.form os found
-      → HasFound (definition_of s.def) s.value s.form (os ++ outcomes_from s.form z.0 z.1) more) (λ i. (at.0 i, at.1 i)) adds)
+      (subst (λ (z : Begin × List ℕ). (os : List (Option (List ℕ))) → HasFoundRows (definition_of s.def) s.value s.form os found
+      → HasFoundRows (definition_of s.def) s.value s.form (os ++ outcomes_from s.form z.0 z.1) more) (λ i. (at.0 i, at.1 i)) adds)
       (omega (last.1, ap length at.1, arith))
 
   pub then_long : (last : Bool) → p.last ≡ last → ((last ≡ true) × (longest_file < length b))

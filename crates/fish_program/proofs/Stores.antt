@@ -7,7 +7,7 @@ use Rattle.fish_catalog.specs.declared.entry.Entry.{Entry}
 use Rattle.fish_disk.specs.declared.disk.Disk.{Ghosts as Disks}
 use Rattle.fish_flush.proofs.Resting.{rest_stands}
 use Rattle.fish_image.specs.Stands.{Stands}
-use Rattle.fish_recover.specs.Stores.{HasOpened, IsOf, IsOpened, StandsSince}
+use Rattle.fish_recover.specs.Stores.{HasOpened, IsImageAsked, IsOpened, StandsSince}
 use Rattle.fish_recover.specs.declared.opened.Opened.{Opened}
 use Rattle.fish_recover.specs.declared.refusal.Asked.{Asked}
 use Rattle.fish_program.specs.Limits.{first_calls}
@@ -22,7 +22,7 @@ module _ {D : Type 0} (disks : Disks D) (disk mid disk' : D) (asked : Asked) (o 
   module _ (c : Commit) (log : List Entry) (is : IsOpened (disks.content mid) (disks.images mid) c log o)
       (some : IsSome (disks.content disk')) where
     -- it was, and from this moment on a crash leaves nothing else
-    held_from : (image : List ℕ) → disks.content disk ≡ Some image → IsOf asked o.made c log image → (from : ℕ)
+    held_from : (image : List ℕ) → disks.content disk ≡ Some image → IsImageAsked asked o.made c log image → (from : ℕ)
         → from ≤ disks.moment disk + first_calls o.made → from ≤ disks.moment mid → ((i : List ℕ) → disks.since mid from i → Stands c i log)
         → Held disks disk mid disk' asked o c log
     held_from image read was from early within stands = record {
@@ -42,18 +42,18 @@ module _ {D : Type 0} (disks : Disks D) (disk mid disk' : D) (asked : Asked) (o 
     -- where it was made, from the end of the opening on
     held_made : ((i : List ℕ) → disks.since mid (disks.moment mid) i → disks.images mid i) → (image : List ℕ)
         → disks.content disk ≡ Some image
-        → IsOf asked true c log image → o.made ≡ true → (disks.content disk ≡ Some [] → disks.moment mid ≤ disks.moment disk + 8)
+        → IsImageAsked asked true c log image → o.made ≡ true → (disks.content disk ≡ Some [] → disks.moment mid ≤ disks.moment disk + 8)
         → Held disks disk mid disk' asked o c log
     held_made only image read was made calls =
         let empty : disks.content disk ≡ Some [] = subst (λ (i : List ℕ). disks.content disk ≡ Some i) was.0 read in
-        held_from image read (subst (λ (m : Bool). IsOf asked m c log image) (sym made) was) (disks.moment mid)
+        held_from image read (subst (λ (m : Bool). IsImageAsked asked m c log image) (sym made) was) (disks.moment mid)
         (subst (λ (m : Bool). disks.moment mid ≤ disks.moment disk + first_calls m) (sym made) (calls empty)) (omega arith)
         (stands_last only)
 
     -- where it was there, from the first call on, or from the end of the opening on if there was none
     held_old : ((i : List ℕ) → disks.since mid (disks.moment mid) i → disks.images mid i) → (image : List ℕ)
         → disks.content disk ≡ Some image
-        → IsOf asked false c log image → o.made ≡ false → StandsSince disks.since disks.moment disk mid c log
+        → IsImageAsked asked false c log image → o.made ≡ false → StandsSince disks.since disks.moment disk mid c log
         → Held disks disk mid disk' asked o c log
     held_old only image read was made since_then = elim (cases_lt (disks.moment mid) since_then.from) [
       | inl over ↦ at (disks.moment mid) (let e = since_then.early in omega arith) (omega arith) (stands_last only)
@@ -63,12 +63,12 @@ module _ {D : Type 0} (disks : Disks D) (disk mid disk' : D) (asked : Asked) (o 
         at : (from : ℕ) → from ≤ disks.moment disk + 1 → from ≤ disks.moment mid → ((i : List ℕ) → disks.since mid from i → Stands c i log)
             → Held disks disk mid disk' asked o c log
         at from early within stands =
-            held_from image read (subst (λ (m : Bool). IsOf asked m c log image) (sym made) was) from
+            held_from image read (subst (λ (m : Bool). IsImageAsked asked m c log image) (sym made) was) from
             (subst (λ (m : Bool). from ≤ disks.moment disk + first_calls m) (sym made) early) within stands
 
     -- so it is in both cases
     held_both : ((i : List ℕ) → disks.since mid (disks.moment mid) i → disks.images mid i) → (m : Bool) → o.made ≡ m
-        → (image : List ℕ) → disks.content disk ≡ Some image → IsOf asked m c log image
+        → (image : List ℕ) → disks.content disk ≡ Some image → IsImageAsked asked m c log image
         → (disks.content disk ≡ Some [] → disks.moment mid ≤ disks.moment disk + 8)
         → ((i : List ℕ) (d : Commit) (l : List Entry) → disks.content disk ≡ Some i → Stands d i l
         → StandsSince disks.since disks.moment disk mid d l)
@@ -90,7 +90,8 @@ module _ {D : Type 0} (disks : Disks D) (disk mid disk' : D) (asked : Asked) (o 
     log = has.log;
     is = has.opened;
     held = λ some.
-        let was = told_is (disks.content mid) ((i : List ℕ) × (disks.content disk ≡ Some i) × IsOf asked o.made has.commit has.log i)
+        let was = told_is (disks.content mid)
+        ((i : List ℕ) × (disks.content disk ≡ Some i) × IsImageAsked asked o.made has.commit has.log i)
         (before some) has.was in
         held_both has.commit has.log has.opened some only o.made refl was.0 was.1 was.2
         (told_is (disks.content mid) (disks.content disk ≡ Some [] → disks.moment mid ≤ disks.moment disk + 8) (before some) calls) stood;

@@ -2,7 +2,8 @@
 use Rattle.std.specs.Prelude.{◌≡◌, ◌<◌, ◌⊎◌, ℕ, List, [], ◌∷◌, length, Bool, Some}
 use Rattle.fish_feed.specs.Parts.{IsTooLong}
 use Rattle.fish_lang.specs.Definition.{Definition}
-use Rattle.fish_lines.specs.File.{accepted, outcomes}
+use Rattle.fish_lines.specs.File.{outcomes}
+use Rattle.fish_value.specs.Outcomes.{accepted}
 use Rattle.fish_outside.specs.Content.{Files}
 use Rattle.fish_report.specs.declared.item.Item.{Item}
 use Rattle.fish_report.specs.declared.item.Item.TheVariants as item
@@ -21,6 +22,6 @@ Answers def v form header file b x =
     ⊎ ((x ≡ item.SelectTooLong file) × PassesLimits form header b)
 
 -- the one item answers for the bytes of the file with this name
-abbrev pub IsAnswer : (List ℕ → Item → Type 0) → List ℕ → Files → List Item → Type 0
-IsAnswer answers file files items =
+abbrev pub IsFileAnswer : (List ℕ → Item → Type 0) → List ℕ → Files → List Item → Type 0
+IsFileAnswer answers file files items =
     (b : List ℕ) × (x : Item) × (files file ≡ Some b) × (items ≡ x ∷ []) × answers b x

@@ -67,9 +67,9 @@ open_fault opening.DiskFault = fault.Disk
 open_fault opening.OutOfMemory = fault.Memory
 
 -- what a refusal of a file ends a run by
-abbrev pub feed_fault : FeedRefusal → Fault
-feed_fault feed.Failed = fault.Input
-feed_fault feed.OutOfMemory = fault.Memory
+abbrev pub fault_of_feed : FeedRefusal → Fault
+fault_of_feed feed.Failed = fault.Input
+fault_of_feed feed.OutOfMemory = fault.Memory
 
 -- what a fault of a script's run ends the whole by
 abbrev pub run_fault : RunFault → Fault

@@ -4,12 +4,12 @@ use Rattle.fish_catalog.specs.declared.commit.Commit.{Commit}
 use Rattle.fish_catalog.specs.declared.entry.Entry.{Entry}
 use Rattle.fish_disk.specs.declared.disk.Disk.{Ghosts as Disks}
 use Rattle.fish_outside.specs.Content.{Files}
-use Rattle.fish_recover.specs.Stores.{IsOf}
+use Rattle.fish_recover.specs.Stores.{IsImageAsked}
 use Rattle.fish_recover.specs.declared.refusal.Asked.{Asked}
 use Rattle.fish_report.specs.declared.item.Item.{Item}
 use Rattle.fish_rule.specs.declared.close.Remains.{Remains}
 use Rattle.fish_run.specs.Blocks.{Round, rounds_of}
-use Rattle.fish_run.specs.Ran.{IsStopped, Keeps, opened_item}
+use Rattle.fish_run.specs.Ran.{IsRunStopped, Keeps, opened_item}
 use Rattle.fish_run.specs.Reports.{first_item}
 use Rattle.fish_run.specs.declared.fault.RunFault.{RunFault}
 use Rattle.fish_script.specs.declared.script.Block as script
@@ -26,7 +26,7 @@ pub record KeepsHeld {D : Type 0} (disks : Disks D) (disk disk' : D) (asked : As
   pub made : Bool
   pub commit : Commit
   pub log : List Entry
-  pub was : IsOf asked made commit log image
+  pub was : IsImageAsked asked made commit log image
   pub first_is : first ≡ first_item made commit.count
   pub from : ℕ
   pub early : from ≤ disks.moment disk + first_calls made
@@ -50,6 +50,6 @@ module _ {D : Type 0} (disks : Disks D) where
       (old new : Option (List ℕ)) (why : RunFault) (o : Outcome)
       (r : IsStoppedRun disks disk disk' asked told text old new why o) (log : Remains)
       → o.remains ≡ Some log → IsSome (disks.content disk')
-      → (s : IsStopped disks r.mid disk' r.opened told text log old new o.refused why)
+      → (s : IsRunStopped disks r.mid disk' r.opened told text log old new o.refused why)
       × KeepsHeld disks disk disk' asked (opened_item r.opened) s.ended
       (rounds_of s.blocks ++ s.part) s.cut log

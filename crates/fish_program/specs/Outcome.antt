@@ -11,8 +11,8 @@ use Rattle.fish_recover.specs.declared.refusal.OpenRefusal.TheVariants as openin
 use Rattle.fish_run.specs.declared.fault.RunFault.TheVariants as ran
 use Rattle.fish_script.specs.declared.script.Block.{Block}
 use Rattle.fish_command.specs.Command as command
-use Rattle.fish_program.specs.Answer.{Answers, IsAnswer}
-use Rattle.fish_program.specs.Runs.{HasScript, IsDamagedRun, IsStoppedRun, IsUnread, IsWholeRun}
+use Rattle.fish_program.specs.Answer.{Answers, IsFileAnswer}
+use Rattle.fish_program.specs.Runs.{HasScript, IsDamagedRun, IsStoppedRun, IsScriptUnread, IsWholeRun}
 use Rattle.fish_program.specs.Sample.{EndsSample}
 use Rattle.fish_program.specs.Stores.{IsUnopened, shape_asked}
 use Rattle.fish_program.specs.declared.fault.Fault.{Fault}
@@ -52,7 +52,7 @@ pub record DidNothing (old new : Option (List ℕ)) (o : Outcome) : Type 0 where
 -- the report was made: where the files are still told it answers, and it has a refusal where its item is one
 pub record HasAnswer (answers : List ℕ → Item → Type 0) (file : List ℕ) (told : Option Files) (o : Outcome)
     : Type 0 where
-  pub is : IfSome told (λ files. IsAnswer answers file files o.report.items)
+  pub is : IfSome told (λ files. IsFileAnswer answers file files o.report.items)
   pub refused : o.refused ≡ list_any is_refusal o.report.items
   pub remains : o.remains ≡ None
 
@@ -100,7 +100,7 @@ EndsScript disks disk disk' asked told script old new o (fault.Usage cause) = �
 abbrev pub EndsRun : {D : Type 0} → Disks D → D → D → Asked → List ℕ → Option Files → Option (List ℕ) → Option (List ℕ)
     → Outcome → Type 0
 EndsRun disks disk disk' asked file told old new o =
-    (IsUnread file told o.fault × (disk' ≡ disk) × DidNothing old new o)
+    (IsScriptUnread file told o.fault × (disk' ≡ disk) × DidNothing old new o)
     ⊎ ((script : List Block) × HasScript file told script
     × EndsScript disks disk disk' asked told script old new o o.fault)
 
@@ -127,9 +127,9 @@ IsNoCommand line fault.Input = ⊥
 IsNoCommand line fault.Output = ⊥
 
 -- a run ends as the command does that the words are, or nothing was done, and the disk wasn't touched
-abbrev pub IsEnd : {D : Type 0} → Disks D → D → D → List (List ℕ) → Option Files → Option (List ℕ) → Option (List ℕ)
-    → Outcome → Type 0
-IsEnd disks disk disk' line told old new o =
+abbrev pub IsProgramEnd : {D : Type 0} → Disks D → D → D → List (List ℕ) → Option Files → Option (List ℕ)
+    → Option (List ℕ) → Outcome → Type 0
+IsProgramEnd disks disk disk' line told old new o =
     ((asked : command.Asked) × command.IsCommand line (Ok asked)
     × Ends disks disk disk' asked told old new o)
     ⊎ (IsNoCommand line o.fault × (disk' ≡ disk) × DidNothing old new o)

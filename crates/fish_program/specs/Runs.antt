@@ -5,7 +5,7 @@ use Rattle.fish_outside.specs.Content.{Files}
 use Rattle.fish_recover.specs.declared.opened.Opened.{Opened}
 use Rattle.fish_recover.specs.declared.refusal.Asked.{Asked}
 use Rattle.fish_rule.specs.declared.close.Remains.{Remains}
-use Rattle.fish_run.specs.Ran.{IsLost, IsStopped, IsWhole}
+use Rattle.fish_run.specs.Ran.{IsRunLost, IsRunStopped, IsRunWhole}
 use Rattle.fish_outside.specs.Reading.{ReadsFile}
 use Rattle.fish_run.specs.declared.fault.RunFault.{RunFault}
 use Rattle.fish_run.specs.declared.fault.RunFault.TheVariants as ran
@@ -35,15 +35,15 @@ pub record RefusesScript (file : List ℕ) (told : Option Files) (refusal : Scri
   pub named : refusal ≢ OutOfMemory
 
 -- so a run may end that read none
-abbrev pub IsUnread : List ℕ → Option Files → Fault → Type 0
-IsUnread file told (fault.Script refusal) = RefusesScript file told refusal
-IsUnread file told fault.Input = ⊤
-IsUnread file told fault.Memory = ⊤
-IsUnread file told fault.None = ⊥
-IsUnread file told fault.Output = ⊥
-IsUnread file told fault.Disk = ⊥
-IsUnread file told (fault.Store refusal) = ⊥
-IsUnread file told (fault.Usage cause) = ⊥
+abbrev pub IsScriptUnread : List ℕ → Option Files → Fault → Type 0
+IsScriptUnread file told (fault.Script refusal) = RefusesScript file told refusal
+IsScriptUnread file told fault.Input = ⊤
+IsScriptUnread file told fault.Memory = ⊤
+IsScriptUnread file told fault.None = ⊥
+IsScriptUnread file told fault.Output = ⊥
+IsScriptUnread file told fault.Disk = ⊥
+IsScriptUnread file told (fault.Store refusal) = ⊥
+IsScriptUnread file told (fault.Usage cause) = ⊥
 
 -- ---- its run
 
@@ -56,15 +56,15 @@ pub record IsWholeRun {D : Type 0} (disks : Disks D) (disk disk' : D) (asked : A
   pub report : o.report.items ≡ []
   pub log : Remains
   pub remains : o.remains ≡ Some log
-  pub whole : IsWhole disks mid disk' opened told script log old new o.refused
+  pub whole : IsRunWhole disks mid disk' opened told script log old new o.refused
 
 -- a log is left of a run that this fault stopped, or was lost since memory ran out
 abbrev pub IsLeft : {D : Type 0} → Disks D → D → D → Opened → Option Files → List Block → Option (List ℕ)
     → Option (List ℕ) → Bool → RunFault → Option Remains → Type 0
 IsLeft disks mid disk' o told script old new refused why (Some log) =
-    IsStopped disks mid disk' o told script log old new refused why
+    IsRunStopped disks mid disk' o told script log old new refused why
 IsLeft disks mid disk' o told script old new refused why None =
-    (why ≡ ran.Memory) × IsLost disks mid disk' o told script old new refused
+    (why ≡ ran.Memory) × IsRunLost disks mid disk' o told script old new refused
 
 -- the store was opened, and this fault stopped the script's run
 pub record IsStoppedRun {D : Type 0} (disks : Disks D) (disk disk' : D) (asked : Asked) (told : Option Files)

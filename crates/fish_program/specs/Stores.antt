@@ -7,7 +7,7 @@ use Rattle.fish_disk.specs.Crash.{LeavesOnly}
 use Rattle.fish_disk.specs.declared.disk.Disk.{Ghosts as Disks}
 use Rattle.fish_image.specs.Stands.{Stands}
 use Rattle.fish_recover.specs.Opening.{IsOfStore}
-use Rattle.fish_recover.specs.Stores.{IsOf, IsOpened, IsStoreCause}
+use Rattle.fish_recover.specs.Stores.{IsImageAsked, IsOpened, IsStoreCause}
 use Rattle.fish_recover.specs.declared.opened.Opened.{Opened}
 use Rattle.fish_recover.specs.declared.refusal.Asked.{Asked}
 use Rattle.fish_recover.specs.declared.refusal.OpenRefusal.{OpenRefusal}
@@ -25,7 +25,7 @@ pub record Held {D : Type 0} (disks : Disks D) (disk mid disk' : D) (asked : Ask
     (log : List Entry) : Type 0 where
   pub image : List ℕ
   pub read : disks.content disk ≡ Some image
-  pub was : IsOf asked o.made c log image
+  pub was : IsImageAsked asked o.made c log image
   pub from : ℕ
   pub early : from ≤ disks.moment disk + first_calls o.made
   pub stood : StoodFor disks mid disk' o c log from

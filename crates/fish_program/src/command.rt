@@ -4,7 +4,7 @@ ghost use Rattle.std.specs.Prelude.{◌≡◌};
 ghost use Rattle.fish_outside.specs.Causes.{Rose};
 ghost use Rattle.fish_outside.specs.Content.{SameFiles};
 ghost use Rattle.fish_command.specs.Command.{asked_of};
-ghost use Rattle.fish_program.specs.Outcome.{Ends, IsEnd, IsUsage, status_of};
+ghost use Rattle.fish_program.specs.Outcome.{Ends, IsProgramEnd, IsUsage, status_of};
 
 use crate::fault::Fault;
 use crate::outcome::Outcome;
@@ -37,8 +37,8 @@ where
     H::Feed: Drop,
     ensures status { result.status ≡ status_of result.fault result.refused }
     ensures usage { IsUsage words.now result.fault }
-    ensures ended { IsEnd D.Disk disk.old disk.new words.now (H.files host.new) (W.written out.old) (W.written out.new)
-        result }
+    ensures ended { IsProgramEnd D.Disk disk.old disk.new words.now (H.files host.new) (W.written out.old)
+        (W.written out.new) result }
     ensures content { SameFiles (H.files host.old) (H.files host.new) }
     ensures input { result.fault ≡ Fault.Input → Rose (H.faults host.old) (H.faults host.new) }
     ensures output { result.fault ≡ Fault.Output → Rose (W.faults out.old) (W.faults out.new) }
@@ -61,8 +61,8 @@ where
     H::Feed: Drop,
     ensures status { result.status ≡ status_of result.fault result.refused }
     ensures usage { IsUsage words.now result.fault }
-    ensures ended { IsEnd D.Disk disk.old disk.new words.now (H.files host.new) (W.written out.old) (W.written out.new)
-        result }
+    ensures ended { IsProgramEnd D.Disk disk.old disk.new words.now (H.files host.new) (W.written out.old)
+        (W.written out.new) result }
     ensures content { SameFiles (H.files host.old) (H.files host.new) }
     ensures input { result.fault ≡ Fault.Input → Rose (H.faults host.old) (H.faults host.new) }
     ensures output { result.fault ≡ Fault.Output → Rose (W.faults out.old) (W.faults out.new) }

@@ -114,9 +114,9 @@ impl From<RunFault> for Fault {
 
 impl From<FeedRefusal> for Fault {
     ghost use Rattle.std.specs.Prelude.{◌≡◌};
-    ghost use Rattle.fish_program.specs.Faults.{feed_fault};
+    ghost use Rattle.fish_program.specs.Faults.{fault_of_feed};
 
-    ghost from_gives = { λ refusal made. made ≡ feed_fault refusal };
+    ghost from_gives = { λ refusal made. made ≡ fault_of_feed refusal };
 
     fn from(refusal: FeedRefusal) -> Fault {
         match refusal {

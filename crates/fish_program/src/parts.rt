@@ -2,9 +2,9 @@
 
 ghost use Rattle.std.specs.Prelude.{◌≡◌, ◌≢◌, ◌<◌, ◌≤◌, ◌+◌, ◌^◌, ◌++◌, ◌⊎◌, ℕ, List, Option, Some, false, true};
 ghost use Rattle.std.specs.Prelude.{length, IfErr, IfOk, IfSome, IsSome, OnOk};
-ghost use Rattle.fish_feed.specs.OpenFiles.{CanRead, IsUnread};
+ghost use Rattle.fish_feed.specs.OpenFiles.{CanRead, IsFileUnread};
 ghost use Rattle.fish_lang.specs.Definition.{definition_of};
-ghost use Rattle.fish_lines.specs.File.{accepted};
+ghost use Rattle.fish_value.specs.Outcomes.{accepted};
 ghost use Rattle.fish_lines.specs.Resuming.{outcomes_from};
 ghost use Rattle.fish_lines.specs.declared.resuming.Begin.TheVariants.{Start};
 ghost use Rattle.fish_outside.specs.Content.{SameFiles};
@@ -13,7 +13,7 @@ ghost use Rattle.fish_program.specs.within.Faults.{IsStepFault};
 ghost use Rattle.fish_program.specs.declared.fault.Fault.TheVariants as fault;
 ghost use Rattle.fish_program.specs.declared.parts.Next.TheVariants as next;
 ghost use Rattle.fish_program.specs.within.Selecting.{HasSelected, IsPassed, IsSelected, OfFile};
-ghost use Rattle.fish_select.specs.Selection.{HasFound, most_records};
+ghost use Rattle.fish_select.specs.Selection.{HasFoundRows, most_records};
 ghost use Rattle.fish_value.specs.Limits.{longest_file};
 ghost use Rattle.fish_value.specs.declared.field.Form.TheVariants.{Json};
 
@@ -75,7 +75,7 @@ fn select_open<F: Source + Drop>(
     command: &Select,
     file: &mut OpenFile<F>,
 ) -> Result<Item, Fault>
-    requires unread { IsUnread command.now.form (Start command.now.header) command.now.file file.old.feed file.old }
+    requires unread { IsFileUnread command.now.form (Start command.now.header) command.now.file file.old.feed file.old }
     requires can { CanRead F.faults file.old }
     ensures answer { IfOk result (λ item. OfFile F.left (F.left file.old.feed) file.new
         (λ b. AnswersTo command.now b item)) }
@@ -154,8 +154,8 @@ fn add_bytes(
     requires part { last ≡ false → command.now.form ≡ Json }
     requires room { found.old.count + found.old.refused + length bytes.now < 2 ^ 63 }
     ensures found { IfOk result (λ n. n ≢ next.TooLong → (os : List (Option (List ℕ)))
-        → HasFound (definition_of command.now.def) command.now.value command.now.form os found.old
-        → HasFound (definition_of command.now.def) command.now.value command.now.form
+        → HasFoundRows (definition_of command.now.def) command.now.value command.now.form os found.old
+        → HasFoundRows (definition_of command.now.def) command.now.value command.now.form
         (os ++ outcomes_from command.now.form begin bytes.now) found.new) }
     ensures rises { IfOk result (λ n. n ≢ next.TooLong
         → found.new.count + found.new.refused ≤ found.old.count + found.old.refused + length bytes.now) }

@@ -5,7 +5,7 @@ ghost use Rattle.std.specs.List.{list_any};
 ghost use Rattle.fish_outside.specs.Causes.{Rose};
 ghost use Rattle.fish_outside.specs.Content.{SameFiles};
 ghost use Rattle.fish_report.specs.ReportText.{is_refusal, report_text};
-ghost use Rattle.fish_program.specs.Answer.{IsAnswer};
+ghost use Rattle.fish_program.specs.Answer.{IsFileAnswer};
 ghost use Rattle.fish_program.specs.within.Answer.{AnswersTo};
 ghost use Rattle.fish_program.specs.within.Faults.{IsStepFault};
 ghost use Rattle.fish_program.specs.Outcome.{EndsSelect, status_of};
@@ -75,7 +75,7 @@ fn prepare<H: Host>(alloc: Global, command: &Select, host: &mut H) -> Result<Pre
 where
     H::Feed: Drop,
     ensures answer { IfOk result (λ prepared. IfSome (H.files host.new)
-        (λ files. IsAnswer (AnswersTo command.now) command.now.file files prepared.report.items)) }
+        (λ files. IsFileAnswer (AnswersTo command.now) command.now.file files prepared.report.items)) }
     ensures text { IfOk result (λ prepared. prepared.text ≡ report_text prepared.report.items) }
     ensures content { SameFiles (H.files host.old) (H.files host.new) }
     ensures refused { IfErr result (IsStepFault (H.faults host.old) (H.faults host.new)) }

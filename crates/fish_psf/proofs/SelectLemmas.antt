@@ -10,7 +10,7 @@ use Rattle.fish_value.proofs.SameLemmas.{same_value-Decides}
 use Rattle.fish_value.specs.Same.{same_value}
 use Rattle.fish_value.specs.declared.row.Row.{Row}
 use Rattle.fish_value.specs.declared.value.Value.{Value}
-use Rattle.fish_psf.specs.Select.{Entry, stored, void, unfinished, Evaluation, has_value, is_open, row_if, row_of, select}
+use Rattle.fish_psf.specs.Select.{Entry, stored, void, unfinished, Evaluation, has_value, is_open, row_if, selected_row, select}
 use Rattle.fish_psf.specs.SelectLaw.{IsMatch, FallsBelow, SelectsMatches}
 use Rattle.fish_psf.proofs.HasLemmas.{Has, Has-from_Contains, Contains-from_Has, Has-reverse, reverse-Has, Made-from_Has, Has-from_Made}
 
@@ -105,26 +105,26 @@ row_if-at : (eval : Evaluation) (v : Value) (n lane : ℕ) (form : _) (payload :
 row_if-at eval v n lane form payload h = rw (has_value-has (eval form payload) v (Has-from_Contains _ v h)) refl
 
 module _ (eval : Evaluation) (v : Value) (from to : ℕ) (opens : List ℕ) where
-  row_of-some : (n : ℕ) (e : Entry) (row : Row) → row_of eval v from to opens (n, e) ≡ Some row
+  selected_row-some : (n : ℕ) (e : Entry) (row : Row) → selected_row eval v from to opens (n, e) ≡ Some row
       → (row.number ≡ n) × (from ≤ n) × (n < to) × (¬ Contains opens n) × IsSelected e eval v row.payload
-  row_of-some n e row h =
+  selected_row-some n e row h =
       let c = chosen (nat_le from n && nat_lt n to && not (is_open opens n)) (row_if eval v n e) row h in
       let t = both (nat_le from n && nat_lt n to) (not (is_open opens n)) c.0 in
       let r = both (nat_le from n) (nat_lt n to) t.0 in
       let s = row_if-some eval v n e row c.1 in
       (s.0, grind (arith, nat_tests, r.0), grind (arith, nat_tests, r.1), closed_when opens n t.1, s.1)
 
-  row_of-at : (row : Row) (e : Entry) → from ≤ row.number → row.number < to → ¬ Contains opens row.number
-      → IsSelected e eval v row.payload → row_of eval v from to opens (row.number, e) ≡ Some row
-  row_of-at row e above below closed (lane, form, is, gives) =
+  selected_row-at : (row : Row) (e : Entry) → from ≤ row.number → row.number < to → ¬ Contains opens row.number
+      → IsSelected e eval v row.payload → selected_row eval v from to opens (row.number, e) ≡ Some row
+  selected_row-at row e above below closed (lane, form, is, gives) =
       let a : nat_le from row.number ≡ true = grind (arith, nat_tests) in
       let b : nat_lt row.number to ≡ true = grind (arith, nat_tests) in
       rw (a, b, not_open opens row.number closed, is) (row_if-at eval v row.number lane form row.payload gives)
 
   -- ---- the numbers
 
-  numbers : (n : ℕ) (e : Entry) (row : Row) → row_of eval v from to opens (n, e) ≡ Some row → row.number ≡ n
-  numbers n e row h = (row_of-some n e row h).0
+  numbers : (n : ℕ) (e : Entry) (row : Row) → selected_row eval v from to opens (n, e) ≡ Some row → row.number ≡ n
+  numbers n e row h = (selected_row-some n e row h).0
 
 -- the numbers rise strictly from row to row, and lie from low on and below end
 abbrev Rises : ℕ → ℕ → List Row → Type 0
@@ -175,28 +175,28 @@ module _ (log : List Entry) (eval : Evaluation) (v : Value) (from to : ℕ) (ope
   is_match : (row : Row) → Contains (select log eval v from to opens) row → IsMatch log eval v from to opens row
   unfolding select
   is_match row c =
-      let h = row_of eval v from to opens in
+      let h = selected_row eval v from to opens in
       let made = Made-from_Has h 0 log row
       (Has-reverse (filter_map h (enumerate_from 0 log)) row (Has-from_Contains _ row c)) in
       let here : 0 + made.0 ≡ made.0 = omega arith in
-      let parts = row_of-some eval v from to opens made.0 made.1 row (rw here at made.3) in
+      let parts = selected_row-some eval v from to opens made.0 made.1 row (rw here at made.3) in
       match_made row made.0 made.1 made.2 parts.0 parts.1 parts.2 parts.3 parts.4
 
   in_selection : (row : Row) → IsMatch log eval v from to opens row → Contains (select log eval v from to opens) row
   unfolding select
   in_selection row m =
-      let h = row_of eval v from to opens in
+      let h = selected_row eval v from to opens in
       let s = m.selected in
       let here : 0 + row.number ≡ row.number = omega arith in
       let e = stored s.0 s.1 row.payload in
-      let gives = row_of-at eval v from to opens row e m.above m.below m.closed (s.0, s.1, refl, s.3) in
+      let gives = selected_row-at eval v from to opens row e m.above m.below m.closed (s.0, s.1, refl, s.3) in
       Contains-from_Has _ row (reverse-Has (filter_map h (enumerate_from 0 log)) row
       (Has-from_Made h 0 log row (row.number, e, s.2, rw here gives)))
 
   falls : FallsBelow (length log) (select log eval v from to opens)
   unfolding select
   falls =
-      let h = row_of eval v from to opens in
+      let h = selected_row eval v from to opens in
       FallsBelow-reverse_aux 0 (length log) (filter_map h (enumerate_from 0 log)) []
       (Rises-filter_map h (numbers eval v from to opens) 0 (length log) log (omega arith)) tt
 

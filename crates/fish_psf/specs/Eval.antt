@@ -109,13 +109,13 @@ bucket width n =
     if not (int_lt width (pos 1)) && fits_i64 (floor_multiple width n) then Some (floor_multiple width n) else None
 
 -- a whole number at the path rounded down, and nothing else
-abbrev pub bucket_of : ℤ → Field → Option Value
-bucket_of width (field.Int n) = option_map value.Int (bucket width n)
-bucket_of width field.Missing = None
-bucket_of width field.Null = None
-bucket_of width (field.Bool b) = None
-bucket_of width (field.Text s) = None
-bucket_of width field.Other = None
+abbrev pub bucketed : ℤ → Field → Option Value
+bucketed width (field.Int n) = option_map value.Int (bucket width n)
+bucketed width field.Missing = None
+bucketed width field.Null = None
+bucketed width (field.Bool b) = None
+bucketed width (field.Text s) = None
+bucketed width field.Other = None
 
 -- the most values that a definition gives for a record
 abbrev pub most_values : ℕ
@@ -136,5 +136,5 @@ unfoldable pub values : Definition → Fields → List Value
 values (takes path when) fields = if holds_when when fields then option_to_list (value_of (fields.at path)) else []
 values (eaches path when) fields = if holds_when when fields then first_values (fields.items path) else []
 values (buckets path width when) fields =
-    if holds_when when fields then option_to_list (bucket_of width (fields.at path)) else []
+    if holds_when when fields then option_to_list (bucketed width (fields.at path)) else []
 values (flags when) fields = if holds when fields then value.Bool true ∷ [] else []

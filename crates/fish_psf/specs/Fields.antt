@@ -14,6 +14,6 @@ fields_of (Json line) = object_fields (contents line)
 fields_of (Csv row) = column_fields (fields_in row)
 
 -- its form
-abbrev pub form_of : Record → Form
-form_of (Json line) = form.Json
-form_of (Csv row) = form.Csv
+abbrev pub form_of_record : Record → Form
+form_of_record (Json line) = form.Json
+form_of_record (Csv row) = form.Csv

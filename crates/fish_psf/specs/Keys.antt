@@ -16,5 +16,5 @@ abbrev pub keys_under : Fields → ActiveDef → List KeyValue
 keys_under fields active = map (value_under active.id) (values (definition_of active.def) fields)
 
 -- one entry for each value of each definition, in the order of the definitions
-unfoldable pub keys_of : Fields → List ActiveDef → List KeyValue
-keys_of fields defs = flat_map (keys_under fields) defs
+unfoldable pub keys_for : Fields → List ActiveDef → List KeyValue
+keys_for fields defs = flat_map (keys_under fields) defs

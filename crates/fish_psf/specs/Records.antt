@@ -4,9 +4,9 @@ use Rattle.fish_value.specs.declared.field.Form.{Form}
 use Rattle.fish_value.specs.declared.field.Form.TheVariants.{Json, Csv}
 use Rattle.fish_value.specs.declared.value.Value.{Value}
 use Rattle.serde_json.specs.Data.{Data}
-use Rattle.fish_json.specs.Reading.{record_of, field as json_field, field_in as json_field_in, items as json_items}
+use Rattle.fish_json.specs.Reading.{record_of, json_field, json_field_in, items as json_items}
 use Rattle.fish_json.specs.Reading.{items_in as json_items_in}
-use Rattle.fish_csv.specs.Reading.{row_of, field as csv_field, field_in as csv_field_in}
+use Rattle.fish_csv.specs.Reading.{row_of, csv_field, csv_field_in}
 use Rattle.fish_lang.specs.Definition.{Definition}
 use Rattle.fish_psf.specs.Eval.{Fields, values}
 use Rattle.fish_psf.specs.Select.{Evaluation}
@@ -34,5 +34,5 @@ abbrev pub evaluation : Definition → Evaluation
 evaluation def form payload = values def (fields_of_payload form payload)
 
 -- this value is among those that a definition gives for a payload of a form
-abbrev pub Gives : Definition → Form → List ℕ → Value → Type 0
-Gives def form payload v = Contains (evaluation def form payload) v
+abbrev pub GivesValue : Definition → Form → List ℕ → Value → Type 0
+GivesValue def form payload v = Contains (evaluation def form payload) v

@@ -33,10 +33,10 @@ row_if eval v n void = None
 row_if eval v n unfinished = None
 
 -- the row of a number and its entry, where the number is in the range and not open
-abbrev pub row_of : Evaluation → Value → ℕ → ℕ → List ℕ → ℕ × Entry → Option Row
-row_of eval v from to opens e =
+abbrev pub selected_row : Evaluation → Value → ℕ → ℕ → List ℕ → ℕ × Entry → Option Row
+selected_row eval v from to opens e =
     if nat_le from e.0 && nat_lt e.0 to && not (is_open opens e.0) then row_if eval v e.0 e.1 else None
 
 -- the rows of the log, newest first, whose numbers are in the range and not open and whose records have the value
 unfoldable pub select : List Entry → Evaluation → Value → ℕ → ℕ → List ℕ → List Row
-select log eval v from to opens = reverse (filter_map (row_of eval v from to opens) (enumerate_from 0 log))
+select log eval v from to opens = reverse (filter_map (selected_row eval v from to opens) (enumerate_from 0 log))

@@ -1,7 +1,7 @@
 //! All values of a record under the active definitions.
 
 ghost use Rattle.std.specs.Prelude.{◌≡◌, ◌++◌, IfOk, OnOk};
-ghost use Rattle.fish_psf.specs.Keys.{keys_of, keys_under};
+ghost use Rattle.fish_psf.specs.Keys.{keys_for, keys_under};
 
 use crate::key::{ActiveDef, KeyValue, Keys};
 use crate::parsed::Parsed;
@@ -9,9 +9,9 @@ use crate::value::values;
 use std::alloc::{AllocError, Global};
 
 /// The values that definitions give for a record, each under its definition's id: an entry for each value.
-#[tactic(auto, unfolding(crate::specs::Keys::keys_of))]
+#[tactic(auto, unfolding(crate::specs::Keys::keys_for))]
 pub fn keys<R: Parsed>(alloc: Global, defs: &[ActiveDef], rec: &R) -> Result<Keys, AllocError>
-    ensures { IfOk result (λ keys. keys ≡ keys_of (R.fields rec.now) defs.now) }
+    ensures { IfOk result (λ keys. keys ≡ keys_for (R.fields rec.now) defs.now) }
 {
     let mut keys = Keys::new(alloc);
     for active in defs {

@@ -1,7 +1,7 @@
 //! A payload of either form, read as a record.
 
 ghost use Rattle.std.specs.Prelude.{◌≡◌, ◌+◌};
-ghost use Rattle.fish_psf.specs.Fields.{fields_of, form_of};
+ghost use Rattle.fish_psf.specs.Fields.{fields_of, form_of_record};
 ghost use Rattle.fish_psf.specs.Parsing.{IsParsed};
 
 use crate::record::Record;
@@ -31,7 +31,7 @@ pub fn parse<P: Ledger>(
     b: &[u8],
     parses: &mut Steps<P>,
 ) -> Result<Record, PsfRefusal>
-    ensures parsed { IsParsed form_of fields_of form b.now result }
+    ensures parsed { IsParsed form_of_record fields_of form b.now result }
     ensures counted { parses.new ≡ parses.old + 1 }
 {
     parses.tick();
@@ -44,7 +44,7 @@ pub fn parse<P: Ledger>(
 /// The same of a line in JSON.
 #[tactic(auto, using(crate::proofs::RecordLemmas::json_records))]
 fn json_record(alloc: Global, b: &[u8]) -> Result<Record, PsfRefusal>
-    ensures { IsParsed form_of fields_of Form.Json b.now result }
+    ensures { IsParsed form_of_record fields_of Form.Json b.now result }
 {
     if b.len() > MAX_PAYLOAD {
         return Err(PsfRefusal::TooLong);
@@ -60,7 +60,7 @@ fn json_record(alloc: Global, b: &[u8]) -> Result<Record, PsfRefusal>
 /// The same of a row in CSV.
 #[tactic(auto, using(crate::proofs::RecordLemmas::csv_records))]
 fn csv_record(alloc: Global, b: &[u8]) -> Result<Record, PsfRefusal>
-    ensures { IsParsed form_of fields_of Form.Csv b.now result }
+    ensures { IsParsed form_of_record fields_of Form.Csv b.now result }
 {
     if b.len() > MAX_PAYLOAD {
         return Err(PsfRefusal::TooLong);

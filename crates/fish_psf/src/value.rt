@@ -7,7 +7,7 @@ ghost use Rattle.fish_value.specs.Same.{same_value};
 ghost use Rattle.fish_value.specs.Seen.{field_seen};
 ghost use Rattle.fish_lang.specs.Definition.{definition_of, formula_of};
 ghost use Rattle.fish_psf.specs.Select.{has_value};
-ghost use Rattle.fish_psf.specs.Eval.{bucket, bucket_of, first_values, holds_when, value_of, values};
+ghost use Rattle.fish_psf.specs.Eval.{bucket, bucketed, first_values, holds_when, value_of, values};
 ghost use Rattle.fish_psf.specs.within.Gathering.{with_field, with_value};
 ghost use Rattle.fish_psf.specs.Given.{given_values};
 
@@ -133,7 +133,7 @@ fn is_value(field: &FieldView<'_>, value: &Value) -> bool
 
 /// Whether a field rounded down to a multiple of a width is the value.
 fn is_bucket(width: i64, field: &FieldView<'_>, value: &Value) -> bool
-    ensures { result ≡ has_value (option_to_list (bucket_of width (field_seen field.now))) value.now }
+    ensures { result ≡ has_value (option_to_list (bucketed width (field_seen field.now))) value.now }
 {
     match bucket_of(width, field) {
         Some(number) => number.is(value),
@@ -213,7 +213,7 @@ fn value_of(alloc: Global, field: &FieldView<'_>) -> Result<Option<Value>, Alloc
 
 /// A field rounded down to a multiple of a width.
 fn bucket_of(width: i64, field: &FieldView<'_>) -> Option<Value>
-    ensures { result ≡ bucket_of width (field_seen field.now) }
+    ensures { result ≡ bucketed width (field_seen field.now) }
 {
     match field {
         FieldView::Int(number) => bucket(width, *number).map(Value::Int),

@@ -14,7 +14,7 @@ use Rattle.fish_catalog.specs.declared.row.CatRow.{CatRow}
 use Rattle.fish_cold.specs.Carries.{CarriesTable, IsPrior, IsPriorRecord}
 use Rattle.fish_flush.proofs.Committed.{agrees_entries}
 use Rattle.fish_flush.proofs.Lasting.{grown_clamps}
-use Rattle.fish_flush.specs.Carrying.{Carries}
+use Rattle.fish_flush.specs.Carrying.{CarriesLog}
 use Rattle.fish_flush.specs.Kept.{IsAtRest, IsCommitted, IsKeptOf}
 use Rattle.fish_flush.specs.Rows.{HaveGrown}
 use Rattle.fish_flush.specs.declared.flusher.Flusher.{Flusher}
@@ -30,16 +30,16 @@ use Rattle.fish_lang.specs.Language.{IsAccepted}
 use Rattle.fish_layout.specs.declared.parts.BodyParts.{BodyParts}
 use Rattle.fish_psf.specs.Records.{evaluation}
 use Rattle.fish_rule.specs.Logs.{AreKnown}
-use Rattle.fish_rule.specs.Parts.{IsOlder}
+use Rattle.fish_rule.specs.Parts.{IsOlderPlace}
 use Rattle.fish_rule.specs.Start.{table_lines}
 use Rattle.fish_rule.specs.Table.{first_view}
 use Rattle.fish_rule.specs.declared.table.Shape.{Shape}
 use Rattle.fish_rule.specs.declared.view.View.{View}
 use Rattle.fish_slots.proofs.Commits.{rests_commit}
-use Rattle.fish_recover.specs.Beginning.{BeginsAt, IsKept}
+use Rattle.fish_recover.specs.Beginning.{BeginsAt, IsFlusherKept}
 use Rattle.fish_recover.proofs.Keepings.{kept_committed, whole_lines}
-use Rattle.fish_recover.specs.Opening.{IsRead}
-use Rattle.fish_recover.specs.Stores.{IsBegun}
+use Rattle.fish_recover.specs.Opening.{IsFoundRead}
+use Rattle.fish_recover.specs.Stores.{IsBegunStore}
 use Rattle.fish_recover.specs.within.Stores.{Resumes}
 use Rattle.fish_recover.specs.declared.finding.Found.{Found}
 use Rattle.fish_recover.specs.declared.opened.Opened.{Opened}
@@ -56,7 +56,7 @@ none_told v n log size =
 
 -- the heads of a commit are those of its records
 older_heads : (c : Commit) (w : List ℕ) (end : Reached) (heads : List ℕ) → Agrees c w c.count end → end.line ≡ c.lines
-    → AreHeads (2 ^ c.bucket_bits) end.places heads → (b : ℕ) → IsOlder c.lines (slice_index heads b)
+    → AreHeads (2 ^ c.bucket_bits) end.places heads → (b : ℕ) → IsOlderPlace c.lines (slice_index heads b)
 older_heads c w end heads agrees line h b some =
     elim (cases_lt b (2 ^ c.bucket_bits)) [
       | inl less ↦
@@ -68,7 +68,7 @@ older_heads c w end heads agrees line h b some =
 
 -- what is kept of a commit is within the limits of its table
 pub committed_kept : (f : Flusher) (c : Commit) (b w : List ℕ) (log : List Entry) (s : Shape) → IsCommitted f c b w log
-    → c.bucket_bits ≡ s.bucket_bits → IsKept s f
+    → c.bucket_bits ≡ s.bucket_bits → IsFlusherKept s f
 committed_kept f c b w log s h bits =
     let within = h.is.told.commit.within in
     let number = within.count in
@@ -79,13 +79,13 @@ committed_kept f c b w log s h bits =
       number = omega arith;
       line = omega arith;
       heads = h.heads.size ∙ ap (λ (n : ℕ). 2 ^ n) bits;
-      older = λ n. subst (λ (l : ℕ). IsOlder l (slice_index f.heads.items n)) h.line
+      older = λ n. subst (λ (l : ℕ). IsOlderPlace l (slice_index f.heads.items n)) h.line
           (older_heads c (words_in w) h.is.stands.end f.heads.items h.is.stands.agrees h.is.stands.lines h.heads n);
     }
 
 -- and so it is of what was found
-pub read_kept : (f : Found) (g : Flusher) (s : Shape) → IsRead f → IsKeptOf f.slot f.commit f.checked.heads f.checked.starts g
-    → f.commit.bucket_bits ≡ s.bucket_bits → IsKept s g
+pub read_kept : (f : Found) (g : Flusher) (s : Shape) → IsFoundRead f → IsKeptOf f.slot f.commit f.checked.heads f.checked.starts g
+    → f.commit.bucket_bits ≡ s.bucket_bits → IsFlusherKept s g
 read_kept f g s read kept bits =
     let l = read.lines in
     let size = whole_lines f.commit l.lines f.commit.count l.held.end l.held.agrees l.held.lines l.size in
@@ -117,7 +117,7 @@ module _ (images : List ℕ → Type 0) (f : Flusher) (c : Commit) (log : List E
       (grown_clamps c.count c.count c.rows rows went (omega arith))
 
   -- a checkpoint may follow
-  first_carried : c.pages ≡ s.pages → Carries images o.flusher (first_view o.log.key) o.log.shape o.catalog c log
+  first_carried : c.pages ≡ s.pages → CarriesLog images o.flusher (first_view o.log.key) o.log.shape o.catalog c log
   first_carried pages =
       let kept = h.opens.flusher in
       let count = ap (λ (z : Flusher). z.count) kept ∙ sym rest.committed.count in
@@ -206,7 +206,7 @@ module _ (images : List ℕ → Type 0) (f : Flusher) (c : Commit) (log : List E
 
   -- so the table has begun after the commit
   pub begun_open : (content : Option (List ℕ)) → ((i : List ℕ) → content ≡ Some i → images i) → c.pages ≡ s.pages
-      → f.shut ≡ false → IsBegun at rows content images c log o
+      → f.shut ≡ false → IsBegunStore at rows content images c log o
   begun_open content read pages live = record {
     pass = h.opens.pass;
     first = h.opens.view_is;
@@ -217,7 +217,7 @@ module _ (images : List ℕ → Type 0) (f : Flusher) (c : Commit) (log : List E
     catalog = cut;
     count = h.opens.count ∙ sym rest.committed.count;
     live = ap (λ (z : Flusher). z.shut) h.opens.flusher ∙ live;
-    carries = subst (λ (v : View). Carries images o.flusher v o.log.shape o.catalog c log) (sym h.opens.view_is) (first_carried pages);
+    carries = subst (λ (v : View). CarriesLog images o.flusher v o.log.shape o.catalog c log) (sym h.opens.view_is) (first_carried pages);
     end =
         let at = h.after.base.line ∙ sym rest.committed.line in
         let count = h.after.base.number ∙ sym rest.committed.count in

@@ -7,9 +7,9 @@ use Rattle.fish_disk.specs.Content.{StillReads, part}
 use Rattle.fish_disk.proofs.Moments.{leaves_more, leaves_then}
 use Rattle.fish_disk.specs.Crash.{LeavesOnly, Torn, TornFrom}
 use Rattle.fish_disk.proofs.Regions.{still_told, told_at, torn_apart}
-use Rattle.fish_slots.specs.Commits.{Counts, HasCommit, Rests, next_turn, turn_of}
+use Rattle.fish_slots.specs.Commits.{SlotCounts, HasCommit, SlotRests, next_turn, turn_of}
 use Rattle.fish_slots.specs.Offsets.{body_at, body_bytes, gate_at, lines_at}
-use Rattle.fish_slots.specs.Slots.{IsOpen, body_of, line_count, lines_of}
+use Rattle.fish_slots.specs.Slots.{IsOpen, body_in_slot, line_count, lines_in_slot}
 use Rattle.fish_recover.specs.within.Resting.{AreAtRest, AreStored, AreWhole}
 
 -- ---- lengths
@@ -22,13 +22,13 @@ part_long at n c size some =
     omega arith
 
 -- a slot with a whole body
-pub body_long : (slot : ℕ) (b c : List ℕ) → length b ≡ body_bytes → body_of slot c ≡ b → body_at slot + body_bytes ≤ length c
+pub body_long : (slot : ℕ) (b c : List ℕ) → length b ≡ body_bytes → body_in_slot slot c ≡ b → body_at slot + body_bytes ≤ length c
 body_long slot b c size is =
     let same : length (part (body_at slot) body_bytes c) ≡ body_bytes = ap (λ (l : List ℕ). length l) is ∙ size in
     part_long (body_at slot) body_bytes c same (omega arith)
 
 -- lines that are whole, where there is a place for lines
-pub lines_long : (slot : ℕ) (b w c : List ℕ) → AreWhole b w → Rests slot b w c → lines_at ≤ length c
+pub lines_long : (slot : ℕ) (b w c : List ℕ) → AreWhole b w → SlotRests slot b w c → lines_at ≤ length c
     → lines_at + 32 * line_count b ≤ length c
 lines_long slot b w c whole h long =
     let taken = length-take (32 * line_count b) (drop lines_at c) in
@@ -38,7 +38,7 @@ lines_long slot b w c whole h long =
     omega arith
 
 -- and where there is none, they are none
-no_lines : (slot : ℕ) (b w c : List ℕ) → AreWhole b w → Rests slot b w c → length c ≤ lines_at → 32 * line_count b ≡ 0
+no_lines : (slot : ℕ) (b w c : List ℕ) → AreWhole b w → SlotRests slot b w c → length c ≤ lines_at → 32 * line_count b ≡ 0
 no_lines slot b w c whole h short =
     let taken = length-take (32 * line_count b) (drop lines_at c) in
     let left = length-drop lines_at c in
@@ -54,18 +54,18 @@ gates_apart zero le = inl (omega arith)
 gates_apart (suc zero) le = inr (omega arith)
 gates_apart (suc (suc slot)) le = absurd (omega arith)
 
-module _ (slot : ℕ) (b w d c : List ℕ) (le : slot ≤ 1) (torn : Torn (gate_at (1 - slot)) 1 d c) (h : Counts slot b w d) where
+module _ (slot : ℕ) (b w d c : List ℕ) (le : slot ≤ 1) (torn : Torn (gate_at (1 - slot)) 1 d c) (h : SlotCounts slot b w d) where
   gate : IsOpen slot c
   gate = torn_apart (gate_at (1 - slot)) 1 (gate_at slot) 1 d c torn (gates_apart slot le) ∙ h.gate
 
-  body : body_of slot c ≡ b
+  body : body_in_slot slot c ≡ b
   body = torn_apart (gate_at (1 - slot)) 1 (body_at slot) body_bytes d c torn (inr (omega arith)) ∙ h.body_is
 
-  lines : lines_of (line_count b) c ≡ w
+  lines : lines_in_slot (line_count b) c ≡ w
   lines = torn_apart (gate_at (1 - slot)) 1 lines_at (32 * line_count b) d c torn (inr (omega arith)) ∙ h.lines_are
 
   -- whatever is left of the other gate, which was open, the slot counts
-  pub closing_counts : IsOpen (1 - slot) d → Counts slot b w c
+  pub closing_counts : IsOpen (1 - slot) d → SlotCounts slot b w c
   closing_counts was = record {
     gate = gate;
     body_is = body;
@@ -76,7 +76,7 @@ module _ (slot : ℕ) (b w d c : List ℕ) (le : slot ≤ 1) (torn : Torn (gate_
   }
 
   -- once it is closed, the slot alone is open
-  pub closing_rests : (IsOpen (1 - slot) c → ⊥) → Rests slot b w c
+  pub closing_rests : (IsOpen (1 - slot) c → ⊥) → SlotRests slot b w c
   closing_rests closed = record { gate = gate; closed = closed; body_is = body; lines_are = lines }
 
 module _ (old : List ℕ → Type 0) (slot : ℕ) (both : Bool) (le : slot ≤ 1) (b w : List ℕ) (h : AreStored old slot both b w) where
@@ -128,7 +128,7 @@ module _ (old : List ℕ → Type 0) (slot : ℕ) (both : Bool) (le : slot ≤ 1
 
 -- bytes after the end of a file that has no place for lines leave what a slot is that alone is open
 pub filled_rests : (slot at n : ℕ) (b w d c : List ℕ) → slot ≤ 1 → AreWhole b w → at ≡ length d → at ≤ lines_at → Torn at n d c
-    → Rests slot b w d → Rests slot b w c
+    → SlotRests slot b w d → SlotRests slot b w c
 filled_rests slot at n b w d c le whole is short torn h =
     let long = body_long slot b d whole.body_size h.body_is in
     let none = no_lines slot b w d whole h (omega arith) in
@@ -153,7 +153,7 @@ fewer_rest old new slot b w fewer h = record { whole = h.whole; rests = λ i her
 -- so are those that bytes after the file's end leave
 fill_torn : (old mid : List ℕ → Type 0) (slot at n : ℕ) (b w : List ℕ) → slot ≤ 1 → at ≤ lines_at
     → ((i : List ℕ) → mid i → old i) → ((i : List ℕ) → mid i → at ≡ length i) → AreAtRest old slot b w
-    → (i : List ℕ) → TornFrom mid at n i → Rests slot b w i
+    → (i : List ℕ) → TornFrom mid at n i → SlotRests slot b w i
 fill_torn old mid slot at n b w le short fewer size h i from =
     filled_rests slot at n b w from.0 i le h.whole (size from.0 from.1) short from.2 (h.rests from.0 (fewer from.0 from.1))
 
@@ -161,9 +161,9 @@ fill_torn old mid slot at n b w le short fewer size h i from =
 pub fill_leaves : {D : Type 0} (images : D → List ℕ → Type 0) (since : D → ℕ → List ℕ → Type 0) (moment : D → ℕ) (old mid new : D)
     (slot at n : ℕ) (b w : List ℕ) → slot ≤ 1 → at ≤ lines_at → ((i : List ℕ) → images mid i → at ≡ length i)
     → AreAtRest (images old) slot b w → LeavesOnly images since moment old mid (images old)
-    → LeavesOnly images since moment mid new (TornFrom (images mid) at n) → LeavesOnly images since moment old new (Rests slot b w)
+    → LeavesOnly images since moment mid new (TornFrom (images mid) at n) → LeavesOnly images since moment old new (SlotRests slot b w)
 fill_leaves images since moment old mid new slot at n b w le short size h reads writes =
-    leaves_then images since moment old mid new (Rests slot b w)
-    (leaves_more images since moment old mid (images old) (Rests slot b w) h.rests reads)
-    (leaves_more images since moment mid new (TornFrom (images mid) at n) (Rests slot b w)
+    leaves_then images since moment old mid new (SlotRests slot b w)
+    (leaves_more images since moment old mid (images old) (SlotRests slot b w) h.rests reads)
+    (leaves_more images since moment mid new (TornFrom (images mid) at n) (SlotRests slot b w)
     (fill_torn (images old) (images mid) slot at n b w le short reads.now size h) writes)

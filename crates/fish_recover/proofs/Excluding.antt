@@ -10,11 +10,11 @@ use Rattle.fish_image.specs.Reading.{IsBodyOf}
 use Rattle.fish_image.specs.Stands.{Stands, words_in}
 use Rattle.fish_rule.specs.declared.table.Shape.{Shape}
 use Rattle.fish_slots.proofs.Commits.{one_commit}
-use Rattle.fish_slots.specs.Commits.{Counts, HasCommit}
+use Rattle.fish_slots.specs.Commits.{SlotCounts, HasCommit}
 use Rattle.fish_slots.specs.Offsets.{gate_at}
 use Rattle.fish_slots.specs.Slots.{IsOpen}
 use Rattle.fish_recover.proofs.Once.{told_once}
-use Rattle.fish_recover.specs.Opening.{IsFound, IsOfStore, IsOpenCause, IsOther, IsOtherShape}
+use Rattle.fish_recover.specs.Opening.{IsImageFound, IsOfStore, IsOpenCause, IsOther, IsOtherShape}
 use Rattle.fish_recover.specs.Stores.{IsStoreCause}
 use Rattle.fish_recover.specs.declared.finding.Found.{Found}
 use Rattle.fish_recover.specs.declared.refusal.Asked.{Asked}
@@ -29,7 +29,7 @@ once image b w d v c e has other told too =
     (told_once c e d (subst (IsBodyOf c) same.0 told) too, same.1)
 
 -- the slot that counts is open
-not_closed : (slot : ℕ) (b w image : List ℕ) → slot ≤ 1 → Counts slot b w image → (IsOpen 0 image → ⊥) → (IsOpen 1 image → ⊥) → ⊥
+not_closed : (slot : ℕ) (b w image : List ℕ) → slot ≤ 1 → SlotCounts slot b w image → (IsOpen 0 image → ⊥) → (IsOpen 1 image → ⊥) → ⊥
 not_closed zero b w image le h first second = first h.gate
 not_closed (suc zero) b w image le h first second = second h.gate
 not_closed (suc (suc slot)) b w image le h first second = absurd (omega arith)
@@ -113,7 +113,7 @@ module _ (image : List ℕ) (asked : Asked) where
   stands_cause c log OutOfMemory s f shape h = absurd s
 
   -- so it is where something is found
-  pub found_cause : (found : Found) (e : OpenRefusal) → IsOfStore e → IsFound image asked found → IsOpenCause image asked e → ⊥
+  pub found_cause : (found : Found) (e : OpenRefusal) → IsOfStore e → IsImageFound image asked found → IsOpenCause image asked e → ⊥
   found_cause found e s f h =
       let held = f.checked in
       stands_cause found.commit held.end.entries e s record {

@@ -15,8 +15,8 @@ use Rattle.fish_image.specs.declared.refusal.ImageRefusal.TheVariants.{Damaged a
 use Rattle.fish_slots.specs.Offsets.{lines_at}
 use Rattle.fish_image.proofs.ByteWords.{words_of-take}
 use Rattle.fish_recover.proofs.Words.{words_joined, words_next}
-use Rattle.fish_recover.specs.Opening.{AreRead}
-use Rattle.fish_recover.specs.within.Opening.{HasRead, IsLinesCause, IsPieceCause, IsSame, first_words}
+use Rattle.fish_recover.specs.Opening.{AreLinesRead}
+use Rattle.fish_recover.specs.within.Opening.{HasReadLines, IsLinesCause, IsPieceCause, IsSameRefusal, first_words}
 use Rattle.fish_recover.specs.declared.refusal.OpenRefusal.{OpenRefusal}
 use Rattle.fish_recover.specs.declared.refusal.OpenRefusal.TheVariants.{Damaged, DiskFault, NotAStore, OutOfMemory, ShapeDiffers}
 
@@ -32,7 +32,7 @@ both_hold P Q (Some i) h f = f h
 
 -- why a checker took no more words
 piece_cause : (e : ImageRefusal) (r : OpenRefusal) (c : Commit) (w words : List ℕ) (new : Checker) → Fed (Err e) c w words new
-    → IsSame e r → IsPieceCause c (w ++ words) r
+    → IsSameRefusal e r → IsPieceCause c (w ++ words) r
 piece_cause (Broken n) r c w words new h same = subst (IsPieceCause c (w ++ words)) (sym same) h.1
 piece_cause NoMemory r c w words new h same = subst (IsPieceCause c (w ++ words)) (sym same) tt
 
@@ -52,7 +52,7 @@ module _ (c : Commit) (old new : Checker) (line count : ℕ) (words : List ℕ) 
   -- or why not
   pub fed_not : (x : Option (List ℕ)) (e : ImageRefusal) (r : OpenRefusal)
       → IfSome x (λ i. words ≡ words_in (part (lines_at + 32 * line) (32 * count) i))
-      → ((w : List ℕ) → HasSeen c old w → Fed (Err e) c w words new) → IsSame e r
+      → ((w : List ℕ) → HasSeen c old w → Fed (Err e) c w words new) → IsSameRefusal e r
       → IfSome x (λ i. HasSeen c old (first_words line i) → IsPieceCause c (first_words (line + count) i) r)
   fed_not None e r are fed same = tt
   fed_not (Some i) e r are fed same = λ seen.
@@ -78,7 +78,7 @@ all_cause e c n lines i few h =
 -- ---- whatever the disk tells
 
 -- no word was seen
-pub read_none : (c : Commit) (checker : Checker) → HasSeen c checker [] → HasRead c checker 0
+pub read_none : (c : Commit) (checker : Checker) → HasSeen c checker [] → HasReadLines c checker 0
 read_none c checker seen = record { bytes = []; words = 0; size = refl; within = omega arith; seen = seen }
 
 -- the whole words of bytes are those of so many whole words of bytes
@@ -91,7 +91,7 @@ whole_words b =
 
 -- a piece of bytes was seen
 pub read_on : (c : Commit) (old new : Checker) (line count : ℕ) (words b : List ℕ) → length b ≤ 32 * count → words ≡ words_in b
-    → ((w : List ℕ) → HasSeen c old w → HasSeen c new (w ++ words)) → HasRead c old line → HasRead c new (line + count)
+    → ((w : List ℕ) → HasSeen c old w → HasSeen c new (w ++ words)) → HasReadLines c old line → HasReadLines c new (line + count)
 read_on c old new line count words b few is fed h =
     let more : List ℕ = take (8 * (length b / 8)) b in
     let size : length more ≡ 8 * (length b / 8) = length-take-le (8 * (length b / 8)) b (omega arith) in
@@ -109,8 +109,8 @@ read_on c old new line count words b few is fed h =
     }
 
 -- some lines were held to the commit
-pub lines_read : (c : Commit) (checker : Checker) (line : ℕ) (checked : Checked) → line ≤ c.lines → HasRead c checker line
-    → ((w : List ℕ) → HasSeen c checker w → HasChecked c w checked) → AreRead c checked
+pub lines_read : (c : Commit) (checker : Checker) (line : ℕ) (checked : Checked) → line ≤ c.lines → HasReadLines c checker line
+    → ((w : List ℕ) → HasSeen c checker w → HasChecked c w checked) → AreLinesRead c checked
 lines_read c checker line checked few h found =
     let within = h.within in
     record { lines = h.bytes; size = omega arith; held = found (words_in h.bytes) h.seen }

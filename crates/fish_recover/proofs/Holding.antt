@@ -7,10 +7,10 @@ use Rattle.fish_image.specs.Checking.{HasChecked}
 use Rattle.fish_image.specs.Log.{IsDamaged}
 use Rattle.fish_image.specs.Reading.{IsBodyOf}
 use Rattle.fish_image.specs.Slot.{number}
-use Rattle.fish_slots.specs.Slots.{body_of, line_count, lines_of}
+use Rattle.fish_slots.specs.Slots.{body_in_slot, line_count, lines_in_slot}
 use Rattle.fish_recover.proofs.Slots.{newer_commit}
 use Rattle.fish_recover.specs.within.Choosing.{IsChosen}
-use Rattle.fish_recover.specs.Opening.{IsFound, IsOpenCause, IsOtherShape}
+use Rattle.fish_recover.specs.Opening.{IsImageFound, IsOpenCause, IsOtherShape}
 use Rattle.fish_recover.specs.within.Opening.{IsLinesCause, first_words}
 use Rattle.fish_recover.specs.declared.finding.Found.{Found}
 use Rattle.fish_recover.specs.declared.refusal.Asked.{Asked}
@@ -28,13 +28,13 @@ module _ (i : List ℕ) (asked : Asked) (slot : ℕ) (both : Bool) (commit : Com
       → IsOpenCause i asked e
   not_log NotAStore shape cause = absurd cause
   not_log (Damaged n) shape cause = inr record {
-    body = body_of slot i;
-    lines = lines_of (line_count (body_of slot i)) i;
+    body = body_in_slot slot i;
+    lines = lines_in_slot (line_count (body_in_slot slot i)) i;
     commit = commit;
     has = newer_commit slot i h.slot_is h.newer;
     told = h.told;
     shape = shape;
-    damaged = subst (λ (k : ℕ). IsDamaged commit (first_words k i) n) (sym (body_lines commit (body_of slot i) h.told)) cause;
+    damaged = subst (λ (k : ℕ). IsDamaged commit (first_words k i) n) (sym (body_lines commit (body_in_slot slot i) h.told)) cause;
   }
   not_log (ShapeDiffers kept other) shape cause = absurd cause
   not_log DiskFault shape cause = tt
@@ -47,8 +47,8 @@ pub held_other : (x : Option (List ℕ)) (asked : Asked) (slot : ℕ) (both : Bo
 held_other None asked slot both commit h shape = tt
 held_other (Some i) asked slot both commit h shape = (
   record {
-    body = body_of slot i;
-    lines = lines_of (line_count (body_of slot i)) i;
+    body = body_in_slot slot i;
+    lines = lines_in_slot (line_count (body_in_slot slot i)) i;
     commit = commit;
     has = newer_commit slot i h.slot_is h.newer;
     told = h.told;
@@ -69,16 +69,16 @@ held_not (Some i) asked slot both commit e h shape cause = not_log i asked slot 
 -- the store was found
 pub held : (x : Option (List ℕ)) (asked : Asked) (f : Found) → IfSome x (λ i. IsChosen i f.slot f.both f.commit)
     → (IsOtherShape asked f.commit → ⊥) → IfSome x (λ i. HasChecked f.commit (first_words f.commit.lines i) f.checked)
-    → IfSome x (λ i. IsFound i asked f)
+    → IfSome x (λ i. IsImageFound i asked f)
 held None asked f h shape checked = tt
 held (Some i) asked f h shape checked = record {
-  body = body_of f.slot i;
-  lines = lines_of (line_count (body_of f.slot i)) i;
+  body = body_in_slot f.slot i;
+  lines = lines_in_slot (line_count (body_in_slot f.slot i)) i;
   commit = newer_commit f.slot i h.slot_is h.newer;
   slot = refl;
   told = h.told;
   shape = shape;
   checked = subst (λ (k : ℕ). HasChecked f.commit (first_words k i) f.checked)
-      (sym (body_lines f.commit (body_of f.slot i) h.told)) checked;
+      (sym (body_lines f.commit (body_in_slot f.slot i) h.told)) checked;
   older = h.older;
 }

@@ -16,12 +16,12 @@ use Rattle.fish_image.specs.Progress.{AreHeads}
 use Rattle.fish_image.specs.Reached.{Reached}
 use Rattle.fish_image.specs.Reading.{IsBodyOf}
 use Rattle.fish_image.specs.Stands.{Stands, words_in}
-use Rattle.fish_slots.specs.Commits.{Counts, Rests}
+use Rattle.fish_slots.specs.Commits.{SlotCounts, SlotRests}
 use Rattle.fish_slots.specs.Offsets.{lines_at}
-use Rattle.fish_slots.specs.Slots.{IsOpen, line_count, lines_of}
+use Rattle.fish_slots.specs.Slots.{IsOpen, line_count, lines_in_slot}
 use Rattle.fish_recover.proofs.Holding.{body_lines}
 use Rattle.fish_image.proofs.ByteWords.{length-words_of}
-use Rattle.fish_recover.specs.Opening.{IsFound, IsRead}
+use Rattle.fish_recover.specs.Opening.{IsImageFound, IsFoundRead}
 use Rattle.fish_recover.specs.within.Resting.{AreAtRest, AreLong, AreStored, AreWhole}
 use Rattle.fish_recover.specs.declared.finding.Found.{Found}
 use Rattle.fish_recover.specs.declared.refusal.Asked.{Asked}
@@ -37,7 +37,7 @@ whole_lines c w n end agrees line few =
     omega arith
 
 -- so many lines of an image are no more
-few_lines : (count : ℕ) (i w : List ℕ) → lines_of count i ≡ w → length w ≤ 32 * count
+few_lines : (count : ℕ) (i w : List ℕ) → lines_in_slot count i ≡ w → length w ≤ 32 * count
 few_lines count i w is =
     let taken = length-take (32 * count) (drop lines_at i) in
     let size = ap (λ (l : List ℕ). length l) is in
@@ -61,10 +61,10 @@ pub record KeptIn (x : Option (List ℕ)) (f : Found) : Type 0 where
   pub told : IsBodyOf f.commit body
   pub held : HasChecked f.commit (words_in lines) f.checked
   pub size : length lines ≡ 32 * f.commit.lines
-  pub counts : IfSome x (Counts f.slot body lines)
+  pub counts : IfSome x (SlotCounts f.slot body lines)
   pub other : IfSome x (λ i. IsTrue f.both ↔ IsOpen (1 - f.slot) i)
 
-pub kept_in : (x : Option (List ℕ)) (asked : Asked) (f : Found) → IfSome x (λ i. IsFound i asked f) → IsRead f → KeptIn x f
+pub kept_in : (x : Option (List ℕ)) (asked : Asked) (f : Found) → IfSome x (λ i. IsImageFound i asked f) → IsFoundRead f → KeptIn x f
 kept_in None asked f h read = record {
   body = read.slot.body;
   lines = read.lines.lines;
@@ -86,7 +86,7 @@ kept_in (Some i) asked f h read =
       told = h.told;
       held = h.checked;
       size = whole_lines f.commit h.lines f.commit.count h.checked.end h.checked.agrees h.checked.lines (omega arith);
-      counts = subst (λ (s : ℕ). Counts s h.body h.lines i) h.slot h.commit.counts;
+      counts = subst (λ (s : ℕ). SlotCounts s h.body h.lines i) h.slot h.commit.counts;
       other = h.older;
     }
 
@@ -103,7 +103,7 @@ module _ (x : Option (List ℕ)) (f : Found) (k : KeptIn x f) where
       → AreStored images f.slot f.both k.body k.lines
   kept_stored images synced = record {
     whole = kept_whole;
-    counts = λ i here. told_at (Counts f.slot k.body k.lines) x i (synced i here) k.counts;
+    counts = λ i here. told_at (SlotCounts f.slot k.body k.lines) x i (synced i here) k.counts;
     other = λ i here. told_at (λ e. IsTrue f.both ↔ IsOpen (1 - f.slot) e) x i (synced i here) k.other;
   }
 
@@ -112,7 +112,7 @@ module _ (x : Option (List ℕ)) (f : Found) (k : KeptIn x f) where
   kept_stands i is = record {
     body = k.body;
     lines = k.lines;
-    commit = record { slot = f.slot; slot_is = k.slot_is; counts = told_at (Counts f.slot k.body k.lines) x i is k.counts };
+    commit = record { slot = f.slot; slot_is = k.slot_is; counts = told_at (SlotCounts f.slot k.body k.lines) x i is k.counts };
     is = record {
       told = k.told;
       stands = record { end = k.held.end; agrees = k.held.agrees; lines = k.held.lines; entries = refl };
@@ -150,7 +150,7 @@ kept_rest x f k images g rest long kept =
       slot_is = omega arith;
       body = k.body;
       lines = k.lines;
-      rests = λ i here. subst (λ (s : ℕ). Rests s k.body k.lines i) (sym kept.slot_is) (rest.rests i here);
+      rests = λ i here. subst (λ (s : ℕ). SlotRests s k.body k.lines i) (sym kept.slot_is) (rest.rests i here);
       long = λ i here. (let l = long i here in omega arith);
       committed = kept_committed f k.body k.lines k.told k.held g k.size kept;
     }

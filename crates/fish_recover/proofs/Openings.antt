@@ -11,13 +11,13 @@ use Rattle.fish_disk.specs.Crash.{LeavesOnly}
 use Rattle.fish_flush.specs.Kept.{first_commit}
 use Rattle.fish_image.specs.Stands.{Stands}
 use Rattle.fish_slots.proofs.Commits.{one_commit}
-use Rattle.fish_slots.specs.Commits.{Counts, HasCommit}
+use Rattle.fish_slots.specs.Commits.{SlotCounts, HasCommit}
 use Rattle.fish_recover.proofs.Closings.{body_long}
 use Rattle.fish_recover.proofs.Keepings.{KeptIn, kept_stands, stands_whole}
 use Rattle.fish_recover.proofs.Refusals.{err_then}
-use Rattle.fish_recover.specs.Opening.{IsFound, IsOfStore}
+use Rattle.fish_recover.specs.Opening.{IsImageFound, IsOfStore}
 use Rattle.fish_recover.specs.within.Resting.{AreStored}
-use Rattle.fish_recover.specs.Stores.{HasOpened, IsOf, IsOpened, asked_shape}
+use Rattle.fish_recover.specs.Stores.{HasOpened, IsImageAsked, IsOpened, asked_shape}
 use Rattle.fish_recover.specs.declared.finding.Found.{Found}
 use Rattle.fish_recover.specs.declared.opened.Opened.{Opened}
 use Rattle.fish_recover.specs.declared.refusal.Asked.{Asked}
@@ -65,15 +65,15 @@ still_one old x i e still was is = same_Some e i (sym (told_at (λ d. old ≡ So
 
 -- what was found stood for the log
 pub was_stored : (old x new : Option (List ℕ)) (asked : Asked) (f : Found) (k : KeptIn x f) (made : Bool) → made ≡ false
-    → IfSome x (λ i. IsFound i asked f) → StillReads old x → IfSome new (λ _. (i : List ℕ) × (x ≡ Some i))
-    → IfSome new (λ _. (i : List ℕ) × (old ≡ Some i) × IsOf asked made f.commit k.held.end.entries i)
+    → IfSome x (λ i. IsImageFound i asked f) → StillReads old x → IfSome new (λ _. (i : List ℕ) × (x ≡ Some i))
+    → IfSome new (λ _. (i : List ℕ) × (old ≡ Some i) × IsImageAsked asked made f.commit k.held.end.entries i)
 was_stored old x None asked f k made is found still told = tt
 was_stored old x (Some j) asked f k made is found still told =
     let i : List ℕ = told.0 in
-    let here = told_at (λ d. IsFound d asked f) x i told.1 found in (
+    let here = told_at (λ d. IsImageFound d asked f) x i told.1 found in (
       i,
       told_at (λ d. old ≡ Some d) x i told.1 still,
-      subst (λ (b : Bool). IsOf asked b f.commit k.held.end.entries i) (sym is) (kept_stands x f k i told.1, here.shape),
+      subst (λ (b : Bool). IsImageAsked asked b f.commit k.held.end.entries i) (sym is) (kept_stands x f k i told.1, here.shape),
     )
 
 -- an image that stands for a log isn't empty
@@ -85,18 +85,18 @@ not_empty c i log h none =
 
 -- what was found of an image that stands for a log is its commit
 stands_stored : (x : Option (List ℕ)) (asked : Asked) (f : Found) (images : List ℕ → Type 0) (i : List ℕ) (c : Commit)
-    (log : List Entry) (h : Stands c i log) → IfSome x (λ e. IsFound e asked f) → ((e : List ℕ) → images e → x ≡ Some e)
+    (log : List Entry) (h : Stands c i log) → IfSome x (λ e. IsImageFound e asked f) → ((e : List ℕ) → images e → x ≡ Some e)
     → ((e : List ℕ) → images e → e ≡ i) → AreStored images f.slot f.both h.body h.lines
 stands_stored x asked f images i c log h found synced all = record {
   whole = stands_whole c i log h;
   counts = λ e here.
-      let at = told_at (λ d. IsFound d asked f) x e (synced e here) found in
+      let at = told_at (λ d. IsImageFound d asked f) x e (synced e here) found in
       let has = subst (HasCommit h.body h.lines) (sym (all e here)) h.commit in
       let same = one_commit at.body at.lines h.body h.lines e at.commit has in
-      subst (λ (s : ℕ). Counts s h.body h.lines e) at.slot
-      (subst (λ (w : List ℕ). Counts at.commit.slot h.body w e) same.1
-      (subst (λ (b : List ℕ). Counts at.commit.slot b at.lines e) same.0 at.commit.counts));
-  other = λ e here. (told_at (λ d. IsFound d asked f) x e (synced e here) found).older;
+      subst (λ (s : ℕ). SlotCounts s h.body h.lines e) at.slot
+      (subst (λ (w : List ℕ). SlotCounts at.commit.slot h.body w e) same.1
+      (subst (λ (b : List ℕ). SlotCounts at.commit.slot b at.lines e) same.0 at.commit.counts));
+  other = λ e here. (told_at (λ d. IsImageFound d asked f) x e (synced e here) found).older;
 }
 
 -- another image with that commit stands for the log
@@ -122,7 +122,7 @@ module _ {D : Type 0} (images : D → List ℕ → Type 0) (since : D → ℕ �
 
   -- so does an opening, which reads and then brings to rest what it found
   pub opening_leaves : (x : Option (List ℕ)) (asked : Asked) (f : Found) (old mid new : D) → ((e : List ℕ) → images old e → e ≡ i)
-      → LeavesOnly images since moment old mid (images old) → IfSome x (λ e. IsFound e asked f)
+      → LeavesOnly images since moment old mid (images old) → IfSome x (λ e. IsImageFound e asked f)
       → ((e : List ℕ) → images mid e → x ≡ Some e)
       → ((b w : List ℕ) → AreStored (images mid) f.slot f.both b w → LeavesOnly images since moment mid new (HasCommit b w))
       → LeavesOnly images since moment old new (λ e. Stands c e log)
@@ -149,8 +149,8 @@ pub earlier_opened : (old x new : Option (List ℕ)) (images : List ℕ → Type
 earlier_opened old x new images asked o still h =
     record { commit = h.commit; log = h.log; opened = h.opened; was = by new h.was }
   where
-    by : (y : Option (List ℕ)) → IfSome y (λ _. (i : List ℕ) × (x ≡ Some i) × IsOf asked o.made h.commit h.log i)
-        → IfSome y (λ _. (i : List ℕ) × (old ≡ Some i) × IsOf asked o.made h.commit h.log i)
+    by : (y : Option (List ℕ)) → IfSome y (λ _. (i : List ℕ) × (x ≡ Some i) × IsImageAsked asked o.made h.commit h.log i)
+        → IfSome y (λ _. (i : List ℕ) × (old ≡ Some i) × IsImageAsked asked o.made h.commit h.log i)
     by None was = tt
     by (Some j) was = (was.0, told_at (λ d. old ≡ Some d) x was.0 was.1 still, was.2)
 
@@ -167,12 +167,12 @@ made_opened old x new images asked o still empty told made h =
     record { commit = first_commit (asked_shape asked); log = []; opened = h; was = by new told }
   where
     by : (y : Option (List ℕ)) → IfSome y (λ _. (i : List ℕ) × (x ≡ Some i))
-        → IfSome y (λ _. (i : List ℕ) × (old ≡ Some i) × IsOf asked o.made (first_commit (asked_shape asked)) [] i)
+        → IfSome y (λ _. (i : List ℕ) × (old ≡ Some i) × IsImageAsked asked o.made (first_commit (asked_shape asked)) [] i)
     by None was = tt
     by (Some j) was = (
       was.0,
       told_at (λ d. old ≡ Some d) x was.0 was.1 still,
-      subst (λ (b : Bool). IsOf asked b (first_commit (asked_shape asked)) [] was.0) (sym made)
+      subst (λ (b : Bool). IsImageAsked asked b (first_commit (asked_shape asked)) [] was.0) (sym made)
           (none_is was.0 (told_at (λ d. length d ≡ 0) x was.0 was.1 empty), refl, refl),
     )
 

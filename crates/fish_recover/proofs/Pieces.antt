@@ -9,7 +9,7 @@ use Rattle.byteorder.specs.Numbers.{little_from-take}
 use Rattle.fish_disk.specs.Content.{part}
 use Rattle.fish_slots.specs.Commits.{turn_of}
 use Rattle.fish_slots.specs.Offsets.{body_at, body_bytes}
-use Rattle.fish_slots.specs.Slots.{body_of}
+use Rattle.fish_slots.specs.Slots.{body_in_slot}
 
 -- as many as there are and fit are all that fit
 pub take_min : (n m : ℕ) (xs : List ℕ) → n ≡ min (length xs) m → take n xs ≡ take m xs
@@ -45,7 +45,7 @@ pub few_bytes : (n : ℕ) (xs : List ℕ) → n ≡ length xs → n ≤ 8 → li
 few_bytes n xs is few = little_short 0 n 8 xs (omega arith) few
 
 -- the turn that a body says is the number in its second word
-pub turn_read : (slot : ℕ) (c : List ℕ) → little_number 8 (part (body_at slot + 8) 8 c) ≡ turn_of (body_of slot c)
+pub turn_read : (slot : ℕ) (c : List ℕ) → little_number 8 (part (body_at slot + 8) 8 c) ≡ turn_of (body_in_slot slot c)
 unfolding turn_of
 turn_read slot c =
     let whole : 8 + 86008 ≡ body_bytes = omega arith in

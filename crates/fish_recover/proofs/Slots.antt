@@ -6,8 +6,8 @@ use Rattle.fish_disk.specs.Content.{StillReads}
 use Rattle.fish_disk.proofs.Regions.{told_at}
 use Rattle.fish_image.specs.Reading.{IsBodyOf}
 use Rattle.fish_slots.proofs.Commits.{one_commit}
-use Rattle.fish_slots.specs.Commits.{Counts, HasCommit, next_turn, turn_of}
-use Rattle.fish_slots.specs.Slots.{IsOpen, body_of, line_count, lines_of}
+use Rattle.fish_slots.specs.Commits.{SlotCounts, HasCommit, next_turn, turn_of}
+use Rattle.fish_slots.specs.Slots.{IsOpen, body_in_slot, line_count, lines_in_slot}
 use Rattle.fish_recover.specs.within.Choosing.{IsBodyCause, IsChosen, IsNewer, IsSlotCause}
 use Rattle.fish_recover.specs.declared.refusal.OpenRefusal.{OpenRefusal}
 use Rattle.fish_recover.specs.declared.refusal.OpenRefusal.TheVariants.{Damaged, DiskFault, NotAStore, OutOfMemory, ShapeDiffers}
@@ -24,7 +24,7 @@ still_then a b (Some x) first second = told_at (λ d. a ≡ Some d) b x second f
 
 -- a slot that counts has the image's commit
 abbrev pub newer_commit : (slot : ℕ) (c : List ℕ) → slot ≤ 1 → IsNewer slot c
-    → HasCommit (body_of slot c) (lines_of (line_count (body_of slot c)) c) c
+    → HasCommit (body_in_slot slot c) (lines_in_slot (line_count (body_in_slot slot c)) c) c
 newer_commit slot c slot_le h = record {
   slot = slot;
   slot_is = slot_le;
@@ -33,16 +33,16 @@ newer_commit slot c slot_le h = record {
 
 -- of two open slots, one whose turn is the one after the other's counts
 pub turn_newer : (x : Option (List ℕ)) (slot turn other : ℕ) → IfSome x (IsOpen slot)
-    → IfSome x (λ c. turn ≡ turn_of (body_of slot c)) → IfSome x (λ c. other ≡ turn_of (body_of (1 - slot) c))
+    → IfSome x (λ c. turn ≡ turn_of (body_in_slot slot c)) → IfSome x (λ c. other ≡ turn_of (body_in_slot (1 - slot) c))
     → turn ≡ next_turn other → IfSome x (IsNewer slot)
 turn_newer None slot turn other gate this that is = tt
 turn_newer (Some c) slot turn other gate this that is =
     record { gate = gate; turn = λ opened. sym this ∙ is ∙ ap next_turn that }
 
 -- neither turn is the one after the other
-module _ (c : List ℕ) (first second : ℕ) (one : IsOpen 0 c) (two : IsOpen 1 c) (this : first ≡ turn_of (body_of 0 c))
-    (that : second ≡ turn_of (body_of 1 c)) (after : second ≡ next_turn first → ⊥) (before : first ≡ next_turn second → ⊥) where
-  none_counts : (slot : ℕ) (body lines : List ℕ) → slot ≤ 1 → Counts slot body lines c → ⊥
+module _ (c : List ℕ) (first second : ℕ) (one : IsOpen 0 c) (two : IsOpen 1 c) (this : first ≡ turn_of (body_in_slot 0 c))
+    (that : second ≡ turn_of (body_in_slot 1 c)) (after : second ≡ next_turn first → ⊥) (before : first ≡ next_turn second → ⊥) where
+  none_counts : (slot : ℕ) (body lines : List ℕ) → slot ≤ 1 → SlotCounts slot body lines c → ⊥
   none_counts zero body lines le h =
       before (this ∙ ap turn_of h.body_is ∙ h.newer two ∙ ap next_turn (sym that))
   none_counts (suc zero) body lines le h =
@@ -55,7 +55,7 @@ module _ (c : List ℕ) (first second : ℕ) (one : IsOpen 0 c) (two : IsOpen 1 
 
 -- so no slot counts
 pub neither : (x : Option (List ℕ)) (first second : ℕ) → IfSome x (IsOpen 0) → IfSome x (IsOpen 1)
-    → IfSome x (λ c. first ≡ turn_of (body_of 0 c)) → IfSome x (λ c. second ≡ turn_of (body_of 1 c))
+    → IfSome x (λ c. first ≡ turn_of (body_in_slot 0 c)) → IfSome x (λ c. second ≡ turn_of (body_in_slot 1 c))
     → (second ≡ next_turn first → ⊥) → (first ≡ next_turn second → ⊥) → IfSome x (λ c. IsSlotCause c (Damaged 0))
 neither None first second one two this that after before = tt
 neither (Some c) first second one two this that after before = none_newer c first second one two this that after before
@@ -67,7 +67,7 @@ open_slot (suc zero) c le h = inr h.gate
 open_slot (suc (suc slot)) c le h = absurd (omega arith)
 
 -- why its body tells no commit is why no slot is taken
-slot_cause : (slot : ℕ) (c : List ℕ) (e : OpenRefusal) → slot ≤ 1 → IsNewer slot c → IsBodyCause (body_of slot c) e → IsSlotCause c e
+slot_cause : (slot : ℕ) (c : List ℕ) (e : OpenRefusal) → slot ≤ 1 → IsNewer slot c → IsBodyCause (body_in_slot slot c) e → IsSlotCause c e
 slot_cause slot c NotAStore le h cause = absurd cause
 slot_cause slot c (Damaged n) le h cause = (
   cause.0,
@@ -83,7 +83,7 @@ slot_cause slot c DiskFault le h cause = tt
 slot_cause slot c OutOfMemory le h cause = tt
 
 pub body_cause : (x : Option (List ℕ)) (slot : ℕ) (e : OpenRefusal) → slot ≤ 1 → IfSome x (IsNewer slot)
-    → IfSome x (λ c. IsBodyCause (body_of slot c) e) → IfSome x (λ c. IsSlotCause c e)
+    → IfSome x (λ c. IsBodyCause (body_in_slot slot c) e) → IfSome x (λ c. IsSlotCause c e)
 body_cause None slot e le h cause = tt
 body_cause (Some c) slot e le h cause = slot_cause slot c e le h cause
 
@@ -99,7 +99,7 @@ older_gate (suc (suc slot)) c first second both le gate one two is = absurd (ome
 -- the slot that counts, with its commit
 pub chosen : (x : Option (List ℕ)) (slot : ℕ) (first second both : Bool) (commit : Commit) → slot ≤ 1
     → IfSome x (λ c. IsTrue first ↔ IsOpen 0 c) → IfSome x (λ c. IsTrue second ↔ IsOpen 1 c)
-    → (IsTrue both ↔ (IsTrue first × IsTrue second)) → IfSome x (IsNewer slot) → IfSome x (λ c. IsBodyOf commit (body_of slot c))
+    → (IsTrue both ↔ (IsTrue first × IsTrue second)) → IfSome x (IsNewer slot) → IfSome x (λ c. IsBodyOf commit (body_in_slot slot c))
     → IfSome x (λ c. IsChosen c slot both commit)
 chosen None slot first second both commit le one two is newer told = tt
 chosen (Some c) slot first second both commit le one two is newer told = record {

@@ -5,7 +5,7 @@ use Rattle.fish_catalog.specs.declared.row.CatRow.{CatRow}
 use Rattle.fish_cold.specs.Cached.{IsReadFrom}
 use Rattle.fish_cold.specs.declared.cold.Cold.{Cold}
 use Rattle.fish_flush.specs.declared.flusher.Flusher.{Flusher}
-use Rattle.fish_rule.specs.Parts.{IsOlder}
+use Rattle.fish_rule.specs.Parts.{IsOlderPlace}
 use Rattle.fish_rule.specs.Passes.{IsPassOf, view}
 use Rattle.fish_rule.specs.Start.{IsFirstKey}
 use Rattle.fish_rule.specs.Table.{first_view}
@@ -16,11 +16,11 @@ use Rattle.fish_rule.specs.declared.table.Shape.{Shape}
 use Rattle.fish_recover.specs.declared.opened.Opened.{Opened}
 
 -- what is kept of a commit is within the limits of a table of this shape: so many heads, each of a record of the commit
-pub record IsKept (s : Shape) (f : Flusher) : Type 0 where
+pub record IsFlusherKept (s : Shape) (f : Flusher) : Type 0 where
   pub number : f.count ≤ last_number
   pub line : f.line ≤ last_line
   pub heads : length f.heads.items ≡ 2 ^ s.bucket_bits
-  pub older : (b : ℕ) → IsOlder f.line (slice_index f.heads.items b)
+  pub older : (b : ℕ) → IsOlderPlace f.line (slice_index f.heads.items b)
 
 -- the base is where the commit ends
 pub record IsBase (f : Flusher) (base : Base) : Type 0 where
@@ -35,7 +35,7 @@ pub record IsStartAfter (f : Flusher) (rows : List CatRow) (at : ℕ) (start : S
   pub version : start.version ≡ at
 
 -- the commit's records are below the base, and no page of them was read
-pub record IsUnread (f : Flusher) (cold : Cold) : Type 0 where
+pub record IsStoreUnread (f : Flusher) (cold : Cold) : Type 0 where
   pub base : IsBase f cold.base
   pub starts : cold.starts ≡ f.starts.items
   pub none : (c : List ℕ) → IsReadFrom c cold
@@ -48,7 +48,7 @@ pub record OpensAt (f : Flusher) (s : Shape) (start : Start) (made : Bool) (o : 
   pub shape : o.log.shape ≡ s
   pub flusher : o.flusher ≡ f
   pub catalog : o.catalog ≡ start.catalog
-  pub cold : IsUnread f o.cold
+  pub cold : IsStoreUnread f o.cold
   pub made_is : o.made ≡ made
   pub count : o.count ≡ f.count
 

@@ -23,7 +23,7 @@ abbrev pub pages_of : ℕ → ℕ
 pages_of lines = (lines + 32767) / 32768
 
 -- and so what was found is that of some lines
-pub record AreRead (commit : Commit) (checked : Checked) : Type 0 where
+pub record AreLinesRead (commit : Commit) (checked : Checked) : Type 0 where
   pub lines : List ℕ
   pub size : length lines ≤ 32 * commit.lines
   pub held : HasChecked commit (words_in lines) checked
@@ -43,7 +43,7 @@ IsOtherShape asked commit = Differs asked.pages commit.pages ⊎ Differs asked.b
 
 -- the slot counts in the image and its body tells the commit, of the shape that is asked for, and the lines that it
 -- counts were held to it; and whether the other gate is open too
-pub record IsFound (image : List ℕ) (asked : Asked) (found : Found) : Type 0 where
+pub record IsImageFound (image : List ℕ) (asked : Asked) (found : Found) : Type 0 where
   pub body : List ℕ
   pub lines : List ℕ
   pub commit : HasCommit body lines image
@@ -55,9 +55,9 @@ pub record IsFound (image : List ℕ) (asked : Asked) (found : Found) : Type 0 w
 
 -- whatever the disk tells of its content: it is one of the two slots, some body tells the commit, and some lines were
 -- held to it
-pub record IsRead (found : Found) : Type 0 where
+pub record IsFoundRead (found : Found) : Type 0 where
   pub slot : IsSlotRead found.slot found.commit
-  pub lines : AreRead found.commit found.checked
+  pub lines : AreLinesRead found.commit found.checked
 
 -- the slot that counts tells a commit of another shape
 pub record IsOther (image : List ℕ) (asked : Asked) (pages bits : ℕ) : Type 0 where
@@ -72,7 +72,7 @@ pub record IsOther (image : List ℕ) (asked : Asked) (pages bits : ℕ) : Type 
 
 -- the slot that counts tells a commit of the shape that is asked for, and its lines stand for no log: exactly so many
 -- leading entries agree
-pub record IsBroken (image : List ℕ) (asked : Asked) (number : ℕ) : Type 0 where
+pub record IsBrokenImage (image : List ℕ) (asked : Asked) (number : ℕ) : Type 0 where
   pub body : List ℕ
   pub lines : List ℕ
   pub commit : Commit
@@ -93,7 +93,7 @@ IsOfStore OutOfMemory = ⊥
 -- its lines stand for no log; or the disk failed, or memory ran out
 abbrev pub IsOpenCause : List ℕ → Asked → OpenRefusal → Type 0
 IsOpenCause image asked NotAStore = (IsOpen 0 image → ⊥) × (IsOpen 1 image → ⊥)
-IsOpenCause image asked (Damaged n) = ((n ≡ 0) × IsSlotless image) ⊎ IsBroken image asked n
+IsOpenCause image asked (Damaged n) = ((n ≡ 0) × IsSlotless image) ⊎ IsBrokenImage image asked n
 IsOpenCause image asked (ShapeDiffers kept other) = IsOther image asked kept.pages kept.bucket_bits × (other ≡ asked)
 IsOpenCause image asked DiskFault = ⊤
 IsOpenCause image asked OutOfMemory = ⊤

@@ -6,7 +6,7 @@ use Rattle.fish_catalog.specs.declared.commit.Commit.{Commit}
 use Rattle.fish_catalog.specs.declared.entry.Entry.{Entry}
 use Rattle.fish_catalog.specs.declared.row.CatRow.{CatRow}
 use Rattle.fish_cold.specs.Carries.{CarriesTable}
-use Rattle.fish_flush.specs.Carrying.{Carries}
+use Rattle.fish_flush.specs.Carrying.{CarriesLog}
 use Rattle.fish_flush.specs.Kept.{first_commit}
 use Rattle.fish_image.specs.Stands.{Stands}
 use Rattle.fish_rule.specs.Passes.{IsPassOf, view}
@@ -24,15 +24,18 @@ use Rattle.fish_recover.specs.declared.refusal.OpenRefusal.TheVariants.{ShapeDif
 abbrev pub asked_shape : Asked → Shape
 asked_shape asked = record { pages = unwrap_or asked.pages 8; bucket_bits = unwrap_or asked.bucket_bits 12 }
 
+-- the shape of a table of a commit
+abbrev pub shape_of : Commit → Shape
+shape_of c = record { pages = c.pages; bucket_bits = c.bucket_bits }
+
 -- ---- what is open
 
 -- a table begins after a commit: every image stands for this log by the commit, and the table, at its first view,
 -- begins after them at a version, with these rows cut to the commit's count, and has the lines and buckets of the
 -- commit's shape; a checkpoint may follow; what is below the base is looked for in the file, whatever the disk tells of
 -- it, and where its content is told, it is read from there
-pub record IsBegun (at : ℕ) (from : List CatRow) (content : Option (List ℕ)) (images : List ℕ → Type 0) (c : Commit)
-    (log : List Entry)
-    (o : Opened) : Type 0 where
+pub record IsBegunStore (at : ℕ) (from : List CatRow) (content : Option (List ℕ))
+    (images : List ℕ → Type 0) (c : Commit) (log : List Entry) (o : Opened) : Type 0 where
   pub pass : IsPassOf o.log o.pass
   pub first : view o.pass ≡ first_view o.log.key
   pub number : o.log.key.number ≡ c.count
@@ -42,7 +45,7 @@ pub record IsBegun (at : ℕ) (from : List CatRow) (content : Option (List ℕ))
   pub catalog : o.catalog ≡ map (clamped c.count) from
   pub count : o.count ≡ c.count
   pub live : o.flusher.shut ≡ false
-  pub carries : Carries images o.flusher (view o.pass) o.log.shape o.catalog c log
+  pub carries : CarriesLog images o.flusher (view o.pass) o.log.shape o.catalog c log
   pub end : o.log.key.end ≡ c.lines + table_lines c.pages c.count c.lines
   pub buckets : o.log.key.buckets ≡ 2 ^ c.bucket_bits
   pub below_number : o.cold.base.number ≡ o.log.key.number
@@ -51,20 +54,20 @@ pub record IsBegun (at : ℕ) (from : List CatRow) (content : Option (List ℕ))
 
 -- the store is open: its table begins after the commit, at version 0 and with the commit's rows
 abbrev pub IsOpened : Option (List ℕ) → (List ℕ → Type 0) → Commit → List Entry → Opened → Type 0
-IsOpened content images c log o = IsBegun 0 c.rows content images c log o
+IsOpened content images c log o = IsBegunStore 0 c.rows content images c log o
 
 -- the image is none, and a store without a record was made of it; or it stands for this log, by this commit of the
 -- shape that is asked for
-abbrev pub IsOf : Asked → Bool → Commit → List Entry → List ℕ → Type 0
-IsOf asked true c log image = (image ≡ []) × (c ≡ first_commit (asked_shape asked)) × (log ≡ [])
-IsOf asked false c log image = Stands c image log × (IsOtherShape asked c → ⊥)
+abbrev pub IsImageAsked : Asked → Bool → Commit → List Entry → List ℕ → Type 0
+IsImageAsked asked true c log image = (image ≡ []) × (c ≡ first_commit (asked_shape asked)) × (log ≡ [])
+IsImageAsked asked false c log image = Stands c image log × (IsOtherShape asked c → ⊥)
 
 -- a log is open, for which the disk stood before; or it was empty
 pub record HasOpened (old new : Option (List ℕ)) (images : List ℕ → Type 0) (asked : Asked) (o : Opened) : Type 0 where
   pub commit : Commit
   pub log : List Entry
   pub opened : IsOpened new images commit log o
-  pub was : IfSome new (λ _. (i : List ℕ) × (old ≡ Some i) × IsOf asked o.made commit log i)
+  pub was : IfSome new (λ _. (i : List ℕ) × (old ≡ Some i) × IsImageAsked asked o.made commit log i)
 
 -- from a moment on, of which at most one call is before, a crash leaves only images that stand for the log
 pub record StandsSince {D : Type 0} (since : D → ℕ → List ℕ → Type 0) (moment : D → ℕ) (old new : D) (c : Commit)

@@ -6,7 +6,7 @@ ghost use Rattle.fish_disk.specs.Content.{StillReads};
 ghost use Rattle.fish_disk.specs.Crash.{LeavesOnly};
 ghost use Rattle.fish_image.specs.Reading.{IsBodyOf};
 ghost use Rattle.fish_slots.specs.Commits.{next_turn, turn_of};
-ghost use Rattle.fish_slots.specs.Slots.{IsOpen, body_of};
+ghost use Rattle.fish_slots.specs.Slots.{IsOpen, body_in_slot};
 ghost use Rattle.fish_recover.specs.Choosing.{HasOpenCause, IsSlotRead};
 ghost use Rattle.fish_recover.specs.within.Choosing.{IsBodyCause, IsChosen, IsNewer, IsSlotCause};
 
@@ -106,7 +106,7 @@ fn follows(turn: u64, other: u64) -> bool
 /// The turn that a slot's body says. One call of the disk.
 fn turn_at<D: Disk>(disk: &mut D, slot: u8) -> Result<u64, Failed>
     requires { slot ≤ 1 }
-    ensures turn { IfOk result (λ turn. IfSome (D.content disk.new) (λ c. turn ≡ turn_of (body_of slot c))) }
+    ensures turn { IfOk result (λ turn. IfSome (D.content disk.new) (λ c. turn ≡ turn_of (body_in_slot slot c))) }
     ensures content { StillReads (D.content disk.old) (D.content disk.new) }
     ensures crash { LeavesOnly D.images D.since D.moment disk.old disk.new (D.images disk.old) }
     ensures calls { D.moment disk.new ≤ D.moment disk.old + 1 }
@@ -153,9 +153,9 @@ fn are_both(gates: Gates) -> bool
 /// The commit that a slot's body tells. One call of the disk.
 fn read_commit<D: Disk>(alloc: Global, disk: &mut D, slot: u8) -> Result<Commit, OpenRefusal>
     requires { slot ≤ 1 }
-    ensures body { IfOk result (λ commit. IfSome (D.content disk.new) (λ c. IsBodyOf commit (body_of slot c))) }
+    ensures body { IfOk result (λ commit. IfSome (D.content disk.new) (λ c. IsBodyOf commit (body_in_slot slot c))) }
     ensures read { IfOk result (λ commit. (b : List ℕ) × IsBodyOf commit b) }
-    ensures refused { IfErr result (λ e. IfSome (D.content disk.new) (λ c. IsBodyCause (body_of slot c) e)) }
+    ensures refused { IfErr result (λ e. IfSome (D.content disk.new) (λ c. IsBodyCause (body_in_slot slot c) e)) }
     ensures content { StillReads (D.content disk.old) (D.content disk.new) }
     ensures crash { LeavesOnly D.images D.since D.moment disk.old disk.new (D.images disk.old) }
     ensures calls { D.moment disk.new ≤ D.moment disk.old + 1 }

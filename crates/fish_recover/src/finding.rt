@@ -5,7 +5,7 @@ ghost use Rattle.fish_disk.specs.Content.{StillReads};
 ghost use Rattle.fish_disk.specs.Crash.{LeavesOnly};
 ghost use Rattle.fish_recover.specs.Choosing.{HasOpenCause, IsSlotRead};
 ghost use Rattle.fish_recover.specs.within.Choosing.{IsChosen};
-ghost use Rattle.fish_recover.specs.Opening.{IsFound, IsOpenCause, IsOtherShape, IsRead, pages_of};
+ghost use Rattle.fish_recover.specs.Opening.{IsImageFound, IsOpenCause, IsOtherShape, IsFoundRead, pages_of};
 
 use crate::choosing::{Chosen, find_slot};
 use crate::lines::check_lines;
@@ -30,8 +30,8 @@ pub struct Found {
 
 /// What a disk holds. It syncs first, writes nothing, and reads the lines a page at a time.
 pub fn find_store<D: Disk>(alloc: Global, asked: Asked, disk: &mut D) -> Result<Found, OpenRefusal>
-    ensures found { IfOk result (λ f. IfSome (D.content disk.new) (λ c. IsFound c asked f)) }
-    ensures read { IfOk result IsRead }
+    ensures found { IfOk result (λ f. IfSome (D.content disk.new) (λ c. IsImageFound c asked f)) }
+    ensures read { IfOk result IsFoundRead }
     ensures synced { OnOk result ((c : List ℕ) → D.images disk.new c → D.content disk.new ≡ Some c) }
     ensures content { StillReads (D.content disk.old) (D.content disk.new) }
     ensures crash { LeavesOnly D.images D.since D.moment disk.old disk.new (D.images disk.old) }
@@ -56,8 +56,8 @@ fn hold<D: Disk>(
     requires chosen { IfSome (D.content disk.old) (λ c. IsChosen c chosen.slot chosen.both chosen.commit) }
     requires read { IsSlotRead chosen.slot chosen.commit }
     requires synced { (c : List ℕ) → D.images disk.old c → D.content disk.old ≡ Some c }
-    ensures found { IfOk result (λ f. IfSome (D.content disk.new) (λ c. IsFound c asked f)) }
-    ensures read { IfOk result IsRead }
+    ensures found { IfOk result (λ f. IfSome (D.content disk.new) (λ c. IsImageFound c asked f)) }
+    ensures read { IfOk result IsFoundRead }
     ensures synced { OnOk result ((c : List ℕ) → D.images disk.new c → D.content disk.new ≡ Some c) }
     ensures content { StillReads (D.content disk.old) (D.content disk.new) }
     ensures crash { LeavesOnly D.images D.since D.moment disk.old disk.new (D.images disk.old) }

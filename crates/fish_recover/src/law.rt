@@ -4,7 +4,7 @@ ghost use Rattle.std.specs.Prelude.{◌≡◌, ℕ, List, []};
 ghost use Rattle.fish_catalog.specs.declared.commit.Commit.{Commit};
 ghost use Rattle.fish_catalog.specs.declared.entry.Entry.{Entry};
 ghost use Rattle.fish_image.specs.Stands.{Stands};
-ghost use Rattle.fish_recover.specs.Opening.{IsFound, IsOfStore, IsOpenCause, IsOtherShape};
+ghost use Rattle.fish_recover.specs.Opening.{IsImageFound, IsOfStore, IsOpenCause, IsOtherShape};
 ghost use Rattle.fish_recover.specs.Stores.{IsStoreCause};
 ghost use Rattle.fish_recover.specs.declared.finding.Found.{Found};
 ghost use Rattle.fish_recover.specs.declared.refusal.Asked.{Asked};
@@ -16,7 +16,7 @@ pub fn causes_exclude()
     ensures one { (image : List ℕ) (asked : Asked) (e f : OpenRefusal) → IsOfStore e → IsOfStore f
         → IsOpenCause image asked e → IsOpenCause image asked f → e ≡ f }
     ensures found { (image : List ℕ) (asked : Asked) (found : Found) (e : OpenRefusal) → IsOfStore e
-        → IsFound image asked found → IsOpenCause image asked e → ⊥ }
+        → IsImageFound image asked found → IsOpenCause image asked e → ⊥ }
 {}
 
 /// An image stands for one log at most; where it stands for one of the shape that is asked for, no refusal that speaks

@@ -9,8 +9,8 @@ ghost use Rattle.fish_image.specs.Commits.{IsWithin};
 ghost use Rattle.fish_image.specs.Stands.{words_in as all_words};
 ghost use Rattle.fish_slots.specs.Offsets.{lines_at};
 ghost use Rattle.fish_recover.specs.Choosing.{HasOpenCause};
-ghost use Rattle.fish_recover.specs.Opening.{AreRead};
-ghost use Rattle.fish_recover.specs.within.Opening.{HasRead, IsLinesCause, IsOutside, IsPieceCause, IsSame};
+ghost use Rattle.fish_recover.specs.Opening.{AreLinesRead};
+ghost use Rattle.fish_recover.specs.within.Opening.{HasReadLines, IsLinesCause, IsOutside, IsPieceCause, IsSameRefusal};
 ghost use Rattle.fish_recover.specs.within.Opening.{first_words};
 ghost use Rattle.fish_recover.specs.Opening.{pages_of};
 
@@ -31,7 +31,7 @@ pub(crate) fn check_lines<D: Disk>(
     requires { IsWithin commit.now }
     ensures found { IfOk result (λ checked. IfSome (D.content disk.new)
         (λ c. HasChecked commit.now (first_words commit.now.lines c) checked)) }
-    ensures read { IfOk result (AreRead commit.now) }
+    ensures read { IfOk result (AreLinesRead commit.now) }
     ensures refused { IfErr result (λ e. IfSome (D.content disk.new)
         (λ c. IsLinesCause commit.now (first_words commit.now.lines c) e)) }
     ensures content { StillReads (D.content disk.old) (D.content disk.new) }
@@ -72,7 +72,7 @@ fn feed_lines<D: Disk>(
     ensures fed { IfOk result (λ _. (commit : Told) → IfSome (D.content disk.new) (λ c.
         HasSeen commit checker.old (first_words line c) → HasSeen commit checker.new (first_words (line + count) c))) }
     ensures read { OnOk result ((commit : Told)
-        → HasRead commit checker.old line → HasRead commit checker.new (line + count)) }
+        → HasReadLines commit checker.old line → HasReadLines commit checker.new (line + count)) }
     ensures refused { IfErr result (λ e. (commit : Told) → IfSome (D.content disk.new) (λ c.
         HasSeen commit checker.old (first_words line c) → IsPieceCause commit (first_words (line + count) c) e)) }
     ensures checker { IsChecker checker.new }
@@ -116,7 +116,7 @@ fn read_words<D: Disk>(
 
 /// The same refusal, of a store.
 fn refusal_of(refusal: ImageRefusal) -> OpenRefusal
-    ensures { IsSame refusal result }
+    ensures { IsSameRefusal refusal result }
 {
     match refusal {
         ImageRefusal::Damaged { number } => OpenRefusal::Damaged { number },

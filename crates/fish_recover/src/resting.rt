@@ -5,7 +5,7 @@
 ghost use Rattle.std.specs.Prelude.{◌≡◌, ◌≤◌, ◌*◌, ◌+◌, ℕ, List, IfErr, OnOk, length};
 ghost use Rattle.fish_outside.specs.Causes.{HasCause};
 ghost use Rattle.fish_disk.specs.Crash.{LeavesOnly};
-ghost use Rattle.fish_slots.specs.Commits.{HasCommit, Rests};
+ghost use Rattle.fish_slots.specs.Commits.{HasCommit, SlotRests};
 ghost use Rattle.fish_slots.specs.Offsets.{lines_at};
 ghost use Rattle.fish_slots.specs.Slots.{line_count};
 ghost use Rattle.fish_recover.specs.Choosing.{HasOpenCause};
@@ -68,7 +68,7 @@ fn fill<D: Disk>(alloc: Global, disk: &mut D, slot: u8) -> Result<(), OpenRefusa
     ensures rests { OnOk result ((b w : List ℕ) → AreAtRest (D.images disk.old) slot b w
         → AreAtRest (D.images disk.new) slot b w × AreLong (D.images disk.new) b) }
     ensures crash { (b w : List ℕ) → AreAtRest (D.images disk.old) slot b w
-        → LeavesOnly D.images D.since D.moment disk.old disk.new (Rests slot b w) }
+        → LeavesOnly D.images D.since D.moment disk.old disk.new (SlotRests slot b w) }
     ensures calls { D.moment disk.new ≤ D.moment disk.old + 3 }
     ensures before { (i : List ℕ) → D.images disk.new i → (o : List ℕ) × D.images disk.old o }
     ensures refused { IfErr result IsOutside }

@@ -9,7 +9,7 @@ ghost use Rattle.fish_flush.specs.Kept.{first_commit};
 ghost use Rattle.fish_image.specs.Stands.{Stands};
 ghost use Rattle.fish_rule.specs.Start.{IsShape};
 ghost use Rattle.fish_recover.specs.Choosing.{HasOpenCause};
-ghost use Rattle.fish_recover.specs.Opening.{IsOfStore, IsOpenCause, IsRead, pages_of};
+ghost use Rattle.fish_recover.specs.Opening.{IsOfStore, IsOpenCause, IsFoundRead, pages_of};
 ghost use Rattle.fish_recover.specs.within.Opening.{IsOutside};
 ghost use Rattle.fish_recover.specs.Stores.{HasOpened, IsOpened, IsStoreCause, StandsSince};
 ghost use Rattle.fish_recover.specs.within.Stores.{IsFlushed, Resumes};
@@ -149,7 +149,7 @@ fn open_kept<D: Disk>(alloc: Global, asked: Asked, disk: &mut D) -> Result<Opene
 
 /// The table of a store that was found and is at rest.
 fn resume(alloc: Global, found: Found) -> Result<Opened, AllocError>
-    requires { IsRead found }
+    requires { IsFoundRead found }
     ensures { IfOk result (Resumes found) }
 {
     let Found {

@@ -4,7 +4,7 @@
 ghost use Rattle.std.specs.Prelude.{◌≡◌, ◌≤◌, IfOk};
 ghost use Rattle.fish_rule.specs.Start.{CanOpen, IsShape};
 ghost use Rattle.fish_rule.specs.declared.table.Shape.{Shape as Formed};
-ghost use Rattle.fish_recover.specs.Beginning.{BeginsAt, IsBase, IsKept, IsStartAfter, IsUnread, OpensAt};
+ghost use Rattle.fish_recover.specs.Beginning.{BeginsAt, IsBase, IsFlusherKept, IsStartAfter, IsStoreUnread, OpensAt};
 
 use crate::opened::Opened;
 use fish_catalog::{Catalog, PageStart, PageStarts};
@@ -31,7 +31,7 @@ pub fn begin_table(
 ) -> Result<Opened, AllocError>
     requires shape { IsShape shape }
     requires few { version ≤ 512 }
-    requires kept { IsKept shape flusher }
+    requires kept { IsFlusherKept shape flusher }
     ensures { IfOk result (BeginsAt flusher shape rows version made) }
 {
     match start_at(alloc, &flusher, rows, version) {
@@ -59,7 +59,7 @@ fn start_at(
 ) -> Result<Start, AllocError>
     requires few { version ≤ 512 }
     ensures after { IfOk result (IsStartAfter flusher.now rows version) }
-    ensures can { IfOk result (λ start. (s : Formed) → IsKept s flusher.now → CanOpen s start) }
+    ensures can { IfOk result (λ start. (s : Formed) → IsFlusherKept s flusher.now → CanOpen s start) }
 {
     match copied_heads(alloc, flusher.heads()) {
         Ok(heads) => {
@@ -113,7 +113,7 @@ fn copied_starts(alloc: Global, starts: &[PageStart]) -> Result<PageStarts, Allo
 /// The older records, of which no page was read.
 fn cold_at(alloc: Global, flusher: &Flusher) -> Result<Cold, AllocError>
     requires { flusher.now.line ≤ 68719176736 }
-    ensures { IfOk result (IsUnread flusher.now) }
+    ensures { IfOk result (IsStoreUnread flusher.now) }
 {
     let starts = copied_starts(alloc, flusher.starts())?;
     Cold::new(alloc, base_of(flusher), starts)
@@ -130,7 +130,7 @@ fn open_at(
 ) -> Result<Opened, AllocError>
     requires shape { IsShape shape }
     requires start { CanOpen shape start }
-    requires cold { IsUnread flusher cold }
+    requires cold { IsStoreUnread flusher cold }
     ensures { IfOk result (OpensAt flusher shape start made) }
 {
     match open_log(alloc, shape, &start) {

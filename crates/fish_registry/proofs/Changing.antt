@@ -1,7 +1,7 @@
 -- Views that go on as the control pass changes the registry.
 use Rattle.std.proofs.Common.{◌≡◌, ℕ, ◌≤◌, List, [], ◌∷◌, inr, Option, Some, refl, sym, ap, ◌∙◌, subst, arith}
 use Rattle.fish_catalog.specs.declared.listed.Listed.{Listed}
-use Rattle.fish_registry.specs.Changing.{Changes, HasCounted, IsAtTail, Stays}
+use Rattle.fish_registry.specs.Changing.{Changes, HasLoadedTail, IsAtTail, OnlyLoads}
 use Rattle.fish_registry.specs.within.Looking.{Looks}
 use Rattle.fish_rule.proofs.laws.Clocks.{later_both, later_noted, loaded_within, noted_load}
 use Rattle.fish_rule.specs.Clocks.{HasLoaded, IsLater}
@@ -9,7 +9,7 @@ use Rattle.fish_rule.specs.RegistrySteps.{after_load_version}
 use Rattle.fish_rule.specs.Epochs.{confirmed}
 use Rattle.fish_rule.specs.Logs.{Learns}
 use Rattle.fish_rule.specs.LoadSteps.{after_load_tail}
-use Rattle.fish_rule.specs.Parts.{Rests}
+use Rattle.fish_rule.specs.Parts.{RestsAt}
 use Rattle.fish_rule.specs.SpaceSteps.{noted}
 use Rattle.fish_rule.specs.Views.{Among}
 use Rattle.fish_rule.specs.World.{high, low}
@@ -63,7 +63,7 @@ changes_from v u rows control_words round tail count version words opens clock i
     }
 
 -- and so does one that is another one but for its clock
-pub changes_stays : (v u : View) → Stays v u → Changes v u
+pub changes_stays : (v u : View) → OnlyLoads v u → Changes v u
 changes_stays v u h = changes_from v u v.rows v.control_words v.round v.tail v.learned.count v.learned.version v.learned.words
     v.learned.opens u.clock h.frame (omega arith) (omega arith) (λ x m. m) (λ o m. m) h.clock h.loads
 
@@ -132,7 +132,7 @@ learns_changes v u h =
     })
 
 -- the control pass, which is out, finds the version that it knows, and nothing else changes
-pub stays_version : (v u : View) (x : ℕ) → v.epoch ≡ Out → x ≡ v.learned.version → u ≡ after_load_version v x → Stays v u
+pub stays_version : (v u : View) (x : ℕ) → v.epoch ≡ Out → x ≡ v.learned.version → u ≡ after_load_version v x → OnlyLoads v u
 stays_version v u x outside same is =
     let epoch : confirmed v.epoch x ≡ v.epoch = ap (λ (e : Epoch). confirmed e x) outside ∙ sym outside in
     let clock_is : u.clock ≡ Rattle.fish_rule.specs.SpaceSteps.noted v.clock Version x = ap (λ (z : View). z.clock) is in
@@ -147,7 +147,7 @@ stays_version v u x outside same is =
     }
 
 -- a load of the tail counts
-pub counted_end : (v u : View) (x n : ℕ) → u ≡ after_load_tail v x → n ≡ high x → HasCounted v u n
+pub counted_end : (v u : View) (x n : ℕ) → u ≡ after_load_tail v x → n ≡ high x → HasLoadedTail v u n
 counted_end v u x n is same = record {
   tail = x;
   loaded = subst (λ (z : Clock). HasLoaded v.clock z Tail x) (sym (ap (λ (z : View). z.clock) is))
@@ -156,8 +156,8 @@ counted_end v u x n is same = record {
 }
 
 -- and so it does between two views that lie further apart
-pub counted_within : (a b c d : View) (n : ℕ) → IsLater a.clock b.clock → HasCounted b c n → IsLater c.clock d.clock
-    → HasCounted a d n
+pub counted_within : (a b c d : View) (n : ℕ) → IsLater a.clock b.clock → HasLoadedTail b c n → IsLater c.clock d.clock
+    → HasLoadedTail a d n
 counted_within a b c d n p h q = record {
   tail = h.tail;
   loaded = loaded_within a.clock b.clock c.clock d.clock Tail h.tail p h.loaded q;
@@ -165,8 +165,8 @@ counted_within a b c d n p h q = record {
 }
 
 -- a tail that a pass finds where it was left is the one that it knew
-pub at_tail : (v : View) (number line : ℕ) → Rests number line v.tail → IsAtTail v number
-at_tail v number line rests at is = sym (subst (Rests number line) is rests).0
+pub at_tail : (v : View) (number line : ℕ) → RestsAt number line v.tail → IsAtTail v number
+at_tail v number line rests at is = sym (subst (RestsAt number line) is rests).0
 
 -- and so it is for a view with the same tail
 pub same_tail : (v u : View) (n : ℕ) → u.tail ≡ v.tail → IsAtTail u n → IsAtTail v n

@@ -13,13 +13,13 @@ use Rattle.fish_catalog.specs.Words.{bound_word, row_word}
 use Rattle.fish_catalog.specs.declared.listed.Listed.{Listed}
 use Rattle.fish_catalog.specs.declared.row.CatRow.{CatRow}
 use Rattle.fish_layout.proofs.Clearing.{choose_first, choose_second}
-use Rattle.fish_registry.specs.Changing.{Stays}
+use Rattle.fish_registry.specs.Changing.{OnlyLoads}
 use Rattle.fish_registry.specs.Knowing.{Awaits, HasBegunBy, IsAwaited, IsWaitingFor, KnowsFirst}
 use Rattle.fish_registry.specs.within.Knowing.{KnowsOn}
 use Rattle.fish_registry.specs.Knowing.{KnowsRows}
 use Rattle.fish_registry.specs.Looking.{at_lane}
 use Rattle.fish_registry.specs.within.Looking.{HasBound, Looks}
-use Rattle.fish_registry.specs.within.Rows.{HasEnded, HasRegistered, HasTailed, MayEnd}
+use Rattle.fish_registry.specs.within.Rows.{HasEnded, HasAddedRow, HasTailed, MayEndRow}
 use Rattle.fish_registry.specs.declared.registrar.Registrar.{Registrar}
 use Rattle.fish_registry.specs.declared.registrar.Waiting.{Waiting}
 use Rattle.fish_rule.proofs.laws.Versions.{drafted_here, set_here}
@@ -77,7 +77,7 @@ knows_on v u r lane same control_words round learns h =
     knows_rows v u r.catalog r.waiting lane same control_words round learns.count learns.words h
 
 -- so it does where nothing but the clock changed
-pub knows_stays : (v u : View) (rows : List CatRow) (waiting : Option Waiting) → Stays v u → KnowsRows v rows waiting
+pub knows_stays : (v u : View) (rows : List CatRow) (waiting : Option Waiting) → OnlyLoads v u → KnowsRows v rows waiting
     → KnowsRows u rows waiting
 knows_stays v u rows waiting stays h = knows_rows v u rows waiting (ap (λ (z : View). z.lane) stays.frame)
     (ap (λ (z : View). z.rows) stays.frame) (ap (λ (z : View). z.control_words) stays.frame)
@@ -159,7 +159,7 @@ listed_more (x ∷ rows) row = ap (λ ls. listed_of x ∷ ls) (listed_more rows 
 
 -- no registration waited, and now that of the new row does
 pub knows_begun : (v u : View) (rows : List CatRow) (name def : List ℕ) (id version : ℕ) → KnowsRows v rows None
-    → id ≡ length rows → version ≡ v.learned.version → HasRegistered v (new_row (length rows) name def) u
+    → id ≡ length rows → version ≡ v.learned.version → HasAddedRow v (new_row (length rows) name def) u
     → ((n i : ℕ) → length v.rows ≤ n → n < 256 → i < 2 → control_word v.control_words (row_at n i) ≡ 0) → length rows < 256
     → KnowsRows u (rows ++ new_row (length rows) name def ∷ []) (Some (record { id = id; version = version + 1; lane = 2 }))
 knows_begun v u rows name def id version h is_id is_version made unset room =
@@ -323,13 +323,13 @@ on_of v rows id row h there active = subst (λ (ls : List Listed). IsOnAt ls id)
 
 -- so its index may end at the count of the tail
 pub may_end : (v : View) (rows : List CatRow) (id to : ℕ) (row : CatRow) → IsListing v.rows → KnowsRows v rows None
-    → slice_get rows id ≡ Some row → row.to ≡ None → v.about.number ≤ to → to ≡ v.learned.count → MayEnd v id to
+    → slice_get rows id ≡ Some row → row.to ≡ None → v.about.number ≤ to → to ≡ v.learned.count → MayEndRow v id to
 may_end v rows id to row listing h there active above counted = by row.from refl
   where
     size : length v.rows ≡ length rows
     size = ap (λ (ls : List Listed). length ls) (sym h.listed) ∙ length-map rows listed_of
 
-    by : (from : Option ℕ) → row.from ≡ from → MayEnd v id to
+    by : (from : Option ℕ) → row.from ≡ from → MayEndRow v id to
     by None none = elim (h.begun id row there none) [ ]
     by (Some n) is =
         let inside = slice_get_within rows id row there in

@@ -5,7 +5,7 @@ use Rattle.fish_layout.proofs.Clearing.{choose_second}
 use Rattle.fish_layout.specs.Cleared.{choose}
 use Rattle.fish_registry.specs.Knowing.{IsAwaited}
 use Rattle.fish_registry.specs.Looking.{at_lane}
-use Rattle.fish_registry.specs.within.Looking.{IsOlder, Looks}
+use Rattle.fish_registry.specs.within.Looking.{IsOlderLane, Looks}
 use Rattle.fish_registry.specs.declared.registrar.Waiting.{Waiting}
 use Rattle.fish_rule.proofs.laws.Clocks.{later_both, later_noted, later_self, loaded_within, noted_load}
 use Rattle.fish_rule.specs.BoundarySteps.{after_check_lane, checked_after, with_lane}
@@ -37,7 +37,7 @@ module _ (v u z : View) (w : Waiting) (l x : ℕ) (looks : Looks v u) (is : z �
     round_is = ap (λ (y : View). y.round) is ∙ ap (checked_after l x) awaited.waits
 
     -- the lane is at an older version
-    pub older_here : x ≢ 0 → x ≤ w.version → IsOlder v w z (record { lane = l; version = x - 1 })
+    pub older_here : x ≢ 0 → x ≤ w.version → IsOlderLane v w z (record { lane = l; version = x - 1 })
     older_here some_ less =
         let same = awaited.version in
         let back : suc (x - 1) ≡ x = omega arith in

@@ -3,7 +3,7 @@ use Rattle.std.proofs.Common.{◌≡◌, ℕ, zero, suc, ◌+◌, ◌-◌, ◌*�
 use Rattle.std.proofs.Common.{◌∷◌, ◌++◌, Option, is_none, true, length, slice_index, sym, ap, ◌∙◌, subst, arith}
 use Rattle.std.proofs.Math.Decide.{ℕ_discrete, dec_lt}
 use Rattle.fish_catalog.proofs.RowWords.{listed_same, name_back, text_back}
-use Rattle.fish_catalog.specs.Listing.{IsNew, ended_at, listed_in}
+use Rattle.fish_catalog.specs.Listing.{IsNewName, ended_at, listed_in}
 use Rattle.fish_catalog.specs.Rows.{is_active}
 use Rattle.fish_catalog.specs.Words.{IsWritable, bit_of, name_in, row_word, text_in}
 use Rattle.fish_catalog.specs.declared.listed.Listed.{Listed}
@@ -12,7 +12,7 @@ use Rattle.fish_layout.proofs.Clearing.{choose_first, choose_second}
 use Rattle.fish_layout.specs.Bytes.{word_at}
 use Rattle.fish_layout.specs.Cleared.{choose}
 use Rattle.fish_registry.proofs.Changing.{changes_from}
-use Rattle.fish_registry.specs.within.Rows.{HasDrafted, HasRegistered, MayMake, MayRegister}
+use Rattle.fish_registry.specs.within.Rows.{HasDrafted, HasAddedRow, MayMake, MayRegisterRow}
 use Rattle.fish_rule.proofs.laws.Clocks.{later_both, later_ticked}
 use Rattle.fish_rule.specs.RegistrySteps.{CanRaiseVersion, CanDefineWord, after_raise_version, after_define_word}
 use Rattle.fish_rule.specs.RegistrySteps.{next_operation}
@@ -35,7 +35,7 @@ words_else row other name text active (suc (suc (suc k))) low =
 pub record IsDrafted (v : View) (row : CatRow) (version id : ℕ) (u : View) : Type 0 where
   pub is_id : id ≡ row.id
   pub make : MayMake v version
-  pub may : MayRegister v row
+  pub may : MayRegisterRow v row
   pub writable : IsWritable row
   pub words : List ℕ
   pub says : (i : ℕ) → i < 39 → slice_index words i ≡ row_word row i
@@ -90,9 +90,9 @@ module _ (v : View) (row : CatRow) (version id : ℕ) (u : View) (is : IsDrafted
       (control_word u.control_words (op_at (suc u.learned.version))) (let e = reached in omega arith)
       ∙ ap (λ (n : ℕ). 256 + n) (is.is_id ∙ is.may.id)
 
-  may_register : IsNew v.rows (name_in in_row) (text_in in_row)
+  may_register : IsNewName v.rows (name_in in_row) (text_in in_row)
   may_register =
-      subst (λ (l : Listed). IsNew v.rows l.name l.def) (sym (listed 0)) is.may.new
+      subst (λ (l : Listed). IsNewName v.rows l.name l.def) (sym (listed 0)) is.may.new
 
   active : is_active row ≡ true
   active = ap (λ (t : Option ℕ). is_none t) is.may.active
@@ -147,7 +147,7 @@ module _ (v : View) (row : CatRow) (version id : ℕ) (u : View) (is : IsDrafted
         bound = None;
       } in Some o)
 
-  pub registered : HasRegistered v row (after_raise_version behind)
+  pub registered : HasAddedRow v row (after_raise_version behind)
   registered =
       let u' : View = after_raise_version behind in
       let h = is.control_word in

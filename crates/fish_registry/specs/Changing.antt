@@ -33,13 +33,13 @@ pub record Changes (v u : View) : Type 0 where
   pub loads : u.clock.loads ≡ v.clock.loads
 
 -- the second view is the first but for its clock
-pub record Stays (v u : View) : Type 0 where
+pub record OnlyLoads (v u : View) : Type 0 where
   pub frame : u ≡ record v { clock = u.clock }
   pub clock : IsLater v.clock u.clock
   pub loads : u.clock.loads ≡ v.clock.loads
 
 -- the number is the count of the tail that was loaded in between
-pub record HasCounted (v u : View) (n : ℕ) : Type 0 where
+pub record HasLoadedTail (v u : View) (n : ℕ) : Type 0 where
   pub tail : ℕ
   pub loaded : HasLoaded v.clock u.clock Tail tail
   pub is : n ≡ high tail

@@ -37,15 +37,15 @@ Awaits v None = v.round ≡ None
 Awaits v (Some w) = IsAwaited v w
 
 -- a boundary that is set is one that the pass has read
-abbrev pub IsRead : View → ℕ → Option ℕ → Type 0
-IsRead v p bound = (n : ℕ) → bound ≡ Some n → Among (record { index = p; value = suc n }) v.learned.words
+abbrev pub IsBoundRead : View → ℕ → Option ℕ → Type 0
+IsBoundRead v p bound = (n : ℕ) → bound ≡ Some n → Among (record { index = p; value = suc n }) v.learned.words
 
 -- the boundaries of the row with an id are those that the pass stored last, and it has read them
 pub record HasBounds (v : View) (id : ℕ) (row : CatRow) : Type 0 where
   pub from : control_word v.control_words (row_at id 0) ≡ bound_word row.from
   pub to : control_word v.control_words (row_at id 1) ≡ bound_word row.to
-  pub read_from : IsRead v (row_at id 0) row.from
-  pub read_to : IsRead v (row_at id 1) row.to
+  pub read_from : IsBoundRead v (row_at id 0) row.from
+  pub read_to : IsBoundRead v (row_at id 1) row.to
   pub counted : (n : ℕ) → row.from ≡ Some n → n ≤ v.learned.count
 
 -- these rows, and the registration that waits, are what the control pass knows

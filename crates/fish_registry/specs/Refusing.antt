@@ -7,7 +7,7 @@ use Rattle.fish_lang.specs.Canonical.{definition_text}
 use Rattle.fish_lang.specs.Definition.{definition_of}
 use Rattle.fish_lang.specs.Language.{IsAccepted}
 use Rattle.fish_lang.specs.declared.definition.Def.{Def}
-use Rattle.fish_registry.specs.Changing.{HasCounted, IsAtTail}
+use Rattle.fish_registry.specs.Changing.{HasLoadedTail, IsAtTail}
 use Rattle.fish_registry.specs.Knowing.{IsWaiting}
 use Rattle.fish_registry.specs.Looking.{at_lane}
 use Rattle.fish_registry.specs.declared.outcome.Poll.{Poll}
@@ -38,7 +38,7 @@ pub record MayChange (r : Registrar) (v : View) : Type 0 where
   pub few : v.learned.version < 512
 
 -- the definition is the next row, and its registration waits
-pub record HasBegun (v : View) (r : Registrar) (name : List ℕ) (def : Def) (u : View) (s : Registrar) (id : ℕ)
+pub record HasBegunChange (v : View) (r : Registrar) (name : List ℕ) (def : Def) (u : View) (s : Registrar) (id : ℕ)
     : Type 0 where
   pub is_id : id ≡ length r.catalog
   pub rows : s.catalog ≡ r.catalog ++ new_row (length r.catalog) name (definition_text (definition_of def)) ∷ []
@@ -54,13 +54,13 @@ PollSays v r u s (poll.NotYet seat version) = (w : Waiting) × (r.waiting ≡ So
     × (s.waiting ≡ Some (at_lane w seat)) × (s.catalog ≡ r.catalog)
     × HasLoaded v.clock u.clock (Epoch seat) (suc version) × (version < w.version)
 PollSays v r u s (poll.Bound id from) = IsWaiting r id × (s.waiting ≡ None) × (s.catalog ≡ with_from r.catalog id from)
-    × HasCounted v u from × (u.learned.count ≡ from)
+    × HasLoadedTail v u from × (u.learned.count ≡ from)
 
 -- no lane was found at an older version
-abbrev pub IsClear : Poll → Type 0
-IsClear poll.Idle = ⊤
-IsClear (poll.NotYet seat version) = ⊥
-IsClear (poll.Bound id from) = ⊤
+abbrev pub IsPollClear : Poll → Type 0
+IsPollClear poll.Idle = ⊤
+IsPollClear (poll.NotYet seat version) = ⊥
+IsPollClear (poll.Bound id from) = ⊤
 
 -- an index that begins now begins at the tail that the pass knew
 abbrev pub BeginsAtTail : View → Poll → Type 0

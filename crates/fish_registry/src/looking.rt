@@ -4,7 +4,7 @@ ghost use Rattle.std.specs.Prelude.{◌≡◌, IfSome, IsNone};
 ghost use Rattle.fish_registry.specs.Changing.{IsAtTail};
 ghost use Rattle.fish_registry.specs.Knowing.{IsAwaited};
 ghost use Rattle.fish_registry.specs.Looking.{at_lane};
-ghost use Rattle.fish_registry.specs.within.Looking.{HasBound, IsOlder, Looks};
+ghost use Rattle.fish_registry.specs.within.Looking.{HasBound, IsOlderLane, Looks};
 ghost use Rattle.fish_rule.specs.Passes.{IsPassOf, view};
 ghost use Rattle.fish_rule.specs.LoadSteps.{IsAlone};
 ghost use Rattle.fish_rule.specs.declared.view.Epoch.TheVariants.{Out};
@@ -26,7 +26,7 @@ pub(crate) fn first_older(log: &Log, pass: &mut Pass, waiting: Waiting) -> Optio
     requires waits { IsAwaited (view pass.old) waiting }
     ensures pass { IsPassOf log.now pass.new }
     ensures looks { Looks (view pass.old) (view pass.new) }
-    ensures older { IfSome result (IsOlder (view pass.old) waiting (view pass.new)) }
+    ensures older { IfSome result (IsOlderLane (view pass.old) waiting (view pass.new)) }
     ensures clear { IsNone result → IsAwaited (view pass.new) (at_lane waiting 17) }
     ensures alone { IsAlone (view pass.old) → (view pass.old).epoch ≡ Out → IsNone result }
 {

@@ -7,9 +7,9 @@ ghost use Rattle.fish_catalog.specs.Limits.{most_active};
 ghost use Rattle.fish_catalog.specs.Rows.{HasActive, IsActiveNamed, IsName, is_active, new_row};
 ghost use Rattle.fish_lang.specs.Canonical.{definition_text};
 ghost use Rattle.fish_lang.specs.Definition.{definition_of};
-ghost use Rattle.fish_registry.specs.Changing.{Changes, HasCounted, IsAtTail, Stays};
+ghost use Rattle.fish_registry.specs.Changing.{Changes, HasLoadedTail, IsAtTail, OnlyLoads};
 ghost use Rattle.fish_registry.specs.Knowing.{IsWaiting, Knows, KnowsFirst};
-ghost use Rattle.fish_registry.specs.Refusing.{BeginsAtTail, HasBegun, IsClear, IsOfEnds, IsSaid};
+ghost use Rattle.fish_registry.specs.Refusing.{BeginsAtTail, HasBegunChange, IsPollClear, IsOfEnds, IsSaid};
 ghost use Rattle.fish_registry.specs.within.Refusing.{IsOfRows, IsOfVersions};
 ghost use Rattle.fish_registry.specs.Refusing.{MayChange, PollSays};
 ghost use Rattle.fish_rule.specs.Passes.{IsPassOf, view};
@@ -93,8 +93,8 @@ impl Registrar {
         ensures knows { Knows (view pass.new) self.new }
         ensures changes { Changes (view pass.old) (view pass.new) }
         ensures begun { IfOk result
-            (HasBegun (view pass.old) self.old name.now def.now (view pass.new) self.new) }
-        ensures refused { OnErr result ((self.new ≡ self.old) × Stays (view pass.old) (view pass.new)) }
+            (HasBegunChange (view pass.old) self.old name.now def.now (view pass.new) self.new) }
+        ensures refused { OnErr result ((self.new ≡ self.old) × OnlyLoads (view pass.old) (view pass.new)) }
         ensures rolling { (id : ℕ) → IsErrOf result (RegRefusal.Rolling id) ↔ IsWaiting self.old id }
         ensures versions { IsErrOf result RegRefusal.TooManyVersions ↔
             ((self.old.waiting ≡ None) × (512 ≤ (view pass.old).learned.version)) }
@@ -129,7 +129,7 @@ impl Registrar {
         ensures knows { Knows (view pass.new) self.new }
         ensures changes { Changes (view pass.old) (view pass.new) }
         ensures tells { PollSays (view pass.old) self.old (view pass.new) self.new result }
-        ensures alone { IsAlone (view pass.old) → (view pass.old).epoch ≡ Out → IsClear result }
+        ensures alone { IsAlone (view pass.old) → (view pass.old).epoch ≡ Out → IsPollClear result }
         ensures begins { IsAlone (view pass.old) → BeginsAtTail (view pass.old) result }
     {
         let Some(waiting) = self.waiting else {
@@ -173,13 +173,13 @@ impl Registrar {
         ensures changes { Changes (view pass.old) (view pass.new) }
         ensures named { IfOk result (λ e. IsActiveNamed self.old.catalog name.now e.0) }
         ensures rows { IfOk result (λ e. self.new.catalog ≡ with_to self.old.catalog e.0 e.1) }
-        ensures counted { IfOk result (λ e. HasCounted (view pass.old) (view pass.new) e.1) }
+        ensures counted { IfOk result (λ e. HasLoadedTail (view pass.old) (view pass.new) e.1) }
         ensures alone { IsAlone (view pass.old) → IfOk result (λ e. IsAtTail (view pass.old) e.1) }
         ensures reached { IfOk result
             (λ e. ((view pass.old).learned.count ≤ e.1) × ((view pass.new).learned.count ≡ e.1)) }
         ensures version { OnOk result ((view pass.new).learned.version ≡ (view pass.old).learned.version + 1) }
         ensures settled { self.new.waiting ≡ self.old.waiting }
-        ensures refused { OnErr result ((self.new ≡ self.old) × Stays (view pass.old) (view pass.new)) }
+        ensures refused { OnErr result ((self.new ≡ self.old) × OnlyLoads (view pass.old) (view pass.new)) }
         ensures rolling { (id : ℕ) → IsErrOf result (RegRefusal.Rolling id) ↔ IsWaiting self.old id }
         ensures versions { IsErrOf result RegRefusal.TooManyVersions ↔
             ((self.old.waiting ≡ None) × (512 ≤ (view pass.old).learned.version)) }
@@ -204,7 +204,7 @@ impl Registrar {
         requires knows { Knows (view pass.old) self.now }
         requires outside { (view pass.old).epoch ≡ Out }
         ensures pass { IsPassOf log.now pass.new }
-        ensures stays { Stays (view pass.old) (view pass.new) }
+        ensures stays { OnlyLoads (view pass.old) (view pass.new) }
         ensures version { IfOk result (λ n. (n ≡ (view pass.old).learned.version) × MayChange self.now
             (view pass.old)) }
         ensures rolling { (id : ℕ) → IsErrOf result (RegRefusal.Rolling id) ↔ IsWaiting self.now id }

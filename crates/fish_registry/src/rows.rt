@@ -3,8 +3,8 @@
 
 ghost use Rattle.std.specs.Prelude.{◌≡◌, ◌<◌, length};
 ghost use Rattle.fish_registry.specs.Changing.{IsAtTail};
-ghost use Rattle.fish_registry.specs.within.Rows.{HasDrafted, HasEnded, HasRegistered, HasTailed, MayEnd, MayMake};
-ghost use Rattle.fish_registry.specs.within.Rows.{MayRegister};
+ghost use Rattle.fish_registry.specs.within.Rows.{HasDrafted, HasEnded, HasAddedRow, HasTailed, MayEndRow, MayMake};
+ghost use Rattle.fish_registry.specs.within.Rows.{MayRegisterRow};
 ghost use Rattle.fish_rule.specs.LoadSteps.{IsAlone};
 ghost use Rattle.fish_rule.specs.Passes.{IsPassOf, view};
 
@@ -16,9 +16,9 @@ use fish_rule::{Log, Pass, define_operation, define_row_word, load_tail, raise_v
 pub(crate) fn register_row(log: &Log, pass: &mut Pass, row: &CatRow, version: u64)
     requires pass { IsPassOf log.now pass.old }
     requires make { MayMake (view pass.old) version }
-    requires row { MayRegister (view pass.old) row.now }
+    requires row { MayRegisterRow (view pass.old) row.now }
     ensures pass { IsPassOf log.now pass.new }
-    ensures registered { HasRegistered (view pass.old) row.now (view pass.new) }
+    ensures registered { HasAddedRow (view pass.old) row.now (view pass.new) }
 {
     let id = u64::from(row.id);
     define_row(log, pass, id, &row_words(row));
@@ -54,7 +54,7 @@ pub(crate) fn count_tail(log: &Log, pass: &mut Pass) -> u32
 pub(crate) fn end_row(log: &Log, pass: &mut Pass, id: u16, to: u32, version: u64)
     requires pass { IsPassOf log.now pass.old }
     requires make { MayMake (view pass.old) version }
-    requires row { MayEnd (view pass.old) id to }
+    requires row { MayEndRow (view pass.old) id to }
     ensures pass { IsPassOf log.now pass.new }
     ensures ended { HasEnded (view pass.old) id to (view pass.new) }
 {

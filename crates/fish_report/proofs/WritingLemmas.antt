@@ -8,11 +8,11 @@ use Rattle.std.proofs.lemmas.Grind.{common_steps, flat_map-append}
 use Rattle.std.proofs.lemmas.List.{take-append-drop, take_all}
 use Rattle.fish_outside.specs.Content.{Gained, GainedPart}
 use Rattle.fish_outside.proofs.ContentLemmas.{Gained_refl, Gained_trans}
-use Rattle.fish_report.specs.within.Writing.{Passes, PassesPart}
+use Rattle.fish_report.specs.within.Writing.{PassesOn, PassesPart}
 
 -- a text that only waits
 pub Passes_wait : (content : Option (List ℕ)) (waiting left text : List ℕ) → left ≡ waiting ++ text
-    → Passes content content waiting left text
+    → PassesOn content content waiting left text
 Passes_wait content waiting left text h = record { sent = []; gained = Gained_refl content; all = h }
 
 -- a first part of what waited was written
@@ -29,8 +29,8 @@ PassesPart_sent old new waiting part = (
 
 -- one text after the other, in two steps
 pub Passes_trans : (old mid new : Option (List ℕ)) (waiting between left first second : List ℕ)
-    → Passes old mid waiting between first → Passes mid new between left second
-    → Passes old new waiting left (first ++ second)
+    → PassesOn old mid waiting between first → PassesOn mid new between left second
+    → PassesOn old new waiting left (first ++ second)
 Passes_trans old mid new waiting between left first second a b = record {
   sent = a.sent ++ b.sent;
   gained = Gained_trans old mid new a.sent b.sent a.gained b.gained;
@@ -55,7 +55,7 @@ PassesPart_front old new waiting text behind part = (
 
 -- a text of which the second step wrote a part
 pub PassesPart_trans : (old mid new : Option (List ℕ)) (waiting between first second : List ℕ)
-    → Passes old mid waiting between first → PassesPart mid new between second
+    → PassesOn old mid waiting between first → PassesPart mid new between second
     → PassesPart old new waiting (first ++ second)
 PassesPart_trans old mid new waiting between first second a part =
     (part.0, Passes_trans old mid new waiting between part.0 first second a part.1)
@@ -74,12 +74,12 @@ PassesPart_none content waiting text = (waiting ++ text, Passes_wait content wai
 
 -- a step that only writes
 pub Passes_on : (old mid new : Option (List ℕ)) (waiting between left text : List ℕ)
-    → Passes old mid waiting between text → Passes mid new between left [] → Passes old new waiting left text
+    → PassesOn old mid waiting between text → PassesOn mid new between left [] → PassesOn old new waiting left text
 Passes_on old mid new waiting between left text a b =
-    subst (Passes old new waiting left) (append-nil text) (Passes_trans old mid new waiting between left text [] a b)
+    subst (PassesOn old new waiting left) (append-nil text) (Passes_trans old mid new waiting between left text [] a b)
 
 pub PassesPart_on : (old mid new : Option (List ℕ)) (waiting between text : List ℕ)
-    → Passes old mid waiting between text → PassesPart mid new between [] → PassesPart old new waiting text
+    → PassesOn old mid waiting between text → PassesPart mid new between [] → PassesPart old new waiting text
 PassesPart_on old mid new waiting between text a part =
     (part.0, Passes_on old mid new waiting between part.0 text a part.1)
 
@@ -97,16 +97,16 @@ take_front f xs i = sym (flat_map-append f (take i xs) (drop i xs)) ∙ ap (flat
 -- one more element
 pub Passes_more : {X : Type 0} (f : X → List ℕ) (xs : List X) (i : ℕ) (x : X) (old mid new : Option (List ℕ))
     (waiting between left : List ℕ) → i < length xs → x ≡ get_or xs i x
-    → Passes old mid waiting between (flat_map f (take i xs)) → Passes mid new between left (f x)
-    → Passes old new waiting left (flat_map f (take (i + 1) xs))
+    → PassesOn old mid waiting between (flat_map f (take i xs)) → PassesOn mid new between left (f x)
+    → PassesOn old new waiting left (flat_map f (take (i + 1) xs))
 Passes_more f xs i x old mid new waiting between left h e a b =
-    subst (Passes old new waiting left) (take_more f xs i x h e)
+    subst (PassesOn old new waiting left) (take_more f xs i x h e)
     (Passes_trans old mid new waiting between left (flat_map f (take i xs)) (f x) a b)
 
 -- an element of which a part was written
 pub PassesPart_more : {X : Type 0} (f : X → List ℕ) (xs : List X) (i : ℕ) (x : X) (old mid new : Option (List ℕ))
     (waiting between : List ℕ) → i < length xs → x ≡ get_or xs i x
-    → Passes old mid waiting between (flat_map f (take i xs)) → PassesPart mid new between (f x)
+    → PassesOn old mid waiting between (flat_map f (take i xs)) → PassesPart mid new between (f x)
     → PassesPart old new waiting (flat_map f xs)
 PassesPart_more f xs i x old mid new waiting between h e a part =
     let more = Passes_more f xs i x old mid new waiting between part.0 h e a part.1 in
@@ -115,7 +115,7 @@ PassesPart_more f xs i x old mid new waiting between h e a part =
 
 -- after the last element
 pub PassesPart_end : {X : Type 0} (f : X → List ℕ) (xs : List X) (i : ℕ) (old mid new : Option (List ℕ))
-    (waiting between : List ℕ) → length xs ≤ i → Passes old mid waiting between (flat_map f (take i xs))
+    (waiting between : List ℕ) → length xs ≤ i → PassesOn old mid waiting between (flat_map f (take i xs))
     → GainedPart mid new between → PassesPart old new waiting (flat_map f xs)
 PassesPart_end f xs i old mid new waiting between h a part =
     subst (PassesPart old new waiting) (ap (flat_map f) (take_all i xs h))

@@ -2,18 +2,11 @@
 use Rattle.std.specs.Prelude.{ℕ, ◌==◌, ◌&&◌, List, [], ◌∷◌, ◌++◌, length, decimal, codes, Bool, not}
 use Rattle.std.specs.Prelude.{nat_le, nat_lt, if◌then◌else◌}
 use Rattle.std.specs.List.{flat_map, list_all}
+use Rattle.fish_value.specs.BareWord.{is_bare_word}
 use Rattle.fish_value.specs.Json.{quoted}
 use Rattle.fish_value.specs.declared.row.Row.{Row}
 use Rattle.fish_plan.specs.declared.pieces.Piece.{Piece}
 use Rattle.fish_plan.specs.declared.pieces.Piece.TheVariants.{Index, Full}
-
--- a byte that can stand in a bare word: graphic ASCII but the quotation mark and the number sign
-abbrev pub is_bare_byte : ℕ → Bool
-is_bare_byte b = nat_le 0x21 b && nat_le b 0x7e && not (b == 34) && not (b == 35)
-
--- a name that can stand without quotation marks
-abbrev pub is_bare_word : List ℕ → Bool
-is_bare_word s = nat_lt 0 (length s) && list_all is_bare_byte s
 
 -- a file's name stands bare where it can, else as a JSON string
 unfoldable pub file_text : List ℕ → List ℕ

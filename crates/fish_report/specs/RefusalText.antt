@@ -14,18 +14,18 @@ unfoldable pub select_too_long_text : List ℕ → List ℕ
 select_too_long_text file = codes "refused select " ++ (file_text file ++ codes " too long\n")
 
 -- why a definition was not registered: `rolling id I` or the limit that was met
-abbrev pub register_cause : RegisterCause → List ℕ
-register_cause (register.Rolling id) = codes "rolling id " ++ decimal id
-register_cause register.TooManyVersions = codes "too many versions " ++ decimal 512
-register_cause register.NameActive = codes "name active"
-register_cause register.TooManyActive = codes "too many active " ++ decimal most_active
-register_cause register.TooManyDefinitions = codes "too many definitions " ++ decimal most_rows
+abbrev pub register_text : RegisterCause → List ℕ
+register_text (register.Rolling id) = codes "rolling id " ++ decimal id
+register_text register.TooManyVersions = codes "too many versions " ++ decimal 512
+register_text register.NameActive = codes "name active"
+register_text register.TooManyActive = codes "too many active " ++ decimal most_active
+register_text register.TooManyDefinitions = codes "too many definitions " ++ decimal most_rows
 
 -- why a definition was not deregistered
-abbrev pub deregister_cause : DeregisterCause → List ℕ
-deregister_cause (deregister.Rolling id) = codes "rolling id " ++ decimal id
-deregister_cause deregister.TooManyVersions = codes "too many versions " ++ decimal 512
-deregister_cause deregister.UnknownName = codes "unknown name"
+abbrev pub deregister_text : DeregisterCause → List ℕ
+deregister_text (deregister.Rolling id) = codes "rolling id " ++ decimal id
+deregister_text deregister.TooManyVersions = codes "too many versions " ++ decimal 512
+deregister_text deregister.UnknownName = codes "unknown name"
 
 -- why a range was not scanned, or its plan not told: no definition has the name at this version, or the range
 abbrev pub scan_cause : ℕ → ScanCause → List ℕ

@@ -5,8 +5,8 @@ use Rattle.fish_report.specs.Parts.{counts_text, rows_text}
 use Rattle.fish_report.specs.StatementText.{bound_text, count_text, deregistered_text, explain_text, found_text}
 use Rattle.fish_report.specs.StatementText.{ingested_text, lanes_text, plan_text, registered_text, rolling_text}
 use Rattle.fish_report.specs.StatementText.{scan_text, select_line}
-use Rattle.fish_report.specs.RefusalText.{deregister_cause, ingest_full_text, ingest_too_long_text, refused_text}
-use Rattle.fish_report.specs.RefusalText.{register_cause, scan_cause, select_too_long_text}
+use Rattle.fish_report.specs.RefusalText.{deregister_text, ingest_full_text, ingest_too_long_text, refused_text}
+use Rattle.fish_report.specs.RefusalText.{register_text, scan_cause, select_too_long_text}
 use Rattle.fish_value.specs.declared.row.Row.{Row}
 use Rattle.fish_report.specs.declared.item.Item.{Item}
 use Rattle.fish_report.specs.declared.item.Item.TheVariants as item
@@ -32,8 +32,8 @@ head_text (item.Explained name value from to plan version) =
     explain_text name value from to ++ plan_text plan
 head_text (item.Checkpointed count) = count_text (codes "checkpoint") count
 head_text (item.Closed count) = count_text (codes "closed") count
-head_text (item.RegisterRefused name cause) = refused_text (codes "register") name (register_cause cause)
-head_text (item.DeregisterRefused name cause) = refused_text (codes "deregister") name (deregister_cause cause)
+head_text (item.RegisterRefused name cause) = refused_text (codes "register") name (register_text cause)
+head_text (item.DeregisterRefused name cause) = refused_text (codes "deregister") name (deregister_text cause)
 head_text (item.IngestFull file line lines end stored refused) =
     ingest_full_text file line lines end ++ counts_text stored refused
 head_text (item.IngestTooLong file stored refused) = ingest_too_long_text file stored refused
@@ -41,14 +41,14 @@ head_text (item.ScanRefused name version cause) = refused_text (codes "scan") na
 head_text (item.ExplainRefused name version cause) = refused_text (codes "explain") name (scan_cause version cause)
 
 -- the rows of a selection or a scan, and none of any other item
-abbrev pub rows_in : Item → List Row
-rows_in (item.Select rows count refused) = rows
-rows_in (item.Scanned name value from to opens rows version) = rows
-rows_in _ = []
+abbrev pub rows_of_item : Item → List Row
+rows_of_item (item.Select rows count refused) = rows
+rows_of_item (item.Scanned name value from to opens rows version) = rows
+rows_of_item _ = []
 
 -- the text of an item: its rows come after all else
 abbrev pub item_text : Item → List ℕ
-item_text item = head_text item ++ rows_text (rows_in item)
+item_text item = head_text item ++ rows_text (rows_of_item item)
 
 -- the text of a report is that of its items, one after the other
 abbrev pub report_text : List Item → List ℕ

@@ -1,7 +1,7 @@
 //! The text of an item but for its rows, and the rows themselves.
 
 ghost use Rattle.std.specs.Prelude.{◌≡◌, ◌++◌, false, true, OnOk, string_bytes};
-ghost use Rattle.fish_report.specs.ReportText.{head_text, is_refusal, rows_in};
+ghost use Rattle.fish_report.specs.ReportText.{head_text, is_refusal, rows_of_item};
 
 use crate::item::Item;
 use crate::parts::push_counts;
@@ -18,7 +18,7 @@ use std::alloc::{AllocError, Global};
 
 /// The rows of an item: those of a selection or a scan, and none of any other item.
 pub(crate) fn rows_of(item: &Item) -> &[Row]
-    ensures { result.now ≡ rows_in item.now }
+    ensures { result.now ≡ rows_of_item item.now }
 {
     match item {
         Item::Select { rows, .. } | Item::Scanned { rows, .. } => rows.as_slice(),

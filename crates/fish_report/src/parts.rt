@@ -2,11 +2,11 @@
 
 ghost use Rattle.std.specs.Prelude.{◌≡◌, ◌++◌, codes, decimal, IfOk, OnOk, string_bytes};
 ghost use Rattle.std.specs.List.{flat_map, list_all};
-ghost use Rattle.fish_report.specs.Parts.{counts_text, file_text, is_bare_byte, is_bare_word, numbers_text, piece_text};
+ghost use Rattle.fish_report.specs.Parts.{counts_text, file_text, numbers_text, piece_text};
 ghost use Rattle.fish_report.specs.Parts.{pieces_text, row_text, rows_text};
 
 use fish_plan::Piece;
-use fish_value::{Row, Text, json_text};
+use fish_value::{Row, Text, is_bare_word, json_text};
 use itoa::Buffer;
 use std::alloc::{AllocError, Global};
 
@@ -20,27 +20,6 @@ pub(crate) fn file_name(alloc: Global, file: &Text) -> Result<Text, AllocError>
     } else {
         json_text(alloc, file)
     }
-}
-
-/// Whether a name can stand without quotation marks: graphic ASCII but `"` and `#`.
-fn is_bare_word(name: &[u8]) -> bool
-    ensures { result ≡ is_bare_word name.now }
-{
-    !name.is_empty() && has_bare_bytes_only(name)
-}
-
-/// Whether each byte can stand in a bare word.
-fn has_bare_bytes_only(name: &[u8]) -> bool
-    ensures { result ≡ list_all is_bare_byte name.now }
-{
-    name.iter().all(|b| is_bare_byte(*b))
-}
-
-/// Whether a byte can stand in a bare word.
-fn is_bare_byte(b: u8) -> bool
-    ensures { result ≡ is_bare_byte b }
-{
-    0x21 <= b && b <= 0x7e && b != b'"' && b != b'#'
 }
 
 /// Puts how many were stored and refused after the others, and ends the line.

@@ -1,8 +1,8 @@
 //! The texts of what was refused, by statement, and of the causes.
 
 ghost use Rattle.std.specs.Prelude.{◌≡◌, ◌++◌, codes, OnOk, string_bytes};
-ghost use Rattle.fish_report.specs.RefusalText.{deregister_cause, ingest_full_text, ingest_too_long_text, refused_text};
-ghost use Rattle.fish_report.specs.RefusalText.{register_cause, scan_cause, select_too_long_text};
+ghost use Rattle.fish_report.specs.RefusalText.{deregister_text, ingest_full_text, ingest_too_long_text, refused_text};
+ghost use Rattle.fish_report.specs.RefusalText.{register_text, scan_cause, select_too_long_text};
 
 use crate::item::{DeregisterCause, RegisterCause, ScanCause};
 use crate::parts::file_name;
@@ -15,9 +15,9 @@ use std::fmt;
 /// Why a definition was not registered, as the line of the refusal tells it.
 impl fmt::Display for RegisterCause {
     ghost use Rattle.std.specs.Prelude.{Some};
-    ghost use Rattle.fish_report.specs.RefusalText.{register_cause};
+    ghost use Rattle.fish_report.specs.RefusalText.{register_text};
 
-    ghost output = { λ cause. Some (register_cause cause) };
+    ghost output = { λ cause. Some (register_text cause) };
 
     fn fmt<W: fmt::Write>(&self, f: &mut fmt::Formatter<W>) -> fmt::Result {
         match self {
@@ -33,9 +33,9 @@ impl fmt::Display for RegisterCause {
 /// Why a definition was not deregistered, as the line of the refusal tells it.
 impl fmt::Display for DeregisterCause {
     ghost use Rattle.std.specs.Prelude.{Some};
-    ghost use Rattle.fish_report.specs.RefusalText.{deregister_cause};
+    ghost use Rattle.fish_report.specs.RefusalText.{deregister_text};
 
-    ghost output = { λ cause. Some (deregister_cause cause) };
+    ghost output = { λ cause. Some (deregister_text cause) };
 
     fn fmt<W: fmt::Write>(&self, f: &mut fmt::Formatter<W>) -> fmt::Result {
         match self {
@@ -67,7 +67,7 @@ pub(crate) fn push_register_refused(
     cause: RegisterCause,
 ) -> Result<(), AllocError>
     ensures { OnOk result (string_bytes text.new
-        ≡ string_bytes text.old ++ refused_text (codes "register") name.now (register_cause cause)) }
+        ≡ string_bytes text.old ++ refused_text (codes "register") name.now (register_text cause)) }
 {
     write!(text, "refused register {} {cause}\n", name.as_str())
 }
@@ -80,7 +80,7 @@ pub(crate) fn push_deregister_refused(
     cause: DeregisterCause,
 ) -> Result<(), AllocError>
     ensures { OnOk result (string_bytes text.new
-        ≡ string_bytes text.old ++ refused_text (codes "deregister") name.now (deregister_cause cause)) }
+        ≡ string_bytes text.old ++ refused_text (codes "deregister") name.now (deregister_text cause)) }
 {
     write!(text, "refused deregister {} {cause}\n", name.as_str())
 }

@@ -8,7 +8,7 @@ ghost use Rattle.fish_outside.specs.Content.{Gained, GainedPart};
 ghost use Rattle.fish_report.specs.Parts.{row_text, rows_text};
 ghost use Rattle.fish_report.specs.ReportText.{item_text, report_text};
 ghost use Rattle.fish_report.specs.Writing.{HasWriteCause};
-ghost use Rattle.fish_report.specs.within.Writing.{Passes, PassesPart, piece_size};
+ghost use Rattle.fish_report.specs.within.Writing.{PassesOn, PassesPart, piece_size};
 
 use crate::head::{push_head, rows_of};
 use crate::item::Item;
@@ -78,7 +78,7 @@ fn write_item<W: Sink>(
     text: &mut String,
     item: &Item,
 ) -> Result<(), WriteRefusal>
-    ensures passed { OnOk result (Passes (W.written out.old) (W.written out.new)
+    ensures passed { OnOk result (PassesOn (W.written out.old) (W.written out.new)
         (string_bytes text.old) (string_bytes text.new) (item_text item.now)) }
 
     ensures part { OnErr result (PassesPart (W.written out.old) (W.written out.new)
@@ -93,7 +93,7 @@ fn write_item<W: Sink>(
 /// Puts the lines of rows after what waits, and writes what fills a piece.
 fn write_rows<W: Sink>(out: &mut W, text: &mut String, rows: &[Row]) -> Result<(), WriteRefusal>
     requires { string_len text.old < piece_size }
-    ensures passed { OnOk result (Passes (W.written out.old) (W.written out.new)
+    ensures passed { OnOk result (PassesOn (W.written out.old) (W.written out.new)
         (string_bytes text.old) (string_bytes text.new) (rows_text rows.now)) }
 
     ensures part { OnErr result (PassesPart (W.written out.old) (W.written out.new)
@@ -109,7 +109,7 @@ fn write_rows<W: Sink>(out: &mut W, text: &mut String, rows: &[Row]) -> Result<(
 /// Puts the line of a row after what waits, and writes both where they fill a piece.
 fn write_row<W: Sink>(out: &mut W, text: &mut String, row: &Row) -> Result<(), WriteRefusal>
     requires { string_len text.old < piece_size }
-    ensures passed { OnOk result (Passes (W.written out.old) (W.written out.new)
+    ensures passed { OnOk result (PassesOn (W.written out.old) (W.written out.new)
         (string_bytes text.old) (string_bytes text.new) (row_text row.now)) }
     ensures short { OnOk result (string_len text.new < piece_size) }
 
@@ -123,7 +123,7 @@ fn write_row<W: Sink>(out: &mut W, text: &mut String, row: &Row) -> Result<(), W
 
 /// Writes what waits, where it fills a piece.
 fn send_full<W: Sink>(out: &mut W, text: &mut String) -> Result<(), WriteRefusal>
-    ensures passed { OnOk result (Passes (W.written out.old) (W.written out.new)
+    ensures passed { OnOk result (PassesOn (W.written out.old) (W.written out.new)
         (string_bytes text.old) (string_bytes text.new) []) }
     ensures short { OnOk result (string_len text.new < piece_size) }
 

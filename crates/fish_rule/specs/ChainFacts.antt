@@ -6,7 +6,7 @@ use Rattle.fish_layout.specs.Cleared.{entry_at}
 use Rattle.fish_layout.specs.Entry.{entry_id}
 use Rattle.fish_rule.specs.Logs.{Learns}
 use Rattle.fish_rule.specs.Rule.{Rule}
-use Rattle.fish_rule.specs.Gaps.{IsEntryOf}
+use Rattle.fish_rule.specs.Gaps.{IsKeyEntryOf}
 use Rattle.fish_rule.specs.World.{World, body, low}
 use Rattle.fish_rule.specs.declared.view.Key.{Key}
 use Rattle.fish_rule.specs.declared.view.View.{View}
@@ -18,7 +18,7 @@ Always v P = (u : View) → Learns v u → (w : World) → Rule u.about w → (s
 
 -- p is the place of key entry c of the published record n, and its bucket is b
 abbrev pub IsEntryIn : ℕ → ℕ → ℕ → ℕ → Key → World → Type 0
-IsEntryIn b n c p k w = IsEntryOf k w.dir w.log (low (w.dir n)) b n c p
+IsEntryIn b n c p k w = IsKeyEntryOf k w.dir w.log (low (w.dir n)) b n c p
 
 -- and its definition is this one
 pub record IsNodeIn (b n c p id : ℕ) (k : Key) (w : World) : Type 0 where

@@ -5,7 +5,7 @@ use Rattle.fish_catalog.specs.declared.entry.Entry.TheVariants as entry
 use Rattle.fish_rule.specs.ClosedLog.{IsClosed}
 use Rattle.fish_rule.specs.Logs.{Learns, KnowsAs}
 use Rattle.fish_rule.specs.declared.close.Remains.{Remains}
-use Rattle.fish_rule.specs.Parts.{IsOlder}
+use Rattle.fish_rule.specs.Parts.{IsOlderPlace}
 use Rattle.fish_rule.specs.Registry.{definitions_at}
 use Rattle.fish_rule.specs.Views.{Among, Has}
 use Rattle.fish_rule.specs.declared.view.Key.{Key}
@@ -39,7 +39,7 @@ pub record MayFollow (k : Key) (remains : Remains) : Type 0 where
   pub line : remains.lines ≤ last_line
   pub version : remains.version ≤ 512
   pub heads : length remains.heads ≡ k.buckets
-  pub older : (b : ℕ) → IsOlder remains.lines (slice_index remains.heads b)
+  pub older : (b : ℕ) → IsOlderPlace remains.lines (slice_index remains.heads b)
 
 -- a log may begin where a closed one ends
 abbrev pub EndsWhereNextBegins : Type 0

@@ -8,7 +8,7 @@ use Rattle.fish_catalog.specs.declared.page_start.PageStart.{PageStart}
 use Rattle.fish_layout.specs.Pages.{page_of}
 use Rattle.fish_rule.specs.Facts.{Facts, Owns}
 use Rattle.fish_rule.specs.Logs.{IsLog, Learns}
-use Rattle.fish_rule.specs.Parts.{Rests}
+use Rattle.fish_rule.specs.Parts.{RestsAt}
 use Rattle.fish_rule.specs.Registry.{version_in}
 use Rattle.fish_rule.specs.Rule.{Rule}
 use Rattle.fish_rule.specs.Views.{AllOf, Among}
@@ -60,7 +60,7 @@ pub record IsClosedAt (k : Key) (is_later : View → Type 0) (lane : ℕ) (out :
   pub own_is : last.own ≡ own
   pub rows_is : last.rows ≡ rows
   pub owns : Owns k moment.count moment.dir rule.lane_of lane out own
-  pub rests : Rests moment.count moment.line tail
+  pub rests : RestsAt moment.count moment.line tail
   pub facts : Facts k moment.count moment.dir moment.log rule.start learned
 
 -- the same of all that a view knows
@@ -75,7 +75,7 @@ pub record ReadsOn (v u : View) : Type 0 where
   pub frame : u ≡ record v { epoch = u.epoch; tail = u.tail; learned = u.learned; clock = u.clock }
   pub found : ℕ
   pub tail : u.tail ≡ Some (record { number = high found; line = low found })
-  pub rests : Rests (high found) (low found) v.tail
+  pub rests : RestsAt (high found) (low found) v.tail
 
 -- the control pass that could not close the log read on, and is as it was but for what it learned, its clock and the
 -- tail that it found: as far entered, with its lanes and own numbers, and shut by what shut it

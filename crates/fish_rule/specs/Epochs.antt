@@ -106,7 +106,8 @@ Stays k count g state version_of v = StaysWith k count g state version_of v.lane
 
 -- a record in flight is of the version at which its pass is entered; once an entry of it is linked, it has the
 -- keys of that version
-pub record IsCarried (k : Key) (g : ℕ → ℕ) (version_of : ℕ → ℕ) (lane : ℕ) (epoch : Epoch) (f : Flight) : Type 0 where
+pub record IsFlightCarried (k : Key) (g : ℕ → ℕ) (version_of : ℕ → ℕ) (lane : ℕ)
+    (epoch : Epoch) (f : Flight) : Type 0 where
   pub entered : epoch ≡ Confirmed (version_of f.number)
   pub keyed : 0 < f.linked
       → IsKeyed (AreActiveAt k g) (version_of f.number) lane f.number f.lines (body_of f.words)
@@ -114,12 +115,12 @@ pub record IsCarried (k : Key) (g : ℕ → ℕ) (version_of : ℕ → ℕ) (lan
 -- the same where there is one
 abbrev pub Carries : Key → (ℕ → ℕ) → (ℕ → ℕ) → ℕ → Epoch → Option Flight → Type 0
 Carries k g version_of lane epoch None = ⊤
-Carries k g version_of lane epoch (Some f) = IsCarried k g version_of lane epoch f
+Carries k g version_of lane epoch (Some f) = IsFlightCarried k g version_of lane epoch f
 
 -- ---- all of it
 
 -- epochs, versions, boundaries, and what holds of each pass
-pub record Registry (k : Key) (count : ℕ) (g : ℕ → ℕ) (state : ℕ → Epoch) (version_of : ℕ → ℕ) (views : List View)
+pub record RegistryHolds (k : Key) (count : ℕ) (g : ℕ → ℕ) (state : ℕ → Epoch) (version_of : ℕ → ℕ) (views : List View)
     : Type 0 where
   pub epochs : Epochs g state
   pub versions : Versions k count g version_of

@@ -41,7 +41,7 @@ pub record IsFound (k : Key) (count : ℕ) (dir start : ℕ → ℕ) (f : Found)
   pub lines : start (suc f.number) ≡ f.line + f.lines
 
 -- a word that was read of a published region stands there
-pub record IsKnown (k : Key) (count : ℕ) (dir log start : ℕ → ℕ) (x : Known) : Type 0 where
+pub record IsFactKnown (k : Key) (count : ℕ) (dir log start : ℕ → ℕ) (x : Known) : Type 0 where
   pub number : ℕ
   pub offset : ℕ
   pub above : k.number ≤ number
@@ -62,7 +62,7 @@ pub record IsRecorded (k : Key) (count : ℕ) (dir log start : ℕ → ℕ) (r :
 pub record Facts (k : Key) (count : ℕ) (dir log start : ℕ → ℕ) (l : Learned) : Type 0 where
   pub counted : l.count ≤ count
   pub found : AllOf (IsFound k count dir start) l.found
-  pub known : AllOf (IsKnown k count dir log start) l.known
+  pub known : AllOf (IsFactKnown k count dir log start) l.known
   pub records : AllOf (IsRecorded k count dir log start) l.records
   pub gaps : AllOf (IsGap k count dir log start) l.gaps
   pub labels : AllOf (IsLabel k count dir log start) l.labels

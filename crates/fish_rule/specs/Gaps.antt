@@ -11,7 +11,7 @@ use Rattle.fish_rule.specs.declared.view.Kind.TheVariants.{Stored}
 use Rattle.fish_rule.specs.declared.view.Label.{Label}
 
 -- p is the place of key entry c of the published record n at a line, and its bucket is b
-pub record IsEntryOf (k : Key) (dir log : ℕ → ℕ) (line b n c p : ℕ) : Type 0 where
+pub record IsKeyEntryOf (k : Key) (dir log : ℕ → ℕ) (line b n c p : ℕ) : Type 0 where
   pub above : k.number ≤ n
   pub stored : high (dir n) ≡ code Stored
   pub is : IsKeyEntry k.buckets (body log line) b p line c
@@ -20,7 +20,7 @@ pub record IsEntryOf (k : Key) (dir log : ℕ → ℕ) (line b n c p : ℕ) : Ty
 pub record IsGap (k : Key) (count : ℕ) (dir log start : ℕ → ℕ) (g : Gap) : Type 0 where
   pub within : g.end ≤ count
   pub published : (n : ℕ) → k.number ≤ n → n < g.end → dir n ≢ 0
-  pub empty : (n c p : ℕ) → n < g.end → IsEntryOf k dir log (start n) g.bucket n c p → p < g.above → p ≤ g.below
+  pub empty : (n c p : ℕ) → n < g.end → IsKeyEntryOf k dir log (start n) g.bucket n c p → p < g.above → p ≤ g.below
 
 -- the number and the entry that a second word names are those at its place; of a number that was
 -- settled the word stands

@@ -11,7 +11,7 @@ use Rattle.fish_rule.specs.Logs.{Learns}
 use Rattle.fish_rule.specs.Regions.{code}
 use Rattle.fish_rule.specs.Registry.{AreActiveAt, definitions_at, row_at, version_in}
 use Rattle.fish_rule.specs.Rule.{Rule}
-use Rattle.fish_rule.specs.Table.{Stands}
+use Rattle.fish_rule.specs.Table.{IsOfMoment}
 use Rattle.fish_rule.specs.Views.{Among}
 use Rattle.fish_rule.specs.World.{World, body, high, low}
 use Rattle.fish_rule.specs.declared.view.Key.{Key}
@@ -56,12 +56,13 @@ IntervalsStay = (v u : View) (id from below : ℕ) → Learns v u → HasInterva
 
 -- a number below it that lies in an interval is one that the row covers with which the table begins
 abbrev pub IntervalsAreCovered : Type 0
-IntervalsAreCovered = (v : View) (id from below n : ℕ) → Stands v → HasInterval v id from below → from ≤ n → n < below
+IntervalsAreCovered = (v : View) (id from below n : ℕ) → IsOfMoment v → HasInterval v id from below → from ≤ n
+    → n < below
     → n < v.about.number → (row : CatRow) × (slice_get v.about.rows.value id ≡ Some row) × Covers row n
 
 -- and one that this row covers lies between the boundaries that a pass has read
 abbrev pub CoveredAreBetween : Type 0
-CoveredAreBetween = (v : View) (id n : ℕ) (row : CatRow) → Stands v → id < 256
+CoveredAreBetween = (v : View) (id n : ℕ) (row : CatRow) → IsOfMoment v → id < 256
     → slice_get v.about.rows.value id ≡ Some row → Covers row n → n < v.about.number
     → ((from : ℕ) → Among (record { index = row_at id 0; value = suc from }) v.learned.words → from ≤ n)
     × ((to : ℕ) → Among (record { index = row_at id 1; value = suc to }) v.learned.words → n < to)

@@ -5,7 +5,7 @@ use Rattle.fish_lang.specs.Definition.{definition_of}
 use Rattle.fish_lang.specs.Language.{IsAccepted}
 use Rattle.fish_layout.specs.declared.parts.BodyParts.{BodyParts}
 use Rattle.fish_layout.specs.declared.parts.KeyPart.{KeyPart}
-use Rattle.fish_psf.specs.Keys.{keys_of}
+use Rattle.fish_psf.specs.Keys.{keys_for}
 use Rattle.fish_psf.specs.Records.{fields_of_payload}
 use Rattle.fish_psf.specs.declared.key.ActiveDef.{ActiveDef}
 use Rattle.fish_psf.specs.declared.key.KeyValue.{KeyValue}
@@ -30,7 +30,7 @@ pub record HasKeys (active : ℕ → List (ℕ × List ℕ) → Type 0) (p : Bod
   pub defs : List ActiveDef
   pub are : active p.version (map text_of defs)
   pub written : All IsWritten defs
-  pub keys : map property p.keys ≡ keys_of (fields_of_payload p.form p.payload) defs
+  pub keys : map property p.keys ≡ keys_for (fields_of_payload p.form p.payload) defs
 
 -- e has the words of a record of this version, lane, number and lines, with the keys of that version
 pub record IsKeyedOf (active : ℕ → List (ℕ × List ℕ) → Type 0) (version lane number lines : ℕ) (e : ℕ → ℕ)

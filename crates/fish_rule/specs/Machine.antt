@@ -12,7 +12,7 @@ use Rattle.fish_rule.specs.Registry.{epoch_at, row_at, version_at}
 use Rattle.fish_rule.specs.ChainSteps.{CanAimEntry, CanLoadHead, CanSpliceEntry, CanSwingHead, HasNode, after_aim_entry}
 use Rattle.fish_rule.specs.ChainSteps.{after_load_head, after_load_node, after_load_previous, head_seen, own_place}
 use Rattle.fish_rule.specs.ChainSteps.{previous_seen, spliced, swung}
-use Rattle.fish_rule.specs.Parts.{Fits}
+use Rattle.fish_rule.specs.Parts.{FitsTable}
 use Rattle.fish_rule.specs.Regions.{dir_word}
 use Rattle.fish_rule.specs.Rule.{Final, Rule}
 use Rattle.fish_rule.specs.SeatSteps.{CanJoinPass, CanSplitPass, join_both, spent, split_left, split_right}
@@ -168,7 +168,7 @@ Runs k w (e ∷ es) u = (m : World) × Goes k w e m × Runs k m es u
 
 -- from an empty log on, the rule holds after every list of steps
 abbrev pub EverySchedule : Type 0
-EverySchedule = (k : Key) (g : ℕ → ℕ) (events : List Event) (u : World) → Fits k
+EverySchedule = (k : Key) (g : ℕ → ℕ) (events : List Event) (u : World) → FitsTable k
     → IsOpening k.version k.number k.rows.value g
     → Runs k (empty_world k g) events u → Rule k u
 

@@ -5,7 +5,7 @@ use mathlib.Core.Option.{some}
 use Rattle.std.proofs.Math.ListN.{get_elem?}
 use Rattle.fish_layout.specs.Cleared.{entry_at}
 use Rattle.fish_layout.specs.Header.{keys_of, lines_of}
-use Rattle.fish_rule.specs.Regions.{Holds, IsRecord, code, kind_of}
+use Rattle.fish_rule.specs.Regions.{HoldsRegion, IsRecord, code, kind_of}
 use Rattle.fish_rule.specs.Views.{Each, Has, HasFlight, IsFlightOf, IsOver}
 use Rattle.fish_rule.specs.World.{body, high, last_line, last_number, low, max_lines}
 use Rattle.fish_rule.specs.declared.view.Flight.{Flight}
@@ -18,8 +18,8 @@ use Rattle.fish_rule.specs.declared.view.View.{View}
 -- ---- the key
 
 -- no entry of a table that begins at the line is at the place: it is 0, or that of an older record's entry
-abbrev pub IsOlder : ℕ → ℕ → Type 0
-IsOlder line p = p ≢ 0 → p < line * 4
+abbrev pub IsOlderPlace : ℕ → ℕ → Type 0
+IsOlderPlace line p = p ≢ 0 → p < line * 4
 
 -- the head that a bucket has at the start
 abbrev pub first_head : Key → ℕ → ℕ
@@ -27,7 +27,7 @@ first_head k b = slice_index k.heads.value b
 
 -- a table has at most 512 pages; even 16 claims past its end leave numbers below 2^28 and lines below 2^36; each
 -- bucket's head at the start is that of older records
-pub record Fits (k : Key) : Type 0 where
+pub record FitsTable (k : Key) : Type 0 where
   pub some_lines : k.line ≤ k.end
   pub few_lines : k.end ≤ k.line + 16777216
   pub few_numbers : k.number + (k.end - k.line) ≤ last_number
@@ -35,7 +35,7 @@ pub record Fits (k : Key) : Type 0 where
   pub some_buckets : 0 < k.buckets
   pub few_buckets : k.buckets ≤ 65536
   pub all_heads : length k.heads.value ≡ k.buckets
-  pub older_heads : (b : ℕ) → IsOlder k.line (first_head k b)
+  pub older_heads : (b : ℕ) → IsOlderPlace k.line (first_head k b)
 
 -- ---- seats
 
@@ -46,9 +46,9 @@ pub record Seats (views : List View) : Type 0 where
   pub few : Each (λ v. v.lane ≤ 16) views
 
 -- where no lane is out, the tail is as the control pass's last step left it
-abbrev pub Rests : ℕ → ℕ → Option Position → Type 0
-Rests count line None = ⊤
-Rests count line (Some t) = (t.number ≡ count) × (t.line ≡ line)
+abbrev pub RestsAt : ℕ → ℕ → Option Position → Type 0
+RestsAt count line None = ⊤
+RestsAt count line (Some t) = (t.number ≡ count) × (t.line ≡ line)
 
 -- ---- space
 
@@ -67,7 +67,7 @@ pub record IsPublishedRegion (k : Key) (dir log start lane_of : ℕ → ℕ) (n 
   pub kind : high (dir n) ≡ code (kind_of k.end (start n) (start (suc n)))
   pub line : low (dir n) ≡ start n
   pub lined : lines_of (body log (start n) 0) ≤ start (suc n) - start n
-  pub holds : Holds (kind_of k.end (start n) (start (suc n))) (lane_of n) n (start (suc n) - start n)
+  pub holds : HoldsRegion (kind_of k.end (start n) (start (suc n))) (lane_of n) n (start (suc n) - start n)
       (body log (start n))
 
 -- word i of a region is the first of one of the key entries that are linked
@@ -75,7 +75,7 @@ abbrev pub IsLinkedWord : ℕ → ℕ → Type 0
 IsLinkedWord linked i = (c : ℕ) × (c < linked) × (i ≡ entry_at c)
 
 -- a record in flight whose words are all stored, with so many of its entries linked
-pub record Whole (k : Key) (log : ℕ → ℕ) (lane : ℕ) (f : Flight) : Type 0 where
+pub record IsWholeFlight (k : Key) (log : ℕ → ℕ) (lane : ℕ) (f : Flight) : Type 0 where
   pub kind : kind_of k.end f.line (f.line + f.lines) ≡ Stored
   pub full : length f.words ≡ f.lines * 4
   pub record_of : IsRecord lane f.number f.lines (body log f.line)
@@ -95,7 +95,7 @@ pub record InFlight (k : Key) (count : ℕ) (dir log start lane_of : ℕ → ℕ
   pub short : length f.words ≤ f.lines * 4
   pub written : (i : ℕ) → i < length f.words → ¬ IsLinkedWord f.linked i → log (f.line * 4 + i) ≡ slice_index f.words i
   pub unwritten : (i : ℕ) → length f.words ≤ i → i < f.lines * 4 → log (f.line * 4 + i) ≡ 0
-  pub whole : 0 < f.linked → Whole k log lane f
+  pub whole : 0 < f.linked → IsWholeFlight k log lane f
   pub header : kind_of k.end f.line (f.line + f.lines) ≡ Void → length f.words ≤ 1
 
 -- the same where there is one

@@ -1,6 +1,6 @@
 -- What a pass of the program knows, and which log it steps on.
 use Rattle.std.specs.Prelude.{◌≡◌, ◌≤◌}
-use Rattle.fish_rule.specs.Table.{Stands}
+use Rattle.fish_rule.specs.Table.{IsOfMoment}
 use Rattle.fish_rule.specs.declared.table.Log.{Log}
 use Rattle.fish_rule.specs.declared.table.Pass.{Pass}
 use Rattle.fish_rule.specs.declared.table.Walk.{Walk}
@@ -19,7 +19,7 @@ pub record IsPassOf (log : Log) (p : Pass) : Type 0 where
   pub table : p.seat.table_id ≡ log.table.shared.table_id
   pub about : (view p).about ≡ log.key
   pub live : 1 ≤ (view p).lane
-  pub stands : Stands (view p)
+  pub stands : IsOfMoment (view p)
 
 -- two values of one log
 abbrev pub IsOf : Log → Log → Type 0

@@ -46,7 +46,7 @@ unfoldable pub void_body : ℕ → ℕ → ℕ
 void_body lines i = choose (ℕ_discrete i 0) (void_word lines) 0
 
 -- what a published region of a kind holds: a record, the words of a void, or nothing
-abbrev pub Holds : Kind → ℕ → ℕ → ℕ → (ℕ → ℕ) → Type 0
-Holds Stored lane number lines e = IsRecord lane number lines e
-Holds Void lane number lines e = e ≡ void_body lines
-Holds Mark lane number lines e = e 0 ≡ 0
+abbrev pub HoldsRegion : Kind → ℕ → ℕ → ℕ → (ℕ → ℕ) → Type 0
+HoldsRegion Stored lane number lines e = IsRecord lane number lines e
+HoldsRegion Void lane number lines e = e ≡ void_body lines
+HoldsRegion Mark lane number lines e = e 0 ≡ 0

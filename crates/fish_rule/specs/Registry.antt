@@ -2,7 +2,7 @@
 use Rattle.std.specs.Prelude.{ℕ, ◌≡◌, ◌≢◌, ◌+◌, ◌*◌, ◌%◌, ◌<◌, ◌≤◌, ◌⊎◌, zero, suc, List, [], ◌∷◌, ◌++◌, length, map}
 use Rattle.std.specs.Prelude.{true, None}
 use Rattle.std.proofs.Math.Decide.{ℕ_discrete, dec_lt}
-use Rattle.fish_catalog.specs.Listing.{IsNew, IsOnAt, active_texts, ended_at, listed_in, listed_of}
+use Rattle.fish_catalog.specs.Listing.{IsNewName, IsOnAt, active_texts, ended_at, listed_in, listed_of}
 use Rattle.fish_catalog.specs.Words.{name_in, row_word, text_in}
 use Rattle.fish_catalog.specs.declared.row.CatRow.{CatRow}
 use Rattle.fish_catalog.specs.declared.listed.Listed.{Listed}
@@ -66,7 +66,7 @@ AreRowWords f = (i : ℕ) → 2 ≤ i → i < 39 → f i ≡ row_word (row_spell
 
 -- the operation x registers the definition that the words of the next row spell, or it ends an active one
 abbrev pub IsOperation : (ℕ → ℕ) → List Listed → ℕ → Type 0
-IsOperation f ls x = ((x ≡ register_word (length ls)) × IsNew ls (name_in f) (text_in f) × AreRowWords f)
+IsOperation f ls x = ((x ≡ register_word (length ls)) × IsNewName ls (name_in f) (text_in f) × AreRowWords f)
     ⊎ ((id : ℕ) × (x ≡ end_word id) × (id < 256) × IsOnAt ls id)
 
 -- these are the active definitions at a version that the registry has reached

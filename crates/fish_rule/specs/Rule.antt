@@ -1,8 +1,8 @@
 -- The rule: all parts at once. And what every step leaves as it was.
 use Rattle.std.specs.Prelude.{ℕ, ◌≡◌, ◌≢◌, ◌*◌, ◌<◌, ◌≤◌, []}
 use Rattle.fish_rule.specs.Chains.{Chain, Chained, Linked}
-use Rattle.fish_rule.specs.Epochs.{Keyed, Registry}
-use Rattle.fish_rule.specs.Parts.{Fits, first_head, Limit, Rests, Seats, Settled, Space}
+use Rattle.fish_rule.specs.Epochs.{Keyed, RegistryHolds}
+use Rattle.fish_rule.specs.Parts.{FitsTable, first_head, Limit, RestsAt, Seats, Settled, Space}
 use Rattle.fish_rule.specs.Facts.{AreOpens, Facts, Owns, ShutOk}
 use Rattle.fish_rule.specs.Registry.{Endures}
 use Rattle.fish_rule.specs.Views.{AllOf, Each}
@@ -18,10 +18,10 @@ pub record Rule (k : Key) (w : World) : Type 0 where
   pub version_of : ℕ → ℕ
   pub quota : ℕ → ℕ
   pub state : ℕ → Epoch
-  pub key_fits : Fits k
+  pub key_fits : FitsTable k
   pub about : Each (λ v. 1 ≤ v.lane → v.about ≡ k) w.views
   pub seats : Seats w.views
-  pub tails : Each (λ v. v.lane ≡ 1 → v.out ≡ [] → Rests w.count w.line v.tail) w.views
+  pub tails : Each (λ v. v.lane ≡ 1 → v.out ≡ [] → RestsAt w.count w.line v.tail) w.views
   pub space : Space k w.count w.line w.dir w.log w.views start lane_of
   pub limit : Limit k w.count w.views start quota
   pub settling : Settled k w.count w.settled w.dir
@@ -30,7 +30,7 @@ pub record Rule (k : Key) (w : World) : Type 0 where
   pub chained : Each (λ v. Chained k w.dir w.log w.views w.head v.learned) w.views
   pub own : Each (λ v. Owns k w.count w.dir lane_of v.lane v.out v.own) w.views
   pub facts : Each (λ v. Facts k w.count w.dir w.log start v.learned) w.views
-  pub registry : Registry k w.count w.registry state version_of w.views
+  pub registry : RegistryHolds k w.count w.registry state version_of w.views
   pub keyed : Keyed k w.count w.registry w.dir w.log start lane_of version_of
   pub shuts : Each (λ v. ShutOk k w.count w.dir start v.shut) w.views
   pub opens : Each (λ v. AllOf (AreOpens k w.count w.dir lane_of) v.learned.opens) w.views

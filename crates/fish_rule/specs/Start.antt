@@ -6,7 +6,7 @@ use Rattle.fish_catalog.specs.Rows.{IsCatalog}
 use Rattle.fish_catalog.specs.Words.{IsWritable, row_word}
 use Rattle.fish_catalog.specs.declared.row.CatRow.{CatRow}
 use Rattle.fish_rule.specs.Registry.{epoch_at, op_at, opened_at, row_at, version_at}
-use Rattle.fish_rule.specs.Parts.{IsOlder, first_head}
+use Rattle.fish_rule.specs.Parts.{IsOlderPlace, first_head}
 use Rattle.fish_rule.specs.Table.{first_view}
 use Rattle.fish_rule.specs.World.{last_line, last_number, World}
 use Rattle.fish_rule.specs.declared.seats.Start.{Start}
@@ -41,11 +41,11 @@ pub record CanOpen (s : Shape) (start : Start) : Type 0 where
   pub line : start.base.line ≤ last_line
   pub version : start.version ≤ 512
   pub heads : length start.heads ≡ 2 ^ s.bucket_bits
-  pub older : (b : ℕ) → IsOlder start.base.line (slice_index start.heads b)
+  pub older : (b : ℕ) → IsOlderPlace start.base.line (slice_index start.heads b)
   pub rows : All (IsClamped start.base.number) start.catalog
 
 -- there is no older record, and the definitions are these, whose indices begin at 0
-pub record IsFirst (catalog : List CatRow) (start : Start) : Type 0 where
+pub record IsFirstStart (catalog : List CatRow) (start : Start) : Type 0 where
   pub number : start.base.number ≡ 0
   pub line : start.base.line ≡ 0
   pub version : start.version ≡ 0

@@ -57,7 +57,7 @@ first_view k = record {
 }
 
 -- some moment meets the rule, and a pass has this view there
-pub record Stands (v : View) : Type 0 where
+pub record IsOfMoment (v : View) : Type 0 where
   pub moment : World
   pub rule : Rule v.about moment
   pub seat : ℕ
@@ -71,7 +71,7 @@ Sat = Me Bool View
 pub record Told (m : Sat) (v : View) (m' : Sat) : Type 0 where
   pub view : m'.0 ≡ v
   pub held : m'.1 ≡ m.1
-  pub stands : Stands v
+  pub stands : IsOfMoment v
 
 -- in some moment that meets the rule a pass has this view, and the directory word of a number is this one
 pub record Sees (v : View) (n word : ℕ) : Type 0 where

@@ -1,7 +1,7 @@
 -- What each kind of step tells the pass that makes it.
 use Rattle.std.specs.Prelude.{ℕ, ◌≡◌, ◌≢◌, ◌≤◌, ◌-◌, [], ◌+◌, ◌*◌, Bool, Some, None, ◌<◌, length, slice_get}
 use Rattle.atomic_table.specs.Table.{Step}
-use Rattle.fish_rule.specs.Parts.{Rests, first_head}
+use Rattle.fish_rule.specs.Parts.{RestsAt, first_head}
 use Rattle.fish_rule.specs.Regions.{dir_word}
 use Rattle.fish_rule.specs.SpaceSteps.{after_claim_lines, after_publish_region, after_store_word}
 use Rattle.fish_rule.specs.LoadSteps.{IsAlone, after_load_tail, after_look_at, after_raise_settled, after_read_word}
@@ -68,7 +68,7 @@ pub record ToldLoadTail (st : Step Bool) (m : Sat) (found : ℕ) (m' : Sat) : Ty
   pub from : m.0.about.number ≤ high found
   pub counted : m.0.learned.count ≤ high found
   pub settled : m.0.learned.settled ≤ high found
-  pub rests : m.0.lane ≡ 1 → m.0.out ≡ [] → Rests (high found) (low found) m.0.tail
+  pub rests : m.0.lane ≡ 1 → m.0.out ≡ [] → RestsAt (high found) (low found) m.0.tail
 
 -- a load of the settled number, which only rises, from the base's number on
 pub record ToldLoadSettled (st : Step Bool) (m : Sat) (found : ℕ) (m' : Sat) : Type 0 where
@@ -173,7 +173,7 @@ pub record ToldCheckLane (st : Step Bool) (m : Sat) (found : ℕ) (m' : Sat) : T
 pub record ToldLoadBound (st : Step Bool) (m : Sat) (found : ℕ) (m' : Sat) : Type 0 where
   pub told : (o : Round) → m.0.round ≡ Some o → Told m (after_load_bound m.0 o found) m'
   pub counted : m.0.learned.count ≤ high found
-  pub rests : m.0.lane ≡ 1 → m.0.out ≡ [] → Rests (high found) (low found) m.0.tail
+  pub rests : m.0.lane ≡ 1 → m.0.out ≡ [] → RestsAt (high found) (low found) m.0.tail
 
 -- a store of where the index of the row that waits begins
 abbrev pub told_store_from : Step Bool → Sat → ℕ → Sat → Type 0

@@ -4,7 +4,7 @@
 //! operations, 256 rows of 39 words, the heads of the chains, the directory and the log.
 
 ghost use Rattle.std.specs.Prelude.{◌≡◌, ◌<◌, ◌≤◌, ◌+◌, ◌-◌, ◌*◌};
-ghost use Rattle.fish_rule.specs.Parts.{Fits};
+ghost use Rattle.fish_rule.specs.Parts.{FitsTable};
 ghost use Rattle.fish_rule.specs.Registry.{epoch_at};
 ghost use Rattle.fish_rule.specs.Told.{place_at};
 ghost use Rattle.fish_rule.specs.World.{dir_at as first_directory_word, log_at as first_log_word};
@@ -32,7 +32,7 @@ pub(crate) const HEADS: u64 = 10_516;
 
 /// The first directory word of a table.
 pub(crate) fn dir_at(key: &Key) -> u64
-    requires { Fits key.now }
+    requires { FitsTable key.now }
     ensures { result ≡ first_directory_word key.now }
 {
     HEADS + key.buckets
@@ -40,7 +40,7 @@ pub(crate) fn dir_at(key: &Key) -> u64
 
 /// The first word of the log of a table.
 pub(crate) fn log_at(key: &Key) -> u64
-    requires { Fits key.now }
+    requires { FitsTable key.now }
     ensures { result ≡ first_log_word key.now }
 {
     dir_at(key) + (key.end - key.line + 16)

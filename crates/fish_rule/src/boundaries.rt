@@ -5,7 +5,7 @@ ghost use Rattle.std.specs.Prelude.{◌≡◌, ◌≤◌, ℕ, [], Some};
 ghost use Rattle.fish_rule.specs.BoundarySteps.{CanLoadBound, CanLoadBoundary, CanStoreFrom, CanStoreTo, IsLane};
 ghost use Rattle.fish_rule.specs.BoundarySteps.{after_load_bound, after_load_boundary, after_check_lane};
 ghost use Rattle.fish_rule.specs.BoundarySteps.{after_store_from, after_store_to};
-ghost use Rattle.fish_rule.specs.Parts.{Rests};
+ghost use Rattle.fish_rule.specs.Parts.{RestsAt};
 ghost use Rattle.fish_rule.specs.Passes.{IsPassOf, view};
 ghost use Rattle.fish_rule.specs.LoadSteps.{IsAlone};
 ghost use Rattle.fish_rule.specs.World.{high, low};
@@ -42,7 +42,7 @@ pub fn load_bound(log: &Log, pass: &mut Pass) -> Position
     ensures pass { IsPassOf log.now pass.new }
     ensures view { (o : Round) → (view pass.old).round ≡ Some o → (x : ℕ)
         × (view pass.new ≡ after_load_bound (view pass.old) o x) × (result.number ≡ high x) × (result.line ≡ low x) }
-    ensures rests { (view pass.old).lane ≡ 1 → (view pass.old).out ≡ [] → Rests result.number result.line
+    ensures rests { (view pass.old).lane ≡ 1 → (view pass.old).out ≡ [] → RestsAt result.number result.line
         (view pass.old).tail }
     ensures counted { (view pass.old).learned.count ≤ result.number }
 {

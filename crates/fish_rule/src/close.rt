@@ -2,7 +2,8 @@
 
 ghost use Rattle.std.specs.Prelude.{◌≡◌, ◌<◌, ◌≤◌, ℕ, [], true, IfOk, IfErr, OnErr, OnOk};
 ghost use Rattle.fish_rule.specs.ClosedLog.{IsClosed};
-ghost use Rattle.fish_rule.specs.within.ClosedLog.{AreHeads, HasStart, IsAdded, IsNext, IsRead, IsReadUpTo, IsWhole};
+ghost use Rattle.fish_rule.specs.within.ClosedLog.{AreSettledHeads, HasStart, IsEntryAdded, IsNextEntry, IsLogRead};
+ghost use Rattle.fish_rule.specs.within.ClosedLog.{IsReadUpTo, IsWholeLog};
 ghost use Rattle.fish_rule.specs.ClosedLog.{ReadsOn, StaysOpen};
 ghost use Rattle.fish_rule.specs.Logs.{Extends};
 ghost use Rattle.fish_rule.specs.Passes.{IsOf, IsPassOf, view};
@@ -95,7 +96,7 @@ pub fn close_log(alloc: Global, log: Log, control: Pass) -> Result<Remains, Clos
 fn remains_of(log: Log, control: Pass, whole: WholeLog) -> Remains
     requires pass { IsPassOf log control }
     requires alone { IsAlone (view control) }
-    requires whole { IsWhole (view control) whole }
+    requires whole { IsWholeLog (view control) whole }
     ensures opened { result.opened ≡ true }
     ensures closed { IsClosed (view control) result }
 {
@@ -137,7 +138,7 @@ fn read_log(alloc: Global, log: &Log, control: &mut Pass) -> Result<WholeLog, Al
     ensures pass { IsPassOf log.now control.new }
     ensures on { ReadsOn (view control.old) (view control.new) }
     ensures stays { OnErr result (StaysOpen (view control.old) (view control.new)) }
-    ensures whole { IfOk result (IsWhole (view control.new)) }
+    ensures whole { IfOk result (IsWholeLog (view control.new)) }
 {
     let tail = load_tail(log, control);
     let mut read = ReadLog {
@@ -179,9 +180,9 @@ fn read_words(
     requires heads { heads.old ≡ [] }
     ensures pass { IsPassOf log.now control.new }
     ensures extends { Extends (view control.old) (view control.new) }
-    ensures read { OnOk result (IsRead (view control.new) end read.old.lines read.new) }
+    ensures read { OnOk result (IsLogRead (view control.new) end read.old.lines read.new) }
     ensures heads { OnOk result ((settled : ℕ) × (read.new.number ≤ settled)
-        × AreHeads (view control.new) settled log.now.key.buckets heads.new) }
+        × AreSettledHeads (view control.new) settled log.now.key.buckets heads.new) }
 {
     all_numbers(log, control, end, read)?;
     raise_settled(log, control, read.number);
@@ -202,7 +203,7 @@ fn all_numbers(
     requires read { IsReadUpTo (view control.old) log.now.key.number read.old }
     ensures pass { IsPassOf log.now control.new }
     ensures extends { Extends (view control.old) (view control.new) }
-    ensures read { OnOk result (IsRead (view control.new) end read.old.lines read.new) }
+    ensures read { OnOk result (IsLogRead (view control.new) end read.old.lines read.new) }
 {
     for number in log.key.number..end {
         if !add_number(log, control, number, read)? {
@@ -225,7 +226,7 @@ fn add_number(
     requires read { IsReadUpTo (view control.old) number read.old }
     ensures pass { IsPassOf log.now control.new }
     ensures extends { Extends (view control.old) (view control.new) }
-    ensures read { IfOk result (λ goes. IsAdded (view control.new) number goes read.old.lines read.new) }
+    ensures read { IfOk result (λ goes. IsEntryAdded (view control.new) number goes read.old.lines read.new) }
 {
     match next_at(log, control, number) {
         Next::Entry(line) => {
@@ -263,7 +264,7 @@ fn next_at(log: &Log, control: &mut Pass, number: u64) -> Next
     requires look { CanLookAt (view control.old) number }
     ensures pass { IsPassOf log.now control.new }
     ensures extends { Extends (view control.old) (view control.new) }
-    ensures next { IsNext (view control.new) number result }
+    ensures next { IsNextEntry (view control.new) number result }
 {
     let word = look_at(log, control, number);
     let line = line_of_word(word);
@@ -281,7 +282,7 @@ fn all_heads(log: &Log, control: &mut Pass, heads: &mut Numbers64) -> Result<(),
     ensures pass { IsPassOf log.now control.new }
     ensures extends { Extends (view control.old) (view control.new) }
     ensures heads { OnOk result
-        (AreHeads (view control.new) (view control.old).learned.settled log.now.key.buckets heads.new) }
+        (AreSettledHeads (view control.new) (view control.old).learned.settled log.now.key.buckets heads.new) }
 {
     for bucket in 0..log.key.buckets {
         let head = load_head(log, control, bucket);

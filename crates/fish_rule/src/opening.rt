@@ -7,7 +7,7 @@ ghost use Rattle.fish_catalog.specs.Clamps.{IsClamped};
 ghost use Rattle.fish_catalog.specs.Rows.{IsCatalog, IsRow};
 ghost use Rattle.fish_catalog.specs.Words.{IsWritable, row_word};
 ghost use Rattle.fish_catalog.specs.declared.row.CatRow.{CatRow};
-ghost use Rattle.fish_rule.specs.Parts.{Fits};
+ghost use Rattle.fish_rule.specs.Parts.{FitsTable};
 ghost use Rattle.fish_rule.specs.Registry.{row_at};
 ghost use Rattle.fish_rule.specs.within.Start.{IsEmpty};
 ghost use Rattle.fish_rule.specs.World.{heads_at, total};
@@ -21,7 +21,7 @@ use std::alloc::{AllocError, Global};
 
 /// The words of a log without an entry that begins so.
 pub(crate) fn empty_words(alloc: Global, key: &Key, start: &Start) -> Result<Vec<u64>, AllocError>
-    requires fits { Fits key.now }
+    requires fits { FitsTable key.now }
     requires rows { key.now.rows.value ≡ start.now.catalog }
     requires clamped { All (IsClamped key.now.number) start.now.catalog }
     requires heads { key.now.heads.value ≡ start.now.heads }
@@ -41,7 +41,7 @@ pub(crate) fn empty_words(alloc: Global, key: &Key, start: &Start) -> Result<Vec
 
 /// How many words the table of a key has.
 fn word_count(key: &Key) -> usize
-    requires { Fits key.now }
+    requires { FitsTable key.now }
     ensures { result ≡ total key.now }
 {
     (log_at(key) + (key.end - key.line) * 4) as usize
@@ -56,7 +56,7 @@ fn zero_words(alloc: Global, count: usize) -> Result<Vec<u64>, AllocError>
 
 /// The tail word at a key's number and line.
 fn tail_of(key: &Key) -> u64
-    requires { Fits key.now }
+    requires { FitsTable key.now }
     ensures { result ≡ key.now.number * 68719476736 + key.now.line }
 {
     tail_word(key.number, key.line)

@@ -5,10 +5,10 @@
 
 ghost use Rattle.std.specs.Prelude.{◌≡◌, ℕ, ◌<◌, ◌≤◌, IfOk, replicate};
 ghost use Rattle.fish_rule.specs.Logs.{Learns};
-ghost use Rattle.fish_rule.specs.Parts.{Fits};
+ghost use Rattle.fish_rule.specs.Parts.{FitsTable};
 ghost use Rattle.fish_rule.specs.Passes.{IsPassOf, view};
 ghost use Rattle.fish_rule.specs.SeatSteps.{CanJoinPass, CanSplitPass, join_both, split_left, split_right};
-ghost use Rattle.fish_rule.specs.Start.{CanOpen, IsFirst, IsFirstKey, IsShape};
+ghost use Rattle.fish_rule.specs.Start.{CanOpen, IsFirstStart, IsFirstKey, IsShape};
 ghost use Rattle.fish_rule.specs.LoadSteps.{after_load_tail};
 ghost use Rattle.fish_rule.specs.Table.{first_view};
 
@@ -48,7 +48,7 @@ impl Start {
     pub fn first(alloc: Global, shape: Shape, mut catalog: Catalog) -> Result<Start, AllocError>
         requires { IsShape shape }
         ensures can { IfOk result (CanOpen shape) }
-        ensures is { IfOk result (IsFirst catalog) }
+        ensures is { IfOk result (IsFirstStart catalog) }
     {
         let heads = no_heads(alloc, 1 << shape.bucket_bits)?;
         catalog.clamp(0);
@@ -99,7 +99,7 @@ fn key_of(shape: Shape, start: &Start) -> Key
     requires shape { IsShape shape }
     requires start { CanOpen shape start.now }
     ensures is { IsFirstKey shape start.now result }
-    ensures fits { Fits result }
+    ensures fits { FitsTable result }
 {
     let number = u64::from(start.base.number);
     let line = start.base.line;

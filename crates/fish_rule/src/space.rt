@@ -4,7 +4,7 @@
 ghost use Rattle.std.specs.Prelude.{◌≡◌, ◌≢◌, ◌+◌, ◌-◌, ◌*◌, ◌<◌, ◌≤◌, ℕ, [], length, Some};
 ghost use Rattle.fish_rule.specs.Flying.{region_in};
 ghost use Rattle.fish_rule.specs.Passes.{IsPassOf, view};
-ghost use Rattle.fish_rule.specs.Parts.{Rests};
+ghost use Rattle.fish_rule.specs.Parts.{RestsAt};
 ghost use Rattle.fish_rule.specs.Regions.{dir_word, kind_of};
 ghost use Rattle.fish_rule.specs.SpaceSteps.{CanClaimLines, CanPublishRegion, CanStoreWord, after_claim_lines};
 ghost use Rattle.fish_rule.specs.SpaceSteps.{after_publish_region, after_store_word};
@@ -180,7 +180,7 @@ pub fn load_tail(log: &Log, pass: &mut Pass) -> Position
     ensures counted { (view pass.old).learned.count ≤ result.number }
     ensures settled { (view pass.old).learned.settled ≤ result.number }
     ensures rests { (view pass.old).lane ≡ 1 → (view pass.old).out ≡ []
-        → Rests result.number result.line (view pass.old).tail }
+        → RestsAt result.number result.line (view pass.old).tail }
 {
     let found = log.table.shared.load::<LoadTail>(&mut pass.seat, 0);
     position_in(found)

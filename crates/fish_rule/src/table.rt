@@ -2,7 +2,7 @@
 
 ghost use Rattle.std.specs.Prelude.{◌≡◌, []};
 ghost use Rattle.fish_rule.specs.Flying.{region_in};
-ghost use Rattle.fish_rule.specs.Parts.{Fits};
+ghost use Rattle.fish_rule.specs.Parts.{FitsTable};
 ghost use Rattle.fish_rule.specs.World.{total};
 
 use crate::view::{Key, Shut, View};
@@ -70,7 +70,7 @@ pub struct Log {
     pub(crate) key: Key,
     pub(crate) shape: Shape,
     ghost keyed: { table.shared.key ≡ key },
-    ghost fits: { Fits key },
+    ghost fits: { FitsTable key },
     ghost wide: { table.shared.table_id.words ≡ total key },
     ghost bare: { table.shared.table_id.slots ≡ 0 },
 }

@@ -11,12 +11,12 @@ use Rattle.fish_lanes.proofs.Single.{singles_whole}
 use Rattle.fish_lanes.specs.Blocks.{AreEnded, AreLanes, HasRegistered, IsBlockSpan, IsMarkItem, NameMarks, control_items}
 use Rattle.fish_lanes.specs.Blocks.{SaysBlock}
 use Rattle.fish_lanes.specs.CommitRows.{LeavesRowsOf}
-use Rattle.fish_lanes.specs.Controlling.{IsCommitted}
+use Rattle.fish_lanes.specs.Controlling.{IsCheckpointAtMost}
 use Rattle.fish_lanes.specs.Leaving.{LeavesStore}
 use Rattle.fish_lanes.specs.Outcome.{HandsBack, LanesSayPlans, SayFullLast, SaysAlone, SaysShutBy}
-use Rattle.fish_lanes.specs.Ending.{HasEnd}
+use Rattle.fish_lanes.specs.Ending.{EndsAlone}
 use Rattle.fish_lanes.specs.Gains.{IsMarkAt, WasShut}
-use Rattle.fish_lanes.specs.Plans.{KnowsRows, RowsAre}
+use Rattle.fish_lanes.specs.Plans.{KnowsListed, RowsAre}
 use Rattle.fish_lanes.specs.Registering.{ItemsFit, HasEach, HasRegistry, KnowsEach, KnowsRegistry, Registry, after_all, registry_of}
 use Rattle.fish_lanes.specs.Registering.{waiting_id}
 use Rattle.fish_lanes.specs.Spans.{Span, answers}
@@ -30,7 +30,7 @@ use Rattle.fish_rule.proofs.laws.Lists.{all_among, among_either}
 use Rattle.fish_rule.proofs.laws.ChainFacts.{always_later}
 use Rattle.fish_rule.specs.Logs.{Learns}
 use Rattle.fish_rule.specs.Passes.{view}
-use Rattle.fish_rule.specs.Table.{Stands}
+use Rattle.fish_rule.specs.Table.{IsOfMoment}
 use Rattle.fish_rule.specs.Views.{AllOf, Among}
 use Rattle.fish_rule.specs.ChainFacts.{Always}
 use Rattle.fish_rule.specs.declared.view.Key.{Key}
@@ -38,7 +38,7 @@ use Rattle.fish_rule.specs.declared.view.View.{View}
 use Rattle.fish_run.specs.Blocks.{AreAcknowledged, FullsAgree, IsFullOf, Round, SaysPart, after_round, first_items}
 use Rattle.fish_run.specs.within.Blocks.{AreMarked}
 use Rattle.fish_run.specs.Blocks.{lanes_controls}
-use Rattle.fish_run.specs.within.Steps.{AreWhole, HasCutOne, HasRunOne, Leaves}
+use Rattle.fish_run.specs.within.Steps.{AreWholeLanes, HasCutOne, HasRunOne, Leaves}
 use Rattle.fish_store.specs.declared.store.Store.{Store}
 use Rattle.fish_whole.proofs.Wholes.{may_hold, sure_rows}
 use Rattle.fish_whole.specs.Whole.{MayEnd, Whole, WillHold}
@@ -61,7 +61,8 @@ pub marked_later : (v u : View) (rounds : List Round) → Learns v u → AreMark
 marked_later v u rounds learns h b among i x at = names_later v u x.items learns (h b among i x at)
 
 -- a checkpoint has no more entries than a later one
-pub committed_later : (count more : ℕ) (items : List Item) → count ≤ more → AllOf (IsCommitted count) items → AllOf (IsCommitted more) items
+pub committed_later : (count more : ℕ) (items : List Item) → count ≤ more → AllOf (IsCheckpointAtMost count) items
+    → AllOf (IsCheckpointAtMost more) items
 committed_later count more [] rises h = tt
 committed_later count more (x ∷ items) rises h =
     (λ n is. (let few = h.0 n is in omega arith), committed_later count more items rises h.1)
@@ -74,15 +75,15 @@ marks_more u rounds b h one a among = ⊎_elim (λ (m : Among a rounds). h a m)
 
 -- the checkpoints of one more have no more entries
 pub committed_more : (count : ℕ) (rounds : List Round) (b : Round) → AreAcknowledged count rounds
-    → AllOf (IsCommitted count) (first_items b.lanes) → AreAcknowledged count (rounds ++ b ∷ [])
+    → AllOf (IsCheckpointAtMost count) (first_items b.lanes) → AreAcknowledged count (rounds ++ b ∷ [])
 committed_more count rounds b h one a among = ⊎_elim (λ (m : Among a rounds). h a m)
-    (λ (m : Among a (b ∷ [])). ⊎_elim (λ (e : b ≡ a). subst (λ (z : Round). AllOf (IsCommitted count) (first_items z.lanes)) e one)
+    (λ (m : Among a (b ∷ [])). ⊎_elim (λ (e : b ≡ a). subst (λ (z : Round). AllOf (IsCheckpointAtMost count) (first_items z.lanes)) e one)
     (λ (bad : Among a []). elim bad [ ]) m) (among_either a rounds (b ∷ []) among)
 
 -- ---- refusals of a full log
 
 -- all of them agree
-pub fulls_agree : (v : View) (rounds : List Round) (end : ℕ) → Stands v → AreMarked v rounds → v.about.end ≡ end
+pub fulls_agree : (v : View) (rounds : List Round) (end : ℕ) → IsOfMoment v → AreMarked v rounds → v.about.end ≡ end
     → FullsAgree rounds end
 fulls_agree v rounds end s h is = record {
   ends = λ line lines e f. (named line lines e f).1 ∙ is;
@@ -134,20 +135,20 @@ controls_first (y ∷ lanes) end x at = ap (λ (z : Lane). control_items z end) 
 
 -- where no lane stopped at a fault, so is the boundary after them
 controls_so : (v u : View) (r s : Registrar) (lanes : List Lane) (end : BlockEnd) (k : Span) → IsBlockSpan v u end.to k
-    → AreWhole lanes → ((x : Lane) → slice_get lanes 0 ≡ Some x → HasRegistered v u r s x end)
+    → AreWholeLanes lanes → ((x : Lane) → slice_get lanes 0 ≡ Some x → HasRegistered v u r s x end)
     → ItemsFit k.from (k.to + 16) (registry_of v r) (lanes_controls lanes end)
 controls_so v u r s [] end k is whole has = tt
 controls_so v u r s (x ∷ lanes) end k is whole has = (has x refl).whole (whole 0 x refl) k is
 
 -- and they tell the definitions
-controls_known : (v u : View) (r s : Registrar) (lanes : List Lane) (end : BlockEnd) → 0 < length lanes → AreWhole lanes
+controls_known : (v u : View) (r s : Registrar) (lanes : List Lane) (end : BlockEnd) → 0 < length lanes → AreWholeLanes lanes
     → ((x : Lane) → slice_get lanes 0 ≡ Some x → HasRegistered v u r s x end)
     → KnowsEach u (registry_of v r) (lanes_controls lanes end)
 controls_known v u r s [] end some whole has = absurd (omega arith)
 controls_known v u r s (x ∷ lanes) end some whole has = (has x refl).each (whole 0 x refl)
 
 controls_after : (v u : View) (r s : Registrar) (lanes : List Lane) (end : BlockEnd) (fresh : Bool) (given : List (List Work)) (from : ℕ)
-    → 0 < length lanes → AreWhole lanes → ((x : Lane) → slice_get lanes 0 ≡ Some x → HasRegistered v u r s x end)
+    → 0 < length lanes → AreWholeLanes lanes → ((x : Lane) → slice_get lanes 0 ≡ Some x → HasRegistered v u r s x end)
     → registry_of u s ≡ after_round (registry_of v r) (round_of fresh given from v u lanes end)
 controls_after v u r s [] end fresh given from some whole has = absurd (omega arith)
 controls_after v u r s (x ∷ lanes) end fresh given from some whole has = (has x refl).is (whole 0 x refl)
@@ -159,20 +160,20 @@ each_whole past u w m r items = each_so (KnowsRegistry u) (HasRegistry w)
     (λ q knows. sure_rows past u q.version (map listed_of q.rows) knows w (may_hold past u w m)) r items
 
 -- what is so of the first lane's items is so of them
-first_committed : (count : ℕ) (lanes : List Lane) → ((x : Lane) → slice_get lanes 0 ≡ Some x → AllOf (IsCommitted count) x.items)
-    → AllOf (IsCommitted count) (first_items lanes)
+first_committed : (count : ℕ) (lanes : List Lane) → ((x : Lane) → slice_get lanes 0 ≡ Some x → AllOf (IsCheckpointAtMost count) x.items)
+    → AllOf (IsCheckpointAtMost count) (first_items lanes)
 first_committed count [] h = tt
 first_committed count (x ∷ lanes) h = h x refl
 
 -- what a round of these lanes says
 pub leaves_of : (Past : Whole → Type 0) (count : ℕ) (v u : View) (r s : Registrar) (from : ℕ)
     (items lanes : List Lane) (end : BlockEnd) → AreLanes items → length lanes ≡ length items
-    → HasEnd v from
+    → EndsAlone v from
     → ((past : Whole) → Past past → (k : Span) → IsBlockSpan v u end.to k → k.lanes ≡ length lanes
     → (k.from ≤ k.to) × WillHold past u (λ w. SaysBlock w k lanes))
     → ((x : Lane) → slice_get lanes 0 ≡ Some x → HasRegistered v u r s x end) → AreEnded lanes → NameMarks u lanes
-    → SaysShutBy v u lanes → SayFullLast v lanes → LanesSayPlans (KnowsRows u) (registry_of v r) s.catalog from lanes
-    → r.waiting ≡ None → SaysAlone Past v u r lanes → ((x : Lane) → slice_get lanes 0 ≡ Some x → AllOf (IsCommitted count) x.items)
+    → SaysShutBy v u lanes → SayFullLast v lanes → LanesSayPlans (KnowsListed u) (registry_of v r) s.catalog from lanes
+    → r.waiting ≡ None → SaysAlone Past v u r lanes → ((x : Lane) → slice_get lanes 0 ≡ Some x → AllOf (IsCheckpointAtMost count) x.items)
     → HandsBack v u lanes → (WasShut v → end.to ≤ from) → Leaves Past count v u r s from lanes end
 leaves_of Past count v u r s from items lanes end are many begins tells has ended marks shuts last plans settled alone committed left stays
     = record {
@@ -250,7 +251,7 @@ module _ (Past : Whole → Type 0) (count : ℕ) (v u : View) (r s : Registrar) 
   }
 
   -- none did
-  pub left_whole : AreWhole lanes → HasRunOne Past count fresh v.shut u (registry_of v r) (registry_of u s) from end.to left
+  pub left_whole : AreWholeLanes lanes → HasRunOne Past count fresh v.shut u (registry_of v r) (registry_of u s) from end.to left
   left_whole whole =
       let after = controls_after v u r s lanes end fresh given from h.some whole h.has in
       record {

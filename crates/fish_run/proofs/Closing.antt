@@ -30,13 +30,13 @@ use Rattle.fish_run.proofs.Written.{gained_none, part_still, part_then, part_who
 use Rattle.fish_run.proofs.Tables.{renewed_may}
 use Rattle.fish_run.specs.within.Running.{Finishes}
 use Rattle.fish_run.specs.Blocks.{Round, after_rounds, first_registry, left_table, rounds_of, with_cut}
-use Rattle.fish_run.specs.Faults.{IsUndamaged}
-use Rattle.fish_run.specs.Ran.{IsLost, IsStopped, IsWhole, StillKeeps, StoodFor, opened_item}
+use Rattle.fish_run.specs.Faults.{IsRunUndamaged}
+use Rattle.fish_run.specs.Ran.{IsRunLost, IsRunStopped, IsRunWhole, StillKeeps, StoodFor, opened_item}
 use Rattle.fish_run.specs.Tables.{LastTable}
 use Rattle.fish_run.specs.Reports.{report_of, whole_report}
 use Rattle.fish_run.specs.within.Faults.{IsWriteFault}
 use Rattle.fish_run.specs.within.Runs.{CanClose, IsAllKept, IsNewStore}
-use Rattle.fish_run.specs.within.Steps.{HasRunFirst, RunsAll, RunsSome}
+use Rattle.fish_run.specs.within.Steps.{HasRunRounds, RunsAll, RunsSome}
 use Rattle.fish_run.specs.Tables.{AreRenewed}
 use Rattle.fish_run.specs.declared.fault.RunFault.{RunFault}
 use Rattle.fish_run.specs.declared.lasting.Stopped.{Stopped}
@@ -120,7 +120,7 @@ module _
   module _ (x : Store) (close : CanClose x) (remains : Remains) (closed : IsClosed (view x.pass) remains) where
     -- what is left is that of the last table
     last_of : (rounds : List Round) (fresh : Bool) (cut : Option Round) (end : ℕ)
-        → HasRunFirst disks p (point_at disk' x) o.count (first_registry rows) rounds fresh cut end
+        → HasRunRounds disks p (point_at disk' x) o.count (first_registry rows) rounds fresh cut end
         → LastTable o remains fresh rounds cut
     last_of rounds fresh cut end h =
         let shape : x.log.shape ≡ o.log.shape = h.shape ∙ ap (λ (z : Point D). z.shape) from in
@@ -146,7 +146,7 @@ module _
     -- all blocks ran, the log was committed, and its end was written
     whole_of : (refused : Bool) (end : ℕ) → All x refused end → Kept x
         → Gained mid new (report_text (item.Closed end ∷ []))
-        → IsWhole disks disk disk' o told text remains old new refused
+        → IsRunWhole disks disk disk' o told text remains old new refused
     whole_of refused end h kept last = record {
       blocks = h.blocks;
       are = h.all;
@@ -163,7 +163,7 @@ module _
     -- of its end a part was written at most
     late_of : (refused : Bool) (end : ℕ) (why : RunFault) → IsWriteFault why → All x refused end
         → Kept x → GainedPart mid new (report_text (item.Closed end ∷ []))
-        → IsStopped disks disk disk' o told text remains old new refused why
+        → IsRunStopped disks disk disk' o told text remains old new refused why
     late_of refused end why loud h kept last = record {
       blocks = h.blocks;
       part = [];
@@ -190,22 +190,22 @@ module _
           (λ e. kept.catalog);
     }
       where
-        ran : HasRunFirst disks p (point_at disk' x) o.count (first_registry rows) (rounds_of h.blocks ++ []) false
+        ran : HasRunRounds disks p (point_at disk' x) o.count (first_registry rows) (rounds_of h.blocks ++ []) false
             None end
-        ran = subst (λ (z : List Round). HasRunFirst disks p (point_at disk' x) o.count (first_registry rows) z false
+        ran = subst (λ (z : List Round). HasRunRounds disks p (point_at disk' x) o.count (first_registry rows) z false
             None end) (sym (append-nil (rounds_of h.blocks))) h.ran
 
     -- the run came to its end
     pub ends_whole : (refused : Bool) (end : ℕ) (why : Option RunFault) → why ≡ None → All x refused end
         → Kept x → Finishes (Ok end) why mid new
-        → IsWhole disks disk disk' o told text remains old new refused
+        → IsRunWhole disks disk disk' o told text remains old new refused
     ends_whole refused end None is all kept f = whole_of refused end all kept f
     ends_whole refused end (Some why) is all kept f = absurd cc
 
     -- or a fault came at its end
     pub ends_late : (refused : Bool) (end : ℕ) (why : RunFault) (fault : Option RunFault) → fault ≡ Some why → All x refused end
         → Kept x → Finishes (Ok end) fault mid new
-        → IsStopped disks disk disk' o told text remains old new refused why
+        → IsRunStopped disks disk disk' o told text remains old new refused why
     ends_late refused end why fault is all kept f =
         let last = subst (λ (z : Option RunFault). Finishes (Ok end) z mid new) is f in late_of refused end why last.0 all kept last.1
 
@@ -217,7 +217,7 @@ module _
   -- and then the log is closed
   stopped_of : (refused : Bool) (x : Store) (remains : Remains) → IsClosed (view x.pass) remains → (e : Stopped) → e.store ≡ Some x
       → Stops refused e → Gained mid new []
-      → IsStopped disks disk disk' o told text remains old new refused e.why
+      → IsRunStopped disks disk disk' o told text remains old new refused e.why
   stopped_of refused x remains closed e is h none = record {
     blocks = h.blocks;
     part = h.part;
@@ -241,24 +241,24 @@ module _
       at : h.stops.at ≡ point_at disk' x
       at = (close_is e x is h).0
 
-      ran : HasRunFirst disks p (point_at disk' x) o.count (first_registry rows) (rounds_of h.blocks ++ h.part)
+      ran : HasRunRounds disks p (point_at disk' x) o.count (first_registry rows) (rounds_of h.blocks ++ h.part)
           h.stops.fresh h.cut h.stops.end
-      ran = subst (λ (z : Point D). HasRunFirst disks p z o.count (first_registry rows)
+      ran = subst (λ (z : Point D). HasRunRounds disks p z o.count (first_registry rows)
           (rounds_of h.blocks ++ h.part) h.stops.fresh h.cut h.stops.end) at h.stops.ran
 
   -- the same by how the fault was handed on
   pub ends_stopped : (refused : Bool) (x : Store) (remains : Remains) → IsClosed (view x.pass) remains → (e : Stopped) (why : RunFault)
       (fault : Option RunFault) → fault ≡ Some why → e.store ≡ Some x → Stops refused e → Finishes (Err e.why) fault mid new
-      → IsStopped disks disk disk' o told text remains old new refused why
+      → IsRunStopped disks disk disk' o told text remains old new refused why
   ends_stopped refused x remains closed e why fault fault_is is some f =
       let both : Some e.why ≡ Some why = sym f.0 ∙ fault_is in
       let same : e.why ≡ why = cc in
-      subst (IsStopped disks disk disk' o told text remains old new refused) same
+      subst (IsRunStopped disks disk disk' o told text remains old new refused) same
       (stopped_of refused x remains closed e is some f.1)
 
   -- all blocks ran, and there was no memory to show the log
   pub lost_all : (x : Store) (refused : Bool) (end : ℕ) → All x refused end
-      → IsLost disks disk disk' o told text old mid refused
+      → IsRunLost disks disk disk' o told text old mid refused
   lost_all x refused end h = record {
     blocks = h.blocks;
     part = [];
@@ -269,13 +269,13 @@ module _
     refused_is = h.refused_is;
     keeps = still_keeps disks read disk o p (point_at disk' x) from rows same (rounds_of h.blocks ++ []) false None
         end
-        (subst (λ (z : List Round). HasRunFirst disks p (point_at disk' x) o.count (first_registry rows) z false None
+        (subst (λ (z : List Round). HasRunRounds disks p (point_at disk' x) o.count (first_registry rows) z false None
         end) (sym (append-nil (rounds_of h.blocks))) h.ran) unshut;
   }
 
   -- or a fault stopped them
   pub lost_some : (refused : Bool) (e : Stopped) → Stops refused e
-      → IsLost disks disk disk' o told text old mid refused
+      → IsRunLost disks disk disk' o told text old mid refused
   lost_some refused e h = record {
     blocks = h.blocks;
     part = h.part;
@@ -300,7 +300,7 @@ module _
   pub well_some : {refused : Bool} (c : Commit) (log : List Entry) → IsOpened (disks.content disk) (disks.images disk) c log o
       → (e : Stopped)
       → Stops refused e
-      → IsSome (disks.content disk') → IsUndamaged e.why
+      → IsSome (disks.content disk') → IsRunUndamaged e.why
   well_some c log h e some told = some.stops.whole (first_past log o) (record {
     sound = sound_first disks read disk o p p from c log h (told_some e some told);
     told = told;

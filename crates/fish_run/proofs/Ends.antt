@@ -9,8 +9,8 @@ use Rattle.std.proofs.lemmas.List.{take_all, take_more}
 use Rattle.std.proofs.lemmas.List.Folds.{list_any-append}
 use Rattle.fish_catalog.specs.declared.row.CatRow.{CatRow}
 use Rattle.fish_disk.specs.declared.disk.Disk.{Ghosts as Disks}
-use Rattle.fish_feed.specs.Works.{Pairs}
-use Rattle.fish_lanes.specs.Ending.{HasEnd}
+use Rattle.fish_script.specs.Laws.{Pairs}
+use Rattle.fish_lanes.specs.Ending.{EndsAlone}
 use Rattle.fish_lanes.specs.Registering.{Registry}
 use Rattle.fish_outside.specs.Content.{Files, Gained, GainedPart, SameFiles}
 use Rattle.fish_report.specs.ReportText.{report_text}
@@ -29,13 +29,13 @@ use Rattle.fish_run.specs.Joins.{block_said}
 use Rattle.fish_run.specs.Rounds.{AreRounds, given_in}
 use Rattle.fish_run.specs.within.Faults.{IsWriteFault}
 use Rattle.fish_run.specs.within.Running.{HowStopped}
-use Rattle.fish_run.specs.within.Steps.{HasRounds, HasRunFirst, RunsAll, RunsSome, StopsRounds, WritesBlocks}
+use Rattle.fish_run.specs.within.Steps.{HasRounds, HasRunRounds, RunsAll, RunsSome, StopsRounds, WritesBlocks}
 use Rattle.fish_run.specs.Tables.{AreRenewed, is_next_new}
 use Rattle.fish_run.specs.declared.fault.RunFault.TheVariants as fault
 use Rattle.fish_run.specs.declared.lasting.Stopped.{Stopped}
 use Rattle.fish_script.specs.declared.script.Block as script
 use Rattle.fish_store.specs.CommitRows.{LeavesRows}
-use Rattle.fish_store.specs.Sound.{Point, Runs}
+use Rattle.fish_store.specs.Sound.{Point, StoreRuns}
 
 -- ---- one more block
 
@@ -232,10 +232,10 @@ module _
 
   -- they were written
   pub runs_all : (p q : Point D) (told : Option Files) (text : List script.Block) (i to : ℕ) (t : Registry) (a b : Option (List ℕ))
-      (refused : Bool) → length text ≡ i → HasEnd q.view to → q.rows ≡ t.rows
+      (refused : Bool) → length text ≡ i → EndsAlone q.view to → q.rows ≡ t.rows
       → WritesBlocks disks p q from r begin told (take i text) to t a b refused
       → ((rounds : List Round) → HasRounds disks p q from r rounds false to t
-      → HasRunFirst disks p q from r rounds false None to)
+      → HasRunRounds disks p q from r rounds false None to)
       → RunsAll disks p q from r begin told text a b refused to
   runs_all p q told text i to t a b refused many ends rows h end = record {
     blocks = h.blocks;
@@ -250,7 +250,7 @@ module _
   -- and the store went on in its table
   pub all_later : (p m q : Point D) (told : Option Files) (text : List script.Block) (a b : Option (List ℕ)) (refused : Bool) (to : ℕ)
       → RunsAll disks p m from r begin told text a b refused to
-      → Runs disks m q (λ w. Unit {0}) → Learns m.view q.view → HasEnd q.view to → q.shape ≡ m.shape → q.rows ≡ m.rows
+      → StoreRuns disks m q (λ w. Unit {0}) → Learns m.view q.view → EndsAlone q.view to → q.shape ≡ m.shape → q.rows ≡ m.rows
       → LeavesRows disks m.disk q.disk (λ was. was ++ m.rows ∷ []) (m.rows ∷ [])
       → RunsAll disks p q from r begin told text a b refused to
   all_later p m q told text a b refused to h runs learns ends shape rows left = record {

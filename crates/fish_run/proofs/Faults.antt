@@ -3,7 +3,7 @@ use Rattle.std.proofs.Common.{◌≡◌, ◌≢◌, ℕ, List, Some, refl, sym, 
 use Rattle.fish_flush.specs.declared.refusal.FlushRefusal.{FlushRefusal}
 use Rattle.fish_flush.specs.declared.refusal.FlushRefusal.TheVariants as flush
 use Rattle.fish_lanes.specs.Blocks.{EachLane}
-use Rattle.fish_lanes.specs.Causes.{HasCause, IsUndamaged as IsWell}
+use Rattle.fish_lanes.specs.Causes.{HasFaultCause, IsUndamaged as IsWell}
 use Rattle.fish_lanes.specs.Outcome.{Stops}
 use Rattle.fish_lanes.specs.declared.lane.Lane.{Lane}
 use Rattle.fish_lanes.specs.declared.work.LaneFault.{LaneFault}
@@ -13,7 +13,7 @@ use Rattle.fish_outside.specs.declared.fault.FeedRefusal.{FeedRefusal}
 use Rattle.fish_outside.specs.declared.fault.FeedRefusal.TheVariants as feed
 use Rattle.fish_report.specs.declared.writing.WriteRefusal.{WriteRefusal}
 use Rattle.fish_report.specs.declared.writing.WriteRefusal.TheVariants as write
-use Rattle.fish_run.specs.Faults.{IsFirstFault, IsUndamaged, feed_fault, flush_fault}
+use Rattle.fish_run.specs.Faults.{IsFirstFault, IsRunUndamaged, feed_fault, flush_fault}
 use Rattle.fish_run.specs.within.Faults.{IsCommitFault, IsWriteFault}
 use Rattle.fish_run.specs.Faults.{lane_fault, write_fault}
 use Rattle.fish_run.specs.declared.fault.RunFault.{RunFault}
@@ -62,26 +62,26 @@ feed_failed feed.Failed is = refl
 feed_failed feed.OutOfMemory is = absurd cc
 
 -- only a lane finds damage
-pub feed_well : (r : FeedRefusal) → IsUndamaged (feed_fault r)
+pub feed_well : (r : FeedRefusal) → IsRunUndamaged (feed_fault r)
 feed_well feed.Failed = tt
 feed_well feed.OutOfMemory = tt
 
-pub write_well : (r : WriteRefusal) → IsUndamaged (write_fault r)
+pub write_well : (r : WriteRefusal) → IsRunUndamaged (write_fault r)
 write_well write.Failed = tt
 write_well write.OutOfMemory = tt
 
-pub flush_well : (r : FlushRefusal) → IsUndamaged (flush_fault r)
+pub flush_well : (r : FlushRefusal) → IsRunUndamaged (flush_fault r)
 flush_well flush.DiskFault = tt
 flush_well flush.OutOfMemory = tt
 
-pub lane_well : (f : LaneFault) (why : RunFault) → lane_fault f ≡ Some why → IsWell f → IsUndamaged why
+pub lane_well : (f : LaneFault) (why : RunFault) → lane_fault f ≡ Some why → IsWell f → IsRunUndamaged why
 lane_well cause.None why is h = absurd cc
-lane_well cause.Memory why is h = subst IsUndamaged (let e : fault.Memory ≡ why = cc in e) tt
-lane_well cause.Disk why is h = subst IsUndamaged (let e : fault.Disk ≡ why = cc in e) tt
+lane_well cause.Memory why is h = subst IsRunUndamaged (let e : fault.Memory ≡ why = cc in e) tt
+lane_well cause.Disk why is h = subst IsRunUndamaged (let e : fault.Disk ≡ why = cc in e) tt
 lane_well (cause.Damaged n) why is h = elim h [ ]
 
 -- a lane that stopped at the disk has that cause
-pub lane_disk : (before now : ℕ) (f : LaneFault) → lane_fault f ≡ Some fault.Disk → HasCause before now f → Rose before now
+pub lane_disk : (before now : ℕ) (f : LaneFault) → lane_fault f ≡ Some fault.Disk → HasFaultCause before now f → Rose before now
 lane_disk before now cause.None is h = absurd cc
 lane_disk before now cause.Memory is h = absurd cc
 lane_disk before now cause.Disk is h = h
@@ -100,7 +100,7 @@ lane_rose Past before now lanes why stops h is =
     lane_disk before now h.lane.fault (h.is ∙ ap Some is) (stops h.at h.lane h.lane_is).cause
 
 pub lane_whole : (Past : Whole → Type 0) (before now : ℕ) (lanes : List Lane) (why : RunFault)
-    → EachLane (λ i x. Stops Past before now x.fault) lanes → IsFirstFault lanes why → (past : Whole) → Past past → IsUndamaged why
+    → EachLane (λ i x. Stops Past before now x.fault) lanes → IsFirstFault lanes why → (past : Whole) → Past past → IsRunUndamaged why
 lane_whole Past before now lanes why stops h past p =
     lane_well h.lane.fault why h.is ((stops h.at h.lane h.lane_is).whole past p)
 
@@ -115,13 +115,13 @@ commit_other why h is = flush_other h.0 (sym h.1 ∙ is)
 pub commit_no_output : (why : RunFault) → IsCommitFault why → why ≢ fault.Output
 commit_no_output why h is = flush_no_output h.0 (sym h.1 ∙ is)
 
-pub commit_well : (why : RunFault) → IsCommitFault why → IsUndamaged why
-commit_well why h = subst IsUndamaged (sym h.1) (flush_well h.0)
+pub commit_well : (why : RunFault) → IsCommitFault why → IsRunUndamaged why
+commit_well why h = subst IsRunUndamaged (sym h.1) (flush_well h.0)
 
 -- ---- the end
 
 -- a fault that names no number is no damage
-pub well_of : (why : RunFault) → ((n : ℕ) → why ≢ fault.Damaged n) → IsUndamaged why
+pub well_of : (why : RunFault) → ((n : ℕ) → why ≢ fault.Damaged n) → IsRunUndamaged why
 well_of fault.Input h = tt
 well_of fault.Output h = tt
 well_of fault.Memory h = tt

@@ -2,10 +2,11 @@
 use Rattle.std.proofs.Common.{◌≡◌, ℕ, zero, suc, List, [], ◌∷◌, ◌++◌, Some}
 use Rattle.std.proofs.Common.{append-nil, arith, length, slice_get, refl, sym, ap, ◌∙◌, inl, inr}
 use Rattle.fish_feed.specs.Queues.{AreIdle, IsGiven, both, works_of}
-use Rattle.fish_feed.specs.Works.{AreAnewAfterFirst, Pairs, Triples}
+use Rattle.fish_feed.specs.Works.{AreAnewAfterFirst, Triples}
+use Rattle.fish_script.specs.Laws.{Pairs}
 use Rattle.fish_lanes.specs.declared.lane.Lane.{Lane}
 use Rattle.fish_lanes.specs.declared.work.Work.{Work}
-use Rattle.fish_run.specs.within.Going.{HasNext}
+use Rattle.fish_run.specs.within.Going.{HasNextWorks}
 use Rattle.fish_run.specs.Works.{to_do}
 
 -- nothing for each lane
@@ -48,7 +49,7 @@ both_length (x ∷ xs) [] many = absurd (omega (many, arith))
 both_length (x ∷ xs) (y ∷ ys) many = ap suc (both_length xs ys (omega (many, arith)))
 
 -- idle lanes begin with what they are given
-pub idle_first : (lanes : List Lane) (given : List (List Work)) (ys : List Lane) → AreIdle lanes → Triples HasNext lanes given ys
+pub idle_first : (lanes : List Lane) (given : List (List Work)) (ys : List Lane) → AreIdle lanes → Triples HasNextWorks lanes given ys
     → Pairs (λ ws y. (to_do y ≡ ws) × AreAnewAfterFirst ws) given ys
 idle_first [] [] [] idle h = tt
 idle_first [] [] (y ∷ ys) idle h = elim h [ ]
@@ -59,7 +60,7 @@ idle_first (x ∷ lanes) (ws ∷ given) (y ∷ ys) idle h =
     ((h.0.0 ∙ ap (λ (z : List Work). z ++ ws) idle.0, h.0.2), idle_first lanes given ys idle.1 h.1)
 
 -- lanes that are given nothing begin with what they have
-pub none_next : (lanes ys : List Lane) → Pairs (λ x y. to_do y ≡ x.works) lanes ys → Triples HasNext lanes (nones lanes) ys
+pub none_next : (lanes ys : List Lane) → Pairs (λ x y. to_do y ≡ x.works) lanes ys → Triples HasNextWorks lanes (nones lanes) ys
 unfolding nones
 none_next [] [] h = tt
 none_next [] (y ∷ ys) h = elim h [ ]
@@ -68,7 +69,7 @@ none_next (x ∷ lanes) (y ∷ ys) h = ((h.0 ∙ sym (append-nil x.works), inr r
 
 -- and lanes that had none with what they were given
 pub given_next : (lanes lanes' ys : List Lane) → Pairs IsGiven lanes lanes' → Pairs (λ x y. to_do y ≡ x.works) lanes' ys
-    → Triples HasNext lanes (works_of lanes') ys
+    → Triples HasNextWorks lanes (works_of lanes') ys
 given_next [] [] [] g h = tt
 given_next [] [] (y ∷ ys) g h = elim h [ ]
 given_next [] (z ∷ lanes') ys g h = elim g [ ]

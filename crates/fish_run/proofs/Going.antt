@@ -11,7 +11,7 @@ use Rattle.fish_catalog.specs.declared.commit.Commit.{Commit}
 use Rattle.fish_catalog.specs.declared.entry.Entry.{Entry}
 use Rattle.fish_catalog.specs.declared.row.CatRow.{CatRow}
 use Rattle.fish_disk.specs.declared.disk.Disk.{Ghosts as Disks}
-use Rattle.fish_flush.specs.Carrying.{Carries, HasSettled, Reads}
+use Rattle.fish_flush.specs.Carrying.{CarriesLog, HasSettled, ReadsLog}
 use Rattle.fish_flush.specs.Rows.{HoldsRows}
 use Rattle.fish_ingest.specs.Ingestion.{CanStart}
 use Rattle.fish_lanes.proofs.Committing.{reads_control}
@@ -19,7 +19,7 @@ use Rattle.fish_lanes.proofs.Controls.{each_last}
 use Rattle.fish_lanes.proofs.Versions.{same_version}
 use Rattle.fish_lanes.specs.Blocks.{HasRegistered, control_items}
 use Rattle.fish_lanes.specs.Controlling.{CanControl}
-use Rattle.fish_lanes.specs.Ending.{HasEnd}
+use Rattle.fish_lanes.specs.Ending.{EndsAlone}
 use Rattle.fish_lanes.specs.Registering.{KnowsRegistry, registry_of, waiting_id}
 use Rattle.fish_lanes.specs.declared.block.BlockEnd.{BlockEnd}
 use Rattle.fish_lanes.specs.declared.lane.Lane.{Lane}
@@ -33,19 +33,19 @@ use Rattle.fish_rule.proofs.laws.ChainFacts.{always_later}
 use Rattle.fish_rule.proofs.laws.Learning.{learns_self}
 use Rattle.fish_rule.proofs.laws.Versions.{definitions_first}
 use Rattle.fish_rule.specs.LoadSteps.{IsAlone}
-use Rattle.fish_rule.specs.Parts.{Rests}
+use Rattle.fish_rule.specs.Parts.{RestsAt}
 use Rattle.fish_rule.specs.Passes.{IsPassOf, view}
 use Rattle.fish_rule.specs.Start.{table_lines}
-use Rattle.fish_rule.specs.Table.{Stands, first_view}
+use Rattle.fish_rule.specs.Table.{IsOfMoment, first_view}
 use Rattle.fish_rule.specs.Views.{Among}
 use Rattle.fish_rule.specs.World.{high, last_line, low}
 use Rattle.fish_rule.specs.declared.table.Log.{Log}
 use Rattle.fish_rule.specs.declared.table.Shape.{Shape}
 use Rattle.fish_rule.specs.declared.view.Key.{Key}
 use Rattle.fish_rule.specs.declared.view.View.{View}
-use Rattle.fish_run.specs.Blocks.{begun, first_registry}
+use Rattle.fish_run.specs.Blocks.{begun_anew, first_registry}
 use Rattle.fish_run.specs.within.Runs.{CanClose, CanGoOn, IsNewStore, IsTable}
-use Rattle.fish_run.specs.within.Steps.{AreWhole}
+use Rattle.fish_run.specs.within.Steps.{AreWholeLanes}
 use Rattle.fish_scan.specs.Colder.{IsBelow}
 use Rattle.fish_store.specs.Opened.{opened_point}
 use Rattle.fish_store.specs.Points.{point_at}
@@ -104,7 +104,7 @@ module _ {D : Type 0} (disks : Disks D) (disk : D) (c : Commit) (log : List Entr
         may = (
           c,
           log,
-          subst (λ (l : List CatRow). Carries (disks.images disk) o.flusher (view o.pass) o.log.shape l c log)
+          subst (λ (l : List CatRow). CarriesLog (disks.images disk) o.flusher (view o.pass) o.log.shape l c log)
               (sym rows) h.carries,
         );
         counted =
@@ -177,13 +177,13 @@ holds_rows v r k = record {
 }
 
 -- a pass that only read is later
-pub later_reads : (v u : View) → Reads v u → Later v u
+pub later_reads : (v u : View) → ReadsLog v u → Later v u
 later_reads v u h = record {
   learns = h.learns;
   gained = λ o m. inl (subst (Among o) (ap (λ (z : View). z.own) h.frame) m);
 }
 
-pub alone_reads : (v u : View) → Reads v u → IsAlone v → IsAlone u
+pub alone_reads : (v u : View) → ReadsLog v u → IsAlone v → IsAlone u
 alone_reads v u h a = record {
   control = ap (λ (z : View). z.lane) h.frame ∙ a.control;
   all = ap (λ (z : View). z.out) h.frame ∙ a.all;
@@ -191,17 +191,17 @@ alone_reads v u h a = record {
 }
 
 -- a pass that is alone and has the tail at a count knows no higher one
-count_most : (u : View) (count x : ℕ) → Stands u → IsAlone u → u.tail ≡ Some (record { number = high x; line = low x }) → high x ≡ count
+count_most : (u : View) (count x : ℕ) → IsOfMoment u → IsAlone u → u.tail ≡ Some (record { number = high x; line = low x }) → high x ≡ count
     → u.learned.count ≤ count
 count_most u count x s a tail is =
-    let rests : Rests s.moment.count s.moment.line (Some (record { number = high x; line = low x })) =
-    subst (Rests s.moment.count s.moment.line) tail (s.rule.tails s.seat u s.at a.control a.all) in
+    let rests : RestsAt s.moment.count s.moment.line (Some (record { number = high x; line = low x })) =
+    subst (RestsAt s.moment.count s.moment.line) tail (s.rule.tails s.seat u s.at a.control a.all) in
     let same : high x ≡ s.moment.count = rests.0 in
     let counted : u.learned.count ≤ s.moment.count = (s.rule.facts s.seat u s.at).counted in
     omega arith
 
 -- so the log ends where it did
-pub end_reads : (v u : View) (to : ℕ) → Reads v u → Stands u → HasEnd v to → HasEnd u to
+pub end_reads : (v u : View) (to : ℕ) → ReadsLog v u → IsOfMoment u → EndsAlone v to → EndsAlone u to
 end_reads v u to h s e =
     let alone = alone_reads v u h e.alone in
     let t = h.tail e.alone e.count (e.tail.0, e.tail.1, e.tail.2) in
@@ -221,7 +221,7 @@ end_reads v u to h s e =
     }
 
 -- and at the number up to which it was committed
-pub end_settled : (v u : View) (n from : ℕ) → Reads v u → Stands u → HasEnd v from → HasSettled v u n → HasEnd u n
+pub end_settled : (v u : View) (n from : ℕ) → ReadsLog v u → IsOfMoment u → EndsAlone v from → HasSettled v u n → EndsAlone u n
 unfolding end_reads
 end_settled v u n from h s e settled =
     let f = end_reads v u from h s e in
@@ -241,7 +241,7 @@ end_settled v u n from h s e settled =
     }
 
 -- the log has one end
-not_less : (v : View) (a b : ℕ) → Stands v → HasEnd v a → HasEnd v b → a < b → ⊥
+not_less : (v : View) (a b : ℕ) → IsOfMoment v → EndsAlone v a → EndsAlone v b → a < b → ⊥
 not_less v a b s h k less =
     let r = s.rule in
     let floor : v.learned.settled ≤ s.moment.settled = r.floors s.seat v s.at in
@@ -249,8 +249,8 @@ not_less v a b s h k less =
     let settled = k.settled in
     let above = h.above in
     let t = h.tail in
-    let rests : Rests s.moment.count s.moment.line (Some (record { number = high t.0; line = low t.0 }))
-    = subst (Rests s.moment.count s.moment.line) t.1 (r.tails s.seat v s.at h.alone.control h.alone.all) in
+    let rests : RestsAt s.moment.count s.moment.line (Some (record { number = high t.0; line = low t.0 }))
+    = subst (RestsAt s.moment.count s.moment.line) t.1 (r.tails s.seat v s.at h.alone.control h.alone.all) in
     let here : high t.0 ≡ s.moment.count = rests.0 in
     let count : high t.0 ≡ h.count = t.2 in
     ⊎_elim (λ (e : a ≡ h.count). (let bad : ⊥ = omega arith in bad))
@@ -258,7 +258,7 @@ not_less v a b s h k less =
     (r.settling.below a (let same : v.about.number ≤ a = above in omega arith) (omega arith)).unmarked
     (m.1 v (learns_self v) s.moment r s.seat s.at)) h.ends
 
-pub one_end : (v : View) (a b : ℕ) → Stands v → HasEnd v a → HasEnd v b → a ≡ b
+pub one_end : (v : View) (a b : ℕ) → IsOfMoment v → EndsAlone v a → EndsAlone v b → a ≡ b
 one_end v a b s h k = by (dec_lt a b) (dec_lt b a)
   where
     by : Dec (a < b) → Dec (b < a) → a ≡ b
@@ -295,7 +295,7 @@ module _
     };
     commit = h.commit;
     below = h.below;
-    end = subst (HasEnd (view t.pass)) (h.number ∙ same) (first_end (view t.pass) t.log.key h.first rolled_lines);
+    end = subst (EndsAlone (view t.pass)) (h.number ∙ same) (first_end (view t.pass) t.log.key h.first rolled_lines);
     known = subst (λ (z : View). KnowsRegistry z (registry_of z t.registrar)) (sym h.first) (record {
       from = omega arith;
       reached = omega arith;
@@ -310,7 +310,7 @@ module _
 
   -- with the registry of before, but for indices that begin or end past the log
   pub rolled_registry : (from : ℕ) → s.file.flusher.count ≡ from → s.registrar.waiting ≡ None
-      → registry_of (view t.pass) t.registrar ≡ begun true from (registry_of (view s.pass) s.registrar)
+      → registry_of (view t.pass) t.registrar ≡ begun_anew true from (registry_of (view s.pass) s.registrar)
   rolled_registry from same settled i = record {
     rows = (h.catalog ∙ ap (λ (n : ℕ). map (clamped n) s.registrar.catalog) same) i;
     waiting = ap waiting_id (none_waits t.log.key t.registrar rolled_knows ∙ sym settled) i;
@@ -319,8 +319,8 @@ module _
 
 -- what a commit leaves is what another table may take the place of
 pub may_roll : {D : Type 0} (images : D → List ℕ → Type 0) (disk : D) (s m : Store) (from : ℕ) → CanControl s.log s.pass s.registrar
-    → m.log ≡ s.log → m.registrar ≡ s.registrar → CanClose m → Reads (view s.pass) (view m.pass) → MayGoOn images (point_at disk m)
-    → HasEnd (view m.pass) m.file.flusher.count → MayRoll images disk m
+    → m.log ≡ s.log → m.registrar ≡ s.registrar → CanClose m → ReadsLog (view s.pass) (view m.pass) → MayGoOn images (point_at disk m)
+    → EndsAlone (view m.pass) m.file.flusher.count → MayRoll images disk m
 may_roll images disk s m from can log registrar close reads commit ends = record {
   pass = close.of;
   alone = close.alone;
@@ -334,8 +334,8 @@ may_roll images disk s m from can log registrar close reads commit ends = record
 }
 
 -- the registry is the one of before
-pub registry_reads : (s m : Store) → m.registrar ≡ s.registrar → Stands (view s.pass) → Stands (view m.pass) → IsAlone (view s.pass)
-    → Reads (view s.pass) (view m.pass) → registry_of (view m.pass) m.registrar ≡ registry_of (view s.pass) s.registrar
+pub registry_reads : (s m : Store) → m.registrar ≡ s.registrar → IsOfMoment (view s.pass) → IsOfMoment (view m.pass) → IsAlone (view s.pass)
+    → ReadsLog (view s.pass) (view m.pass) → registry_of (view m.pass) m.registrar ≡ registry_of (view s.pass) s.registrar
 registry_reads s m same before now alone reads i =
     let version = same_version (view s.pass) (view m.pass) before now alone.control (ap (λ (z : View). z.lane) reads.frame ∙ alone.control)
     reads.learns.about (ap (λ (z : View). z.rows) reads.frame) in
@@ -371,7 +371,7 @@ first_there (x ∷ xs) less = (x, refl)
 -- the first lane had no fault, so the definitions that its items tell are known, and a checkpoint may follow
 pub go_next : {D : Type 0} (images : D → List ℕ → Type 0) (disk : D) (s : Store) (v : View) (r : Registrar) (x : Lane) (end : BlockEnd)
     → CanControl s.log s.pass s.registrar → MayGoOn images (point_at disk s) → IsBelow s.log.key s.file.cold
-    → HasEnd (view s.pass) end.to → HasRegistered v (view s.pass) r s.registrar x end → x.fault ≡ cause.None → IsTable s.log
+    → EndsAlone (view s.pass) end.to → HasRegistered v (view s.pass) r s.registrar x end → x.fault ≡ cause.None → IsTable s.log
     → CanGoOn images disk s end.to
 go_next images disk s v r x end can commit below ends has whole table = record {
   can = can;
@@ -386,9 +386,9 @@ go_next images disk s v r x end can commit below ends has whole table = record {
 
 -- so it may where no lane had one
 pub go_whole : {D : Type 0} (images : D → List ℕ → Type 0) (disk : D) (s : Store) (v : View) (r : Registrar) (lanes : List Lane)
-    (end : BlockEnd) → AreWhole lanes → CanControl s.log s.pass s.registrar
+    (end : BlockEnd) → AreWholeLanes lanes → CanControl s.log s.pass s.registrar
     → (((x : Lane) → slice_get lanes 0 ≡ Some x → x.fault ≡ cause.Disk → ⊥) → MayGoOn images (point_at disk s))
-    → IsBelow s.log.key s.file.cold → HasEnd (view s.pass) end.to
+    → IsBelow s.log.key s.file.cold → EndsAlone (view s.pass) end.to
     → ((x : Lane) → slice_get lanes 0 ≡ Some x → HasRegistered v (view s.pass) r s.registrar x end) → 0 < length lanes → IsTable s.log
     → CanGoOn images disk s end.to
 go_whole images disk s v r lanes end whole can again below ends has some table =

@@ -12,7 +12,7 @@ use Rattle.fish_flush.proofs.Resting.{rest_stands}
 use Rattle.fish_flush.specs.Reading.{IsLineAt}
 use Rattle.fish_image.specs.Stands.{Stands}
 use Rattle.fish_lanes.proofs.Surely.{closed_length}
-use Rattle.fish_lanes.specs.Ending.{HasEnd}
+use Rattle.fish_lanes.specs.Ending.{EndsAlone}
 use Rattle.fish_recover.specs.Stores.{IsOpened}
 use Rattle.fish_recover.specs.declared.opened.Opened.{Opened}
 use Rattle.fish_rule.specs.ClosedLog.{IsClosed}
@@ -26,19 +26,19 @@ use Rattle.fish_run.proofs.Turns.{none_full}
 use Rattle.fish_run.specs.Blocks.{Round, SaysFirst, SaysRun, after_rounds, first_registry, with_cut}
 use Rattle.fish_run.specs.CommitRows.{KeepsDefinitions, registry_at, rows_through}
 use Rattle.fish_run.specs.Ran.{Keeps, StillKeeps, StoodFor, entries_of}
-use Rattle.fish_run.specs.within.Steps.{HasRunFirst}
+use Rattle.fish_run.specs.within.Steps.{HasRunRounds}
 use Rattle.fish_store.proofs.CommitRows.{has_rows}
 use Rattle.fish_store.proofs.Ending.{run_lost, run_shown}
 use Rattle.fish_store.proofs.Opening.{opened_sound, stands_part}
 use Rattle.fish_store.specs.CommitRows.{HasRowsOf, HaveRowsOf}
-use Rattle.fish_store.specs.Ending.{IsLost as LosesLog, IsShown, KeepsCatalog}
+use Rattle.fish_store.specs.Ending.{IsLost as LosesLog, IsShownLog, KeepsCatalog}
 use Rattle.fish_store.specs.Opened.{first_past, opened_point}
-use Rattle.fish_store.specs.Sound.{IsImageOf, Point, Reaches, Runs, Sound}
+use Rattle.fish_store.specs.Sound.{IsImageOf, Point, Reaches, StoreRuns, Sound}
 use Rattle.fish_whole.specs.Whole.{Whole}
 
 -- the whole that is shown has as many entries as stood before the table and are left of it
 shown_length : (now since : List ℕ → Type 0) (old : List Entry) (count : ℕ) (P : Whole → Type 0) (remains : Remains)
-    → (s : IsShown now since old count P remains) → length s.whole.log ≡ entries_of remains
+    → (s : IsShownLog now since old count P remains) → length s.whole.log ≡ entries_of remains
 shown_length now since old count P remains s =
     let both = length-append s.past.log remains.log in
     let all = ap length s.shows in
@@ -47,8 +47,8 @@ shown_length now since old count P remains s =
 
 -- what is said of it may be said of a log of that length
 shown_so : (now since : List ℕ → Type 0) (old : List Entry) (count : ℕ) (P Q : Whole → Type 0) (remains : Remains)
-    → ((w : Whole) → length w.log ≡ entries_of remains → P w → Q w) → IsShown now since old count P remains
-    → IsShown now since old count Q remains
+    → ((w : Whole) → length w.log ≡ entries_of remains → P w → Q w) → IsShownLog now since old count P remains
+    → IsShownLog now since old count Q remains
 shown_so now since old count P Q remains so s = record {
   view = s.view;
   closed = s.closed;
@@ -64,7 +64,7 @@ shown_so now since old count P Q remains so s = record {
 }
 
 -- the log that is closed ends where its pass knows that it does
-pub entries_end : (v : View) (end : ℕ) (remains : Remains) → HasEnd v end → IsClosed v remains → entries_of remains ≡ end
+pub entries_end : (v : View) (end : ℕ) (remains : Remains) → EndsAlone v end → IsClosed v remains → entries_of remains ≡ end
 entries_end v end remains ends closed = (let base = closed.base in let all = closed_length v end remains ends closed in omega arith)
 
 -- a store that was opened, from its first moment to one in which its pass is as it is closed
@@ -81,7 +81,7 @@ module _
       subst (λ (z : Point D). Sound disks z (first_past log o)) (sym from)
       (opened_sound disks disk c log o h (read disk) before)
 
-  module _ (P : Whole → Type 0) (runs : Runs disks p q P) (c : Commit) (log : List Entry) (t : ℕ)
+  module _ (P : Whole → Type 0) (runs : StoreRuns disks p q P) (c : Commit) (log : List Entry) (t : ℕ)
       (s : StoodFor disks disk q.disk o c log t) where
     sound : Sound disks p (first_past log o)
     sound = sound_first c log s.is (runs.told_before s.told)
@@ -110,13 +110,13 @@ module _
     lost_of = run_lost disks (first_past log o) p q P reaches t early runs.rises many stood
 
     shown_of : (remains : Remains) → IsClosed q.view remains → q.view.lane ≡ 1 → q.view.out ≡ []
-        → IsShown (disks.images q.disk) (disks.since q.disk t) log q.flusher.count P remains
+        → IsShownLog (disks.images q.disk) (disks.since q.disk t) log q.flusher.count P remains
     shown_of remains closed control all = run_shown disks
         (first_past log o) p q P reaches t early runs.rises many stood
         remains closed control all
 
   module _ (rows : List CatRow) (same : rows ≡ o.catalog) (rounds : List Round) (fresh : Bool) (cut : Option Round) (end : ℕ)
-      (h : HasRunFirst disks p q o.count (first_registry rows) rounds fresh cut end)
+      (h : HasRunRounds disks p q o.count (first_registry rows) rounds fresh cut end)
       (unshut : p.view.shut ≡ None) where
     -- a crash leaves the definitions of a moment
     keeps_rows : (c : Commit) (log : List Entry) (t : ℕ) → StoodFor disks disk q.disk o c log t
@@ -143,7 +143,7 @@ module _
         }
 
     -- all that was told is so of the whole that is shown
-    pub keeps_of : (remains : Remains) (ended : Bool) → IsClosed q.view remains → (ended ≡ true → HasEnd q.view q.flusher.count)
+    pub keeps_of : (remains : Remains) (ended : Bool) → IsClosed q.view remains → (ended ≡ true → EndsAlone q.view q.flusher.count)
         → (ended ≡ true → IsLineAt q.view q.flusher.count q.flusher.line)
         → (ended ≡ true → q.rows ≡ (after_rounds (first_registry rows) rounds).rows)
         → (ended ≡ true → (i : List ℕ) → disks.images q.disk i → KeepsCatalog q.shape q.rows q.flusher.line i)
@@ -192,7 +192,7 @@ module _
           fulls = h.fulls [] (none_full p.view.shut unshut);
         }
 
-        shown : IsShown (disks.images q.disk) (disks.since q.disk t) log q.flusher.count Here remains
+        shown : IsShownLog (disks.images q.disk) (disks.since q.disk t) log q.flusher.count Here remains
         shown = shown_so (disks.images q.disk) (disks.since q.disk t) log q.flusher.count Told Here remains so
             (shown_of Told h.runs c log t s remains closed h.ends.alone.control h.ends.alone.all)
 

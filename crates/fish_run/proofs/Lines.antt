@@ -5,7 +5,7 @@ use Rattle.std.proofs.Math.Decide.{dec_lt}
 use Rattle.fish_flush.specs.Reading.{IsLineAt}
 use Rattle.fish_lanes.proofs.Surely.{closed_length}
 use Rattle.fish_lanes.specs.Blocks.{IsMarkItem}
-use Rattle.fish_lanes.specs.Ending.{HasEnd}
+use Rattle.fish_lanes.specs.Ending.{EndsAlone}
 use Rattle.fish_lanes.specs.Gains.{IsMarkAt}
 use Rattle.fish_report.specs.declared.item.Item.TheVariants as item
 use Rattle.fish_rule.proofs.laws.ClosedLogs.{always_closed, entry_at}
@@ -16,9 +16,9 @@ use Rattle.fish_rule.proofs.laws.Regions.{starts_rise}
 use Rattle.fish_rule.specs.ClosedLog.{IsClosed}
 use Rattle.fish_rule.specs.Facts.{IsFound}
 use Rattle.fish_rule.specs.Logs.{IsEntry, KnowsMark, Learns}
-use Rattle.fish_rule.specs.Parts.{Rests}
+use Rattle.fish_rule.specs.Parts.{RestsAt}
 use Rattle.fish_rule.specs.Regions.{code}
-use Rattle.fish_rule.specs.Table.{Stands}
+use Rattle.fish_rule.specs.Table.{IsOfMoment}
 use Rattle.fish_rule.specs.Views.{Among}
 use Rattle.fish_rule.specs.World.{World, high, low}
 use Rattle.fish_rule.specs.declared.close.Remains.{Remains}
@@ -33,14 +33,14 @@ use Rattle.fish_run.specs.within.Blocks.{AreMarked}
 -- ---- the end stays
 
 -- where some claim had shut the pass, the log ends at a mark
-shut_mark : (v : View) (from : ℕ) (c : Shut) → Stands v → HasEnd v from → v.shut ≡ Some c → KnowsMark v from
+shut_mark : (v : View) (from : ℕ) (c : Shut) → IsOfMoment v → EndsAlone v from → v.shut ≡ Some c → KnowsMark v from
 shut_mark v from c s h is = by h.ends
   where
     w : World
     w = s.moment
 
-    rests : Rests w.count w.line (Some (record { number = high h.tail.0; line = low h.tail.0 }))
-    rests = subst (Rests w.count w.line) h.tail.1 (s.rule.tails s.seat v s.at h.alone.control h.alone.all)
+    rests : RestsAt w.count w.line (Some (record { number = high h.tail.0; line = low h.tail.0 }))
+    rests = subst (RestsAt w.count w.line) h.tail.1 (s.rule.tails s.seat v s.at h.alone.control h.alone.all)
 
     by : (from ≡ h.count) ⊎ ((from < h.count) × KnowsMark v from) → KnowsMark v from
     by (inr m) = m.1
@@ -56,7 +56,7 @@ shut_mark v from c s h is = by h.ends
         absurd ((s.rule.settling.below n above (omega arith)).unmarked mark.1.kind)
 
 -- so nothing is stored in the table any more
-pub end_stays : (v u : View) (from to : ℕ) (c : Shut) → Stands v → Stands u → Learns v u → HasEnd v from → HasEnd u to
+pub end_stays : (v u : View) (from to : ℕ) (c : Shut) → IsOfMoment v → IsOfMoment u → Learns v u → EndsAlone v from → EndsAlone u to
     → v.shut ≡ Some c → to ≤ from
 end_stays v u from to c stood stands learns h k is = pick (dec_lt from to)
   where
@@ -105,7 +105,7 @@ module _ (v : View) (remains : Remains) (closed : IsClosed v remains) where
           omega arith
 
   -- a line that the pass knows to be that of the log's end is what is left
-  pub line_is : (to line : ℕ) → HasEnd v to → IsLineAt v to line → line ≡ remains.lines
+  pub line_is : (to line : ℕ) → EndsAlone v to → IsLineAt v to line → line ≡ remains.lines
   line_is to line h at =
       let end : closed.rule.start to ≡ remains.lines =
       ap closed.rule.start (sym (closed_length v to remains h closed)) ∙ sym closed.lines in

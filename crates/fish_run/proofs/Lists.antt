@@ -3,7 +3,8 @@ use Rattle.std.proofs.Common.{◌≡◌, ℕ, ◌+◌, ◌<◌, zero, suc, List,
 use Rattle.std.proofs.Common.{length, drop, take, sym, ap, ◌∙◌, subst, arith}
 use Rattle.std.proofs.Common.{Some, slice_get}
 use Rattle.std.proofs.Math.Decide.{dec_lt}
-use Rattle.fish_feed.specs.Works.{Pairs, Triples}
+use Rattle.fish_feed.specs.Works.{Triples}
+use Rattle.fish_script.specs.Laws.{Pairs}
 
 -- what is so of each two and each next three is so of the first and the last two
 pub pairs_triples : {A B G C : Type 0} (R : A → B → Type 0) (S : B → G → C → Type 0) (T : A → G → C → Type 0)

@@ -3,8 +3,9 @@ use Rattle.std.proofs.Common.{◌≡◌, ℕ, List, [], ◌∷◌, refl, sym, ap
 use Rattle.std.proofs.Common.{Bool, Option, Some, None}
 use Rattle.std.specs.Prelude.{IfSome, ◌||◌}
 use Rattle.fish_disk.specs.declared.disk.Disk.{Ghosts as Disks}
-use Rattle.fish_feed.specs.Works.{AreDone, AreFirstOf, Pairs}
-use Rattle.fish_lanes.specs.Ending.{HasEnd}
+use Rattle.fish_feed.specs.Works.{AreStatementsDone, AreFirstOf}
+use Rattle.fish_script.specs.Laws.{Pairs}
+use Rattle.fish_lanes.specs.Ending.{EndsAlone}
 use Rattle.fish_lanes.specs.Registering.{Registry, registry_of}
 use Rattle.fish_lanes.specs.declared.work.Work.{Work}
 use Rattle.fish_outside.proofs.ContentLemmas.{Gained_refl}
@@ -18,7 +19,7 @@ use Rattle.fish_run.proofs.Going.{close_of, here_self}
 use Rattle.fish_run.proofs.Tables.{renewed_may}
 use Rattle.fish_run.proofs.Turns.{rounds_end, rounds_none, runs_step}
 use Rattle.fish_run.specs.Blocks.{Block, Round, with_cut}
-use Rattle.fish_run.specs.Faults.{IsUndamaged}
+use Rattle.fish_run.specs.Faults.{IsRunUndamaged}
 use Rattle.fish_run.specs.within.Faults.{IsWriteFault}
 use Rattle.fish_run.specs.within.Going.{EndsRounds, StopsBlock, WereGiven}
 use Rattle.fish_run.specs.Ran.{IsBlockOf}
@@ -26,7 +27,7 @@ use Rattle.fish_run.specs.Reports.{block_items, said_items, said_refused}
 use Rattle.fish_run.specs.Rounds.{AreAll, AreRounds, FollowOn, given_in}
 use Rattle.fish_run.specs.within.Running.{EndsOne, StopsOne}
 use Rattle.fish_run.specs.within.Runs.{CanClose, CanGoOn}
-use Rattle.fish_run.specs.within.Steps.{HasRounds, HasRunFirst, StopsRounds}
+use Rattle.fish_run.specs.within.Steps.{HasRounds, HasRunRounds, StopsRounds}
 use Rattle.fish_run.specs.declared.lasting.Stopped.{Stopped}
 use Rattle.fish_run.specs.declared.parts.Ended.{Ended}
 use Rattle.fish_run.specs.declared.running.Lasts.{Lasts}
@@ -34,7 +35,7 @@ use Rattle.fish_run.specs.declared.saying.Said.{Said}
 use Rattle.fish_script.specs.declared.script.Block as script
 use Rattle.fish_script.specs.declared.script.Statement.{Statement}
 use Rattle.fish_store.specs.Points.{point_at}
-use Rattle.fish_store.specs.Sound.{GoesOnHere, Point, Runs}
+use Rattle.fish_store.specs.Sound.{GoesOnHere, Point, StoreRuns}
 use Rattle.fish_store.specs.declared.store.Store.{Store}
 use Rattle.fish_whole.proofs.Wholes.{later_self}
 use Rattle.fish_whole.specs.Whole.{Later}
@@ -49,9 +50,9 @@ are_rounds told texts given (a ∷ rounds) follow were first = (follow, subst (P
 
 -- and all of them, where they are all works
 pub all_given : (told : Option Files) (texts : List (List Statement)) (given : List (List Work)) (rounds : List Round) → AreAll rounds
-    → WereGiven given rounds → Pairs (AreDone told) texts given → Pairs (AreDone told) texts (given_in rounds)
+    → WereGiven given rounds → Pairs (AreStatementsDone told) texts given → Pairs (AreStatementsDone told) texts (given_in rounds)
 all_given told texts given [] all were done = elim all [ ]
-all_given told texts given (a ∷ rounds) all were done = subst (Pairs (AreDone told) texts) (sym were) done
+all_given told texts given (a ∷ rounds) all were done = subst (Pairs (AreStatementsDone told) texts) (sym were) done
 
 module _
     {D : Type 0} (disks : Disks D) where
@@ -59,7 +60,7 @@ module _
 
   -- what goes on in one table tells nothing more
   pub runs_on : (p q : Point D) → GoesOnHere disks p q → Later p.view q.view
-      → Runs disks p q (λ w. Unit {0})
+      → StoreRuns disks p q (λ w. Unit {0})
   runs_on p q h later = runs_step disks p q (λ w. Unit {0}) h later (λ past s w may. tt)
 
   -- nothing ran
@@ -68,8 +69,8 @@ module _
 
   -- rounds ran, and none was cut
   pub first_of : (p q : Point D) (from to : ℕ) (r t : Registry) (rounds : List Round)
-      → HasRounds disks p q from r rounds false to t → HasEnd q.view to
-      → HasRunFirst disks p q from r rounds false None to
+      → HasRounds disks p q from r rounds false to t → EndsAlone q.view to
+      → HasRunRounds disks p q from r rounds false None to
   first_of p q from to r t rounds h ends =
       rounds_end disks p q q from to r t rounds false h
       (runs_on q q (here_self disks q) (later_self q.view)) (learns_self q.view) ends refl (rows_none disks q.disk _)
@@ -78,8 +79,8 @@ module _
 
   -- a fault that is none of a round stops the run with the store
   pub stops_with : (p : Point D) (disk : D) (s : Store) (from to : ℕ) (r : Registry) (rounds : List Round) (e : Stopped)
-      → e.store ≡ Some s → CanClose s → IsUndamaged e.why
-      → HasRunFirst disks p (point_at disk s) from r rounds false None to
+      → e.store ≡ Some s → CanClose s → IsRunUndamaged e.why
+      → HasRunRounds disks p (point_at disk s) from r rounds false None to
       → StopsRounds disks p disk from r rounds None e
   stops_with p disk s from to r rounds e is close well ran = record {
     at = point_at disk s;
@@ -107,7 +108,7 @@ module _
       how = inl (are, Gained_refl written, h.input, refl);
     }
 
-    module _ (disk' : D) (d : Ended) (given : List (List Work)) (done : Pairs (AreDone told) text.lanes given)
+    module _ (disk' : D) (d : Ended) (given : List (List Work)) (done : Pairs (AreStatementsDone told) text.lanes given)
         (h : EndsRounds disks disk a.store a.count disk' d.store d.end d.said.items given)
         (old new : Option (List ℕ)) where
       block : Block
@@ -144,7 +145,7 @@ module _
           })
 
       -- it couldn't be written
-      pub one_unwritten : (before now : Bool) (e : Stopped) → e.store ≡ Some d.store → IsUndamaged e.why → IsWriteFault e.why
+      pub one_unwritten : (before now : Bool) (e : Stopped) → e.store ≡ Some d.store → IsRunUndamaged e.why → IsWriteFault e.why
           → GainedPart old new (report_text (said_items text.several a.count d.end d.said.items))
           → now ≡ before || said_refused d.said.items
           → StopsOne disks disk disk' a told text old new before now e

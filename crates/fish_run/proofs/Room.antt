@@ -3,7 +3,7 @@ use Rattle.std.proofs.Common.{◌≡◌, ◌≢◌, ℕ, suc, ◌+◌, ◌-◌, 
 use Rattle.std.proofs.Common.{Some, arith}
 use Rattle.std.proofs.Math.Decide.{dec_lt}
 use Rattle.fish_lanes.specs.Blocks.{IsMarkItem, NameMarks}
-use Rattle.fish_lanes.specs.Ending.{HasEnd}
+use Rattle.fish_lanes.specs.Ending.{EndsAlone}
 use Rattle.fish_lanes.specs.Gains.{IsMarkAt}
 use Rattle.fish_lanes.specs.Outcome.{IsFullIn}
 use Rattle.fish_lanes.specs.declared.lane.Lane.{Lane}
@@ -12,11 +12,11 @@ use Rattle.fish_report.specs.declared.item.Item.TheVariants as item
 use Rattle.fish_rule.proofs.laws.Learning.{learns_self}
 use Rattle.fish_rule.proofs.laws.Lists.{all_among}
 use Rattle.fish_rule.specs.ChainFacts.{Always}
-use Rattle.fish_rule.specs.Parts.{Rests}
+use Rattle.fish_rule.specs.Parts.{RestsAt}
 use Rattle.fish_rule.specs.Passes.{view}
 use Rattle.fish_rule.specs.Regions.{code, kind_of, kind_within}
 use Rattle.fish_rule.specs.Start.{table_lines}
-use Rattle.fish_rule.specs.Table.{Stands}
+use Rattle.fish_rule.specs.Table.{IsOfMoment}
 use Rattle.fish_rule.specs.World.{World, high, last_line, low}
 use Rattle.fish_rule.specs.declared.view.Key.{Key}
 use Rattle.fish_rule.specs.declared.view.Kind.TheVariants.{Mark, Stored, Void}
@@ -48,15 +48,15 @@ unfolding high
 set_of x is zero_ = (let bad : 0 ≡ 3 = sym (ap (λ (z : ℕ). z / 68719476736) zero_) ∙ is in absurd (omega arith))
 
 -- where a table without an entry has a mark, it has fewer lines than a record may take
-full_empty : (v : View) (to line lines : ℕ) → Stands v → HasEnd v to → v.about.number ≡ to → Always v (IsMarkAt line lines)
+full_empty : (v : View) (to line lines : ℕ) → IsOfMoment v → EndsAlone v to → v.about.number ≡ to → Always v (IsMarkAt line lines)
     → v.about.end < v.about.line + 18625
 full_empty v to line lines s h is mark = by h.ends
   where
     w : World
     w = s.moment
 
-    rests : Rests w.count w.line (Some (record { number = high h.tail.0; line = low h.tail.0 }))
-    rests = subst (Rests w.count w.line) h.tail.1 (s.rule.tails s.seat v s.at h.alone.control h.alone.all)
+    rests : RestsAt w.count w.line (Some (record { number = high h.tail.0; line = low h.tail.0 }))
+    rests = subst (RestsAt w.count w.line) h.tail.1 (s.rule.tails s.seat v s.at h.alone.control h.alone.all)
 
     by : EndsAt v to h.count → v.about.end < v.about.line + 18625
     by (inl same) =

@@ -5,11 +5,12 @@ use Rattle.std.specs.Prelude.{◌&&◌, IfSome}
 use Rattle.fish_catalog.specs.declared.row.CatRow.{CatRow}
 use Rattle.fish_disk.specs.declared.disk.Disk.{Ghosts as Disks}
 use Rattle.fish_feed.specs.Queues.{AreIdle, IsGiven, both, works_of}
-use Rattle.fish_feed.specs.Works.{Pairs, Triples}
+use Rattle.fish_feed.specs.Works.{Triples}
+use Rattle.fish_script.specs.Laws.{Pairs}
 use Rattle.fish_lanes.specs.Blocks.{AreKept, AreLanes, EachLane, IsKept, IsNewLane}
 use Rattle.fish_lanes.specs.CommitRows.{LeavesRowsOf}
 use Rattle.fish_lanes.specs.Controlling.{bound_items}
-use Rattle.fish_lanes.specs.Ending.{HasEnd}
+use Rattle.fish_lanes.specs.Ending.{EndsAlone}
 use Rattle.fish_lanes.specs.Outcome.{IsFullIn, LeaveNone, Stops}
 use Rattle.fish_lanes.specs.Registering.{Registry, registry_of}
 use Rattle.fish_lanes.specs.declared.block.BlockEnd.{BlockEnd}
@@ -33,16 +34,16 @@ use Rattle.fish_run.proofs.Stepping.{goes_next, kept_pairs, ran_numbered}
 use Rattle.fish_run.proofs.Tables.{IsSomeFull, renewed_free, renewed_may, renewed_push}
 use Rattle.fish_run.proofs.Turns.{behind_next, rounds_cut, rounds_end, rounds_more, rounds_none, rounds_rolled, runs_step}
 use Rattle.fish_run.specs.Blocks.{Round, after_rounds, first_items}
-use Rattle.fish_run.specs.Faults.{IsFirstFault, IsUndamaged}
-use Rattle.fish_run.specs.within.Going.{EndsRounds, GoesIn, HasNext, HasStepped, IsReady, StopsBlock, WereGiven}
+use Rattle.fish_run.specs.Faults.{IsFirstFault, IsRunUndamaged}
+use Rattle.fish_run.specs.within.Going.{EndsRounds, GoesIn, HasNextWorks, HasStepped, AreLanesReady, StopsBlock, WereGiven}
 use Rattle.fish_run.specs.within.Turning.{IsRenewed}
 use Rattle.fish_run.specs.within.Parts.{StopsLanes}
-use Rattle.fish_run.specs.Reports.{end_of, first_number, last_end}
+use Rattle.fish_run.specs.Reports.{end_of_rounds, first_number, last_end}
 use Rattle.fish_run.specs.within.Rolls.{RollsOn, StopsRoll}
 use Rattle.fish_run.specs.Joins.{block_said, lanes_after, nothing_said, said_over}
-use Rattle.fish_run.specs.Rounds.{AreAll, FollowOn, GoOn, GoesOnWith, IsNext, given_after, given_in}
+use Rattle.fish_run.specs.Rounds.{AreAll, FollowOn, GoOn, GoesOnWith, IsNextLane, given_after, given_in}
 use Rattle.fish_run.specs.within.Runs.{CanClose, CanGoOn}
-use Rattle.fish_run.specs.within.Steps.{AreWhole, HasRounds, Leaves}
+use Rattle.fish_run.specs.within.Steps.{AreWholeLanes, HasRounds, Leaves}
 use Rattle.fish_run.specs.Tables.{AreRenewed, IsNearLimits, IsRenewedBy, table_of}
 use Rattle.fish_run.specs.within.Tables.{table_after}
 use Rattle.fish_run.specs.Works.{AreNumbered, to_do}
@@ -54,18 +55,18 @@ use Rattle.fish_run.specs.declared.saying.Said.{Said}
 use Rattle.fish_script.specs.declared.script.Statement.{Statement}
 use Rattle.fish_store.specs.CommitRows.{LeavesRows}
 use Rattle.fish_store.specs.Points.{Behind, point_at}
-use Rattle.fish_store.specs.Sound.{GoesOnHere, Point, Runs}
+use Rattle.fish_store.specs.Sound.{GoesOnHere, Point, StoreRuns}
 use Rattle.fish_store.specs.declared.store.Store.{Store}
 use Rattle.fish_whole.specs.Whole.{Later, Whole}
 
 -- ---- one more round
 
-go_push : (a : Round) (rounds : List Round) (b c : Round) → GoOn a (rounds ++ b ∷ []) → Triples (IsNext c.fresh) b.lanes c.given c.lanes
+go_push : (a : Round) (rounds : List Round) (b c : Round) → GoOn a (rounds ++ b ∷ []) → Triples (IsNextLane c.fresh) b.lanes c.given c.lanes
     → AreNumbered c.lanes → GoOn a ((rounds ++ b ∷ []) ++ c ∷ [])
 go_push a [] b c h next numbered = (h.0, h.1, (next, numbered, tt))
 go_push a (x ∷ rounds) b c h next numbered = (h.0, h.1, go_push x rounds b c h.2 next numbered)
 
-follow_push : (rounds : List Round) (b c : Round) → FollowOn (rounds ++ b ∷ []) → Triples (IsNext c.fresh) b.lanes c.given c.lanes
+follow_push : (rounds : List Round) (b c : Round) → FollowOn (rounds ++ b ∷ []) → Triples (IsNextLane c.fresh) b.lanes c.given c.lanes
     → AreNumbered c.lanes → FollowOn ((rounds ++ b ∷ []) ++ c ∷ [])
 follow_push [] b c h next numbered = (h.0, h.1, h.2, (next, numbered, tt))
 follow_push (x ∷ rounds) b c h next numbered = (h.0, h.1, h.2, go_push x rounds b c h.3 next numbered)
@@ -104,7 +105,7 @@ last_more : (end : BlockEnd) (rounds : List Round) (b : Round) → last_end end 
 last_more end [] b = refl
 last_more end (x ∷ rounds) b = last_more x.end rounds b
 
-end_push : (rounds : List Round) (b : Round) → end_of (rounds ++ b ∷ []) ≡ b.end
+end_push : (rounds : List Round) (b : Round) → end_of_rounds (rounds ++ b ∷ []) ≡ b.end
 end_push [] b = refl
 end_push (x ∷ rounds) b = last_more x.end rounds b
 
@@ -146,8 +147,7 @@ module _
   renewed_go disk disk' m t to go true k = k.go
 
 module _
-    {D : Type 0} (disks : Disks D)
-    (d : D) (s : Store) (from : ℕ) where
+    {D : Type 0} (disks : Disks D) (d : D) (s : Store) (from : ℕ) where
   abbrev pub p : Point D
   p = point_at d s
 
@@ -155,7 +155,7 @@ module _
   r = registry_of (view s.pass) s.registrar
 
   -- where nothing was done
-  runs_self : (q : Point D) → Runs disks q q (λ w. Unit {0})
+  runs_self : (q : Point D) → StoreRuns disks q q (λ w. Unit {0})
   runs_self q = runs_step disks q q (λ w. Unit {0}) (here_self disks q)
       (later_self q.view) (λ past sound w may. tt)
 
@@ -192,13 +192,13 @@ module _
   module _ (disk : D) (a : RoundStart) (lanes : List Lane) (said : List Said) (given : List (List Work))
       (g : GoesIn disks d s from disk a lanes said given) where
     -- nothing
-    pub ready_none : IsReady disks d s from disk a lanes said (nones lanes) given
+    pub ready_none : AreLanesReady disks d s from disk a lanes said (nones lanes) given
     ready_none = record {
       rounds = g.rounds;
       ran = g.ran;
       renewed = g.renewed;
       next = λ b fresh now numbered have. g.next b fresh numbered
-          (subst (λ (z : List (List Work)). Triples HasNext lanes z b.lanes) (sym now) (none_next lanes b.lanes have));
+          (subst (λ (z : List (List Work)). Triples HasNextWorks lanes z b.lanes) (sym now) (none_next lanes b.lanes have));
       gives = λ b now. g.gives b (ap length now ∙ nones_length lanes) ∙ ap (both given) now ∙ nones_right given lanes g.many;
       many = g.many;
       begins = g.begins;
@@ -207,7 +207,7 @@ module _
 
     -- statements, where they have none
     pub ready_given : (lanes' : List Lane) → Pairs IsGiven lanes lanes'
-        → IsReady disks d s from disk a lanes' said (works_of lanes') (both given (works_of lanes'))
+        → AreLanesReady disks d s from disk a lanes' said (works_of lanes') (both given (works_of lanes'))
     ready_given lanes' now_given =
         let same : length lanes' ≡ length lanes = pairs_length IsGiven lanes lanes' now_given in
         record {
@@ -215,7 +215,7 @@ module _
           ran = g.ran;
           renewed = g.renewed;
           next = λ b fresh now numbered have. g.next b fresh numbered
-              (subst (λ (z : List (List Work)). Triples HasNext lanes z b.lanes) (sym now)
+              (subst (λ (z : List (List Work)). Triples HasNextWorks lanes z b.lanes) (sym now)
               (given_next lanes lanes' b.lanes now_given have));
           gives = λ b now. g.gives b (ap length now ∙ works_length lanes' ∙ same) ∙ ap (both given) now;
           many = both_length given (works_of lanes') (g.many ∙ sym same ∙ sym (works_length lanes')) ∙ g.many ∙ sym same;
@@ -224,7 +224,7 @@ module _
         }
 
     -- none could be read, or memory ran out
-    pub stops_unread : (why : RunFault) → IsUndamaged why → CanGoOn disks.images disk a.store a.from
+    pub stops_unread : (why : RunFault) → IsRunUndamaged why → CanGoOn disks.images disk a.store a.from
         → StopsBlock disks d s from given disk (record { store = Some a.store; why = why })
     stops_unread why well go = record {
       rounds = g.rounds;
@@ -249,7 +249,7 @@ module _
     }
 
   -- a fault came before it
-  pub stops_before : (e : Stopped) → e.store ≡ Some s → IsUndamaged e.why → CanGoOn disks.images d s from
+  pub stops_before : (e : Stopped) → e.store ≡ Some s → IsRunUndamaged e.why → CanGoOn disks.images d s from
       → (given : List (List Work)) → StopsBlock disks d s from given d e
   stops_before e store well go given = record {
     rounds = [];
@@ -274,7 +274,7 @@ module _
   }
 
   -- its files couldn't be opened
-  pub stops_unopened : (e : Stopped) → e.store ≡ Some s → IsUndamaged e.why → CanGoOn disks.images d s from
+  pub stops_unopened : (e : Stopped) → e.store ≡ Some s → IsRunUndamaged e.why → CanGoOn disks.images d s from
       → (texts : List (List Statement)) (told : Option Files) → StopsLanes disks d s from texts d told e
   unfolding stops_before
   stops_unopened e store well go texts told =
@@ -283,16 +283,16 @@ module _
   -- memory ran out before it
   pub stops_none : (e : Stopped) → e.store ≡ Some s → e.why ≡ fault.Memory → CanGoOn disks.images d s from
       → (given : List (List Work)) → StopsBlock disks d s from given d e
-  stops_none e store why go given = stops_before e store (subst IsUndamaged (sym why) tt) go given
+  stops_none e store why go given = stops_before e store (subst IsRunUndamaged (sym why) tt) go given
 
   -- ---- after a round
 
   module _ (disk : D) (a : RoundStart) (lanes : List Lane) (said : List Said) (given_now given : List (List Work))
-      (g : IsReady disks d s from disk a lanes said given_now given) (are : AreLanes lanes)
+      (g : AreLanesReady disks d s from disk a lanes said given_now given) (are : AreLanes lanes)
       (disk' : D) (m : Store) (ran : List Lane) (end : BlockEnd) (many : length ran ≡ length lanes) (kept : AreKept lanes ran)
       (log : m.log ≡ a.store.log)
       (goes : GoesOnHere disks (point_at disk a.store) (point_at disk' m))
-      (later : Later (view a.store.pass) (view m.pass)) (ends : HasEnd (view m.pass) end.to)
+      (later : Later (view a.store.pass) (view m.pass)) (ends : EndsAlone (view m.pass) end.to)
       (rows : LeavesRowsOf disks disk disk' (registry_of (view a.store.pass) a.store.registrar) (first_items ran))
       (leaves : Leaves (Behind disks disk a.store disk') m.file.flusher.count (view a.store.pass) (view m.pass)
       a.store.registrar m.registrar a.from ran end) where
@@ -366,7 +366,7 @@ module _
       input = λ is. absurd (first_no_input ran why f is);
     }
 
-    module _ (whole : AreWhole ran) (close : CanClose m) where
+    module _ (whole : AreWholeLanes ran) (close : CanClose m) where
       all : HasRounds disks p at from r (g.rounds ++ b ∷ []) false end.to then
       all = rounds_more disks p before at from a.from end.to r known then g.rounds a.fresh b g.ran goes later shape rows
           (left_whole Past m.file.flusher.count (view a.store.pass) (view m.pass) a.store.registrar m.registrar a.from ran end leaves
@@ -448,7 +448,7 @@ module _
             cut_by = tt;
             ran = rounds_end disks p q q from end.to r (registry_of (view t.pass) t.registrar) (g.rounds ++ b ∷ [])
                 fresh now (runs_self q) (learns_self (view t.pass)) go.end refl (rows_none disks disk'' _);
-            whole = λ past sound. subst IsUndamaged (sym why) tt;
+            whole = λ past sound. subst IsRunUndamaged (sym why) tt;
           };
           input = λ is. refl;
         }

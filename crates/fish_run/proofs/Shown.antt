@@ -3,7 +3,7 @@ use Rattle.std.proofs.Common.{◌≡◌, ℕ, Err, None, Ok, Option, Result, Som
 use Rattle.std.specs.Prelude.{IfSome}
 use Rattle.fish_rule.specs.declared.close.Remains.{Remains}
 use Rattle.fish_run.proofs.Faults.{well_of}
-use Rattle.fish_run.specs.Faults.{IsUndamaged}
+use Rattle.fish_run.specs.Faults.{IsRunUndamaged}
 use Rattle.fish_run.specs.declared.fault.RunFault.{RunFault}
 use Rattle.fish_run.specs.declared.fault.RunFault.TheVariants as fault
 use Rattle.fish_store.specs.declared.store.Store.{Store}
@@ -27,18 +27,18 @@ shown_is P Q o r is h f = (let k : IfSome (Some r) P = subst (λ (z : Option Rem
 -- ---- the fault with which it is closed
 
 -- it is no damage where that of before is none
-pub well_closed : (before : RunFault) (now : Option RunFault) → IsUndamaged before
+pub well_closed : (before : RunFault) (now : Option RunFault) → IsRunUndamaged before
     → ((n : ℕ) → now ≡ Some (fault.Damaged n) → ◌≡◌ {A = Result ℕ RunFault} (Err before) (Err (fault.Damaged n)))
-    → IfSome now IsUndamaged
+    → IfSome now IsRunUndamaged
 well_closed before None well is = tt
 well_closed before (Some now) well is = well_of now (λ n k.
     let is_err = is n (ap Some k) in
     let same : before ≡ fault.Damaged n = cc in
-    subst IsUndamaged same well)
+    subst IsRunUndamaged same well)
 
 -- nor where there was none before
 pub well_ended : (count : ℕ) (now : Option RunFault)
     → ((n : ℕ) → now ≡ Some (fault.Damaged n) → ◌≡◌ {A = Result ℕ RunFault} (Ok count) (Err (fault.Damaged n)))
-    → IfSome now IsUndamaged
+    → IfSome now IsRunUndamaged
 well_ended count None is = tt
 well_ended count (Some now) is = well_of now (λ n k. (let bad = is n (ap Some k) in absurd cc))

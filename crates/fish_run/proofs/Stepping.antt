@@ -7,7 +7,8 @@ use Rattle.std.proofs.lemmas.Bool.{lt-ltb, ltb-true}
 use Rattle.std.specs.Prelude.{nat_lt}
 use Rattle.fish_disk.specs.declared.disk.Disk.{Ghosts as Disks}
 use Rattle.fish_feed.specs.Queues.{AreIdle}
-use Rattle.fish_feed.specs.Works.{Pairs, Triples}
+use Rattle.fish_feed.specs.Works.{Triples}
+use Rattle.fish_script.specs.Laws.{Pairs}
 use Rattle.fish_lanes.proofs.Lists.{some_once}
 use Rattle.fish_lanes.specs.Blocks.{AreKept, AreLanes, IsKept, IsNewLane}
 use Rattle.fish_lanes.specs.Controlling.{bound_items}
@@ -29,10 +30,10 @@ use Rattle.fish_feed.proofs.Lists.{pairs_at, pairs_length, pairs_map}
 use Rattle.fish_run.proofs.Lists.{pairs_triples}
 use Rattle.fish_run.proofs.Tables.{none_full}
 use Rattle.fish_run.proofs.Works.{idle_new}
-use Rattle.fish_run.specs.within.Going.{HasNext, HasStepped, StepsLane}
+use Rattle.fish_run.specs.within.Going.{HasNextWorks, HasStepped, StepsLane}
 use Rattle.fish_run.specs.within.Turning.{FindNoneFull, IsRenewed, tables_left, unshut, unshut_by}
 use Rattle.fish_run.specs.Joins.{goes_on, said_after}
-use Rattle.fish_run.specs.Rounds.{GoesOnWith, IsCutFile, IsNext, IsRest}
+use Rattle.fish_run.specs.Rounds.{GoesOnWith, IsCutFile, IsNextLane, IsRestOfWorks}
 use Rattle.fish_run.specs.Works.{AreNumbered, to_do}
 use Rattle.fish_run.specs.declared.saying.Said.{Said}
 use Rattle.fish_store.specs.declared.store.Store.{Store}
@@ -92,7 +93,7 @@ all_next : (P : Work → Type 0) → ((form : Form) (begin : Begin) (name file :
 all_next P one false x next left is = subst (All P) (sym is) left
 all_next P one true x next left is = ⊎_elim
     (λ (h : (IsCutFile x → ⊥) × (next ≡ x.left)). subst (All P) (sym h.1) left)
-    (λ (r : IsRest x next). subst (All P) (sym r.is) (all_more P (work.Ingest r.form After r.name r.rest) x.left
+    (λ (r : IsRestOfWorks x next). subst (All P) (sym r.is) (all_more P (work.Ingest r.form After r.name r.rest) x.left
     (one r.form After r.name r.rest) left)) is
 
 -- a lane that hands nothing back is to do what it has
@@ -150,10 +151,10 @@ module _ (old ran : List Lane) (are : AreLanes old) (kept : Pairs IsKept old ran
         }
 
     -- lanes that are to do what these have, and what they are given, go on with it
-    pub goes_next : (fresh' : Bool) → fresh' ≡ full → (given : List (List Work)) (c : List Lane) → Triples HasNext new given c
-        → Triples (IsNext fresh') ran given c
+    pub goes_next : (fresh' : Bool) → fresh' ≡ full → (given : List (List Work)) (c : List Lane) → Triples HasNextWorks new given c
+        → Triples (IsNextLane fresh') ran given c
     goes_next fresh' same given c have =
-        pairs_triples (λ x y. GoesOnWith full x (to_do y) × IsNewLane x.number y) HasNext (IsNext fresh')
+        pairs_triples (λ x y. GoesOnWith full x (to_do y) × IsNewLane x.number y) HasNextWorks (IsNextLane fresh')
         (λ x y ws z h k. (
           y.works,
           subst (λ (f : Bool). GoesOnWith f x y.works) (sym same) (subst (GoesOnWith full x) (new_works y h.1.nothing_left) h.0),

@@ -4,7 +4,7 @@ use Rattle.std.proofs.Common.{Bool, None, Option, Some, false, true, append_asso
 use Rattle.std.specs.Prelude.{IsSome}
 use Rattle.fish_disk.specs.declared.disk.Disk.{Ghosts as Disks}
 use Rattle.fish_lanes.specs.CommitRows.{LeavesRowsOf}
-use Rattle.fish_lanes.specs.Ending.{HasEnd}
+use Rattle.fish_lanes.specs.Ending.{EndsAlone}
 use Rattle.fish_lanes.specs.Outcome.{IsFullIn}
 use Rattle.fish_lanes.specs.Registering.{Registry}
 use Rattle.fish_rule.proofs.laws.Lists.{among_either, among_left, among_right}
@@ -19,14 +19,14 @@ use Rattle.fish_run.proofs.CommitRows.{left_start, rows_none}
 use Rattle.fish_run.proofs.Tables.{table_both, table_cut, table_join, table_more, table_on, table_push, table_rolled, table_self}
 use Rattle.fish_run.specs.Blocks.{AreAcknowledged, AreFullSince, HasFoundFull, IsFullOf, Round, SaysCut, SaysFirst, SaysOne}
 use Rattle.fish_run.specs.within.Blocks.{AreMarked}
-use Rattle.fish_run.specs.Blocks.{SaysRest, SaysRounds, after_round, after_rounds, begun, begun_for, first_items, in_table, last_table}
+use Rattle.fish_run.specs.Blocks.{SaysRest, SaysRounds, after_round, after_rounds, begun_anew, begun_for, first_items, in_table, last_table}
 use Rattle.fish_run.specs.Blocks.{left_table, with_cut}
 use Rattle.fish_run.specs.Tables.{table_by}
 use Rattle.fish_run.specs.within.Tables.{table_after}
-use Rattle.fish_run.specs.within.Steps.{HasCutOne, HasRounds, HasRunFirst, HasRunOne, IsTableAfter}
+use Rattle.fish_run.specs.within.Steps.{HasCutOne, HasRounds, HasRunRounds, HasRunOne, IsTableAfter}
 use Rattle.fish_store.proofs.Running.{runs_both}
 use Rattle.fish_store.specs.CommitRows.{LeavesRows}
-use Rattle.fish_store.specs.Sound.{GoesOnHere, IsSoundBehind, Point, Runs}
+use Rattle.fish_store.specs.Sound.{GoesOnHere, IsSoundBehind, Point, StoreRuns}
 use Rattle.fish_whole.proofs.Parts.{goes_later}
 use Rattle.fish_whole.specs.Whole.{Later, Whole, WillHold}
 
@@ -134,7 +134,7 @@ module _
   -- what goes on in one table, and what is told after every past
   pub runs_step : (p q : Point D) (P : Whole → Type 0) → GoesOnHere disks p q → Later p.view q.view
       → ((past : Whole) → IsSoundBehind disks p (disks.content q.disk) past → WillHold past q.view P)
-      → Runs disks p q P
+      → StoreRuns disks p q P
   runs_step p q P h later told = record {
     told_before = h.told_before;
     rises = h.rises;
@@ -149,11 +149,11 @@ module _
 
   -- the moment itself
   pub runs_self : (p : Point D) (P : Whole → Type 0) → GoesOnHere disks p p → Later p.view p.view
-      → ((w : Whole) → P w) → Runs disks p p P
+      → ((w : Whole) → P w) → StoreRuns disks p p P
   runs_self p P h later all = runs_step p p P h later (λ past s w may. all w)
 
   -- after a past it is sound at a later moment too, after another
-  pub behind_next : (p m : Point D) (P : Whole → Type 0) (later : Option (List ℕ)) → Runs disks p m P
+  pub behind_next : (p m : Point D) (P : Whole → Type 0) (later : Option (List ℕ)) → StoreRuns disks p m P
       → (IsSome later → IsSome (disks.content m.disk)) → (past : Whole) → IsSoundBehind disks p later past
       → (next : Whole) × IsSoundBehind disks m later next
   behind_next p m P later a told past s =
@@ -183,8 +183,8 @@ module _
       (later : Later m.view q.view) (shape : q.shape ≡ m.shape) (rows : LeavesRowsOf disks m.disk q.disk s (first_items b.lanes)) where
     -- one more tells of what it began with
     began : b.fresh ≡ fresh → b.span.from ≡ mid → s ≡ begun_for b (after_rounds r rounds)
-    began fresh_is begins = h.after ∙ ap (λ (z : Bool). begun z mid (after_rounds r rounds)) (sym fresh_is)
-        ∙ ap (λ (z : ℕ). begun b.fresh z (after_rounds r rounds)) (sym begins)
+    began fresh_is begins = h.after ∙ ap (λ (z : Bool). begun_anew z mid (after_rounds r rounds)) (sym fresh_is)
+        ∙ ap (λ (z : ℕ). begun_anew b.fresh z (after_rounds r rounds)) (sym begins)
 
     left_more : b.fresh ≡ fresh → b.span.from ≡ mid → HaveLeftRounds disks p.disk q.disk r (rounds ++ b ∷ []) false
     left_more fresh_is begins = left_round disks p.disk m.disk q.disk r rounds b
@@ -235,7 +235,7 @@ module _
 
     -- and one more was cut
     pub rounds_cut : HasCutOne (IsSoundBehind disks m (disks.content q.disk)) q.flusher.count fresh m.view.shut q.view s mid to b
-        → HasEnd q.view to → HasRunFirst disks p q from r rounds fresh (Some b) to
+        → EndsAlone q.view to → HasRunRounds disks p q from r rounds fresh (Some b) to
     rounds_cut one ends = record {
       runs = runs_both disks p m q (λ w. SaysRounds w from r rounds mid) (λ w. SaysCut w mid s b)
           (λ w. SaysFirst w from r rounds (Some b) to)
@@ -264,14 +264,14 @@ module _
   module _ (p m q : Point D) (from mid : ℕ) (r s : Registry) (rounds : List Round) where
     -- a new table was begun after them
     pub rounds_rolled : (t : Registry) → HasRounds disks p m from r rounds false mid s
-        → Runs disks m q (λ w. Unit {0}) → t ≡ begun true mid s → q.view.shut ≡ None
+        → StoreRuns disks m q (λ w. Unit {0}) → t ≡ begun_anew true mid s → q.view.shut ≡ None
         → q.shape ≡ m.shape → m.view.about.number < q.view.about.number
         → LeavesRows disks m.disk q.disk (λ was. (after_rounds r rounds).rows ∷ []) ((after_rounds r rounds).rows ∷ [])
         → q.view.about.number ≡ mid → HasRounds disks p q from r rounds true mid t
     rounds_rolled t h runs is unshut shape higher rows number = record {
       runs = runs_both disks p m q (λ w. SaysRounds w from r rounds mid) (λ w. Unit {0})
           (λ w. SaysRounds w from r rounds mid) (λ w before now. before) h.runs runs;
-      after = is ∙ ap (begun true mid) h.after;
+      after = is ∙ ap (begun_anew true mid) h.after;
       committed = acknowledged_later m.flusher.count q.flusher.count rounds runs.rises h.committed;
       fulls = h.fulls;
       full = λ before full. none_full q.view.shut unshut;
@@ -284,9 +284,9 @@ module _
 
     -- they ended the run, which goes on in the same table at most
     pub rounds_end : (fresh : Bool) → HasRounds disks p m from r rounds fresh mid s
-        → Runs disks m q (λ w. Unit {0}) → Learns m.view q.view → HasEnd q.view mid → q.shape ≡ m.shape
+        → StoreRuns disks m q (λ w. Unit {0}) → Learns m.view q.view → EndsAlone q.view mid → q.shape ≡ m.shape
         → LeavesRows disks m.disk q.disk (λ was. was ++ (after_rounds r rounds).rows ∷ []) ((after_rounds r rounds).rows ∷ [])
-        → HasRunFirst disks p q from r rounds fresh None mid
+        → HasRunRounds disks p q from r rounds fresh None mid
     rounds_end fresh h runs learns ends shape rows = record {
       runs = runs_both disks p m q (λ w. SaysRounds w from r rounds mid) (λ w. Unit {0})
           (λ w. SaysFirst w from r rounds None mid) (λ w before now. record { to = mid; whole = before; rest = refl }) h.runs runs;
@@ -301,10 +301,10 @@ module _
 
   -- what the first ones tell they tell later, where the store goes on in the same table at most
   pub first_on : (p m q : Point D) (from to : ℕ) (r : Registry) (rounds : List Round) (fresh : Bool) (cut : Option Round)
-      → HasRunFirst disks p m from r rounds fresh cut to → Runs disks m q (λ w. Unit {0})
-      → Learns m.view q.view → HasEnd q.view to → q.shape ≡ m.shape
+      → HasRunRounds disks p m from r rounds fresh cut to → StoreRuns disks m q (λ w. Unit {0})
+      → Learns m.view q.view → EndsAlone q.view to → q.shape ≡ m.shape
       → LeavesRows disks m.disk q.disk (λ was. was ++ (after_rounds r (with_cut rounds cut)).rows ∷ [])
-      ((after_rounds r (with_cut rounds cut)).rows ∷ []) → HasRunFirst disks p q from r rounds fresh cut to
+      ((after_rounds r (with_cut rounds cut)).rows ∷ []) → HasRunRounds disks p q from r rounds fresh cut to
   first_on p m q from to r rounds fresh cut h runs learns ends shape rows = record {
     runs = runs_both disks p m q (λ w. SaysFirst w from r rounds cut to) (λ w. Unit {0})
         (λ w. SaysFirst w from r rounds cut to) (λ w before now. before) h.runs runs;
@@ -327,7 +327,7 @@ module _
           (λ w. SaysRounds w from r (rounds ++ more) to)
           (λ w before now. says_join w from mid to r rounds more before
           (subst (λ (z : Registry). SaysRounds w mid z more to) h.after now)) h.runs k.runs;
-      after = k.after ∙ ap (begun fresh to) (ap (λ (z : Registry). after_rounds z more) h.after ∙ sym (after_join r rounds more));
+      after = k.after ∙ ap (begun_anew fresh to) (ap (λ (z : Registry). after_rounds z more) h.after ∙ sym (after_join r rounds more));
       committed = acknowledged_join q.flusher.count rounds more
           (acknowledged_later m.flusher.count q.flusher.count rounds k.runs.rises h.committed) k.committed;
       fulls = λ before full. since_join before rounds more (h.fulls before full) (k.fulls (last_table before rounds) (h.full before full));
@@ -344,8 +344,8 @@ module _
     }
 
     -- and others, of which one was cut perhaps
-    pub rounds_first : (fresh : Bool) (cut : Option Round) → HasRunFirst disks m q mid s more fresh cut to
-        → HasRunFirst disks p q from r (rounds ++ more) fresh cut to
+    pub rounds_first : (fresh : Bool) (cut : Option Round) → HasRunRounds disks m q mid s more fresh cut to
+        → HasRunRounds disks p q from r (rounds ++ more) fresh cut to
     rounds_first fresh cut k = record {
       runs = runs_both disks p m q (λ w. SaysRounds w from r rounds mid) (λ w. SaysFirst w mid s more cut to)
           (λ w. SaysFirst w from r (rounds ++ more) cut to)

@@ -3,8 +3,9 @@ use Rattle.std.proofs.Common.{◌≡◌, ℕ, zero, suc, ◌+◌, ◌<◌, ◌�
 use Rattle.std.proofs.Common.{All, None, Option, Some, append-nil, false, inl, slice_get, true}
 use Rattle.std.specs.Prelude.{Err, Ok, OnErr, OnOk, Result}
 use Rattle.fish_feed.proofs.Queues.{dones_later}
-use Rattle.fish_feed.specs.Queues.{AreIdle, IsGiven, IsQueue, LanesMayDo, MayDoAll, MayEnd}
-use Rattle.fish_feed.specs.Works.{AreDone, Pairs, Triples}
+use Rattle.fish_feed.specs.Queues.{AreIdle, IsGiven, IsQueue, LanesMayDo, MayDoAll, MayEndFeed}
+use Rattle.fish_feed.specs.Works.{AreStatementsDone, Triples}
+use Rattle.fish_script.specs.Laws.{Pairs}
 use Rattle.fish_feed.specs.declared.queue.Queue.{Queue}
 use Rattle.fish_lanes.specs.Blocks.{AreLanes, IsNewLane}
 use Rattle.fish_lanes.specs.Registering.{IsAcceptable}
@@ -29,16 +30,16 @@ still_self (Some files) = refl
 
 -- what did statements over files that were told did so over those that still are
 pub done_later : (old new : Option Files) → SameFiles old new → (texts : List (List Statement)) (given : List (List Work))
-    → Pairs (AreDone old) texts given → Pairs (AreDone new) texts given
+    → Pairs (AreStatementsDone old) texts given → Pairs (AreStatementsDone new) texts given
 done_later old new still texts given h =
-    pairs_map (AreDone old) (AreDone new) (λ ss ws k. dones_later old new still ss ws k) texts given h
+    pairs_map (AreStatementsDone old) (AreStatementsDone new) (λ ss ws k. dones_later old new still ss ws k) texts given h
 
 -- ---- queues
 
 module _ {F : Type 0} (left : F → Option (List ℕ)) where
   -- what a queue was given may be all that it gives
   pub may_all : (told : Option Files) (texts : List (List Statement)) (given : List (List Work)) (queues : List (Queue F))
-      → Triples (IsQueue told left) texts given queues → Triples (MayEnd told left) texts given queues
+      → Triples (IsQueue told left) texts given queues → Triples (MayEndFeed told left) texts given queues
   may_all told [] [] [] h = tt
   may_all told [] [] (q ∷ queues) h = elim h [ ]
   may_all told [] (ws ∷ given) queues h = elim h [ ]
@@ -52,7 +53,7 @@ module _ {F : Type 0} (left : F → Option (List ℕ)) where
   -- the same once more was given, also where a file couldn't be read
   pub may_given : {E : Type 0} (told : Option Files) (texts : List (List Statement)) (given : List (List Work)) (queues : List (Queue F))
       (r : Result (Unit {0}) E) → OnOk r (Triples (IsQueue told left) texts given queues)
-      → OnErr r (Triples (MayEnd told left) texts given queues) → Triples (MayEnd told left) texts given queues
+      → OnErr r (Triples (MayEndFeed told left) texts given queues) → Triples (MayEndFeed told left) texts given queues
   may_given told texts given queues (Ok x) ok failed = may_all told texts given queues ok
   may_given told texts given queues (Err e) ok failed = failed
 

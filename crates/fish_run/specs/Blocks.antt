@@ -4,7 +4,7 @@ use Rattle.std.specs.Prelude.{Option, Some, None, ⊤}
 use Rattle.fish_catalog.specs.Clamps.{clamped}
 use Rattle.fish_catalog.specs.declared.row.CatRow.{CatRow}
 use Rattle.fish_lanes.specs.Blocks.{AreEnded, EachLane, SaysBlock, control_items}
-use Rattle.fish_lanes.specs.Controlling.{IsCommitted}
+use Rattle.fish_lanes.specs.Controlling.{IsCheckpointAtMost}
 use Rattle.fish_lanes.specs.Full.{AreFullLast, EndsFull}
 use Rattle.fish_lanes.specs.Outcome.{IsFullIn, LanesSayPlans}
 use Rattle.fish_lanes.specs.Plans.{RowsAre}
@@ -58,12 +58,12 @@ abbrev pub round_controls : Round → List Item
 round_controls b = lanes_controls b.lanes b.end
 
 -- the registry with which a round begins: in a table of its own no index begins or ends past the log
-abbrev pub begun : Bool → ℕ → Registry → Registry
-begun false n r = r
-begun true n r = record r { rows = map (clamped n) r.rows }
+abbrev pub begun_anew : Bool → ℕ → Registry → Registry
+begun_anew false n r = r
+begun_anew true n r = record r { rows = map (clamped n) r.rows }
 
 abbrev pub begun_for : Round → Registry → Registry
-begun_for b r = begun b.fresh b.span.from r
+begun_for b r = begun_anew b.fresh b.span.from r
 
 -- the registry after a round, and after rounds
 abbrev pub after_round : Registry → Round → Registry
@@ -206,4 +206,4 @@ pub record FullsAgree (rounds : List Round) (end : ℕ) : Type 0 where
 
 -- no checkpoint that an item of these rounds tells has more entries than so many
 abbrev pub AreAcknowledged : ℕ → List Round → Type 0
-AreAcknowledged count rounds = (b : Round) → Among b rounds → AllOf (IsCommitted count) (first_items b.lanes)
+AreAcknowledged count rounds = (b : Round) → Among b rounds → AllOf (IsCheckpointAtMost count) (first_items b.lanes)

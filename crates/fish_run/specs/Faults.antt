@@ -35,12 +35,12 @@ lane_fault cause.Disk = Some fault.Disk
 lane_fault (cause.Damaged number) = Some (fault.Damaged number)
 
 -- no record was damaged
-abbrev pub IsUndamaged : RunFault → Type 0
-IsUndamaged (fault.Damaged number) = ⊥
-IsUndamaged fault.Input = ⊤
-IsUndamaged fault.Output = ⊤
-IsUndamaged fault.Memory = ⊤
-IsUndamaged fault.Disk = ⊤
+abbrev pub IsRunUndamaged : RunFault → Type 0
+IsRunUndamaged (fault.Damaged number) = ⊥
+IsRunUndamaged fault.Input = ⊤
+IsRunUndamaged fault.Output = ⊤
+IsRunUndamaged fault.Memory = ⊤
+IsRunUndamaged fault.Disk = ⊤
 
 -- ---- lanes
 

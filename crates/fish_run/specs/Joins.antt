@@ -28,14 +28,14 @@ with_more s r x = x
 
 -- the item of the first parts of a file and that of the next one, in one; once the log was full, and no new table was
 -- begun, it stays: nothing is after a mark, so no later part stores anything, and only lines before it are counted
-abbrev pub joined : Bool → Item → Item → Item
-joined fresh (item.Ingested file stored refused) y = with_more stored refused y
-joined true (item.IngestFull file line lines end stored refused) y = with_more stored refused y
-joined fresh x y = x
+abbrev pub joined_items : Bool → Item → Item → Item
+joined_items fresh (item.Ingested file stored refused) y = with_more stored refused y
+joined_items true (item.IngestFull file line lines end stored refused) y = with_more stored refused y
+joined_items fresh x y = x
 
 abbrev pub first_joined : Bool → Item → List Item → List Item
 first_joined fresh x [] = x ∷ []
-first_joined fresh x (y ∷ items) = joined fresh x y ∷ items
+first_joined fresh x (y ∷ items) = joined_items fresh x y ∷ items
 
 -- the item is of a file that may go on
 abbrev pub is_part : Item → Bool

@@ -6,25 +6,25 @@ use Rattle.fish_catalog.specs.Clamps.{clamped}
 use Rattle.fish_catalog.specs.declared.commit.Commit.{Commit}
 use Rattle.fish_catalog.specs.declared.entry.Entry.{Entry}
 use Rattle.fish_disk.specs.declared.disk.Disk.{Ghosts as Disks}
-use Rattle.fish_feed.specs.Works.{AreDone, Pairs}
+use Rattle.fish_feed.specs.Works.{AreStatementsDone}
 use Rattle.fish_image.specs.Stands.{Stands}
 use Rattle.fish_outside.specs.Content.{Files, Gained, GainedPart}
-use Rattle.fish_recover.specs.Stores.{IsOpened}
+use Rattle.fish_recover.specs.Stores.{IsOpened, shape_of}
 use Rattle.fish_recover.specs.declared.opened.Opened.{Opened}
 use Rattle.fish_report.specs.ReportText.{report_text}
 use Rattle.fish_report.specs.declared.item.Item.{Item}
 use Rattle.fish_rule.specs.declared.close.Remains.{Remains}
 use Rattle.fish_run.specs.Faults.{IsFirstFault}
-use Rattle.fish_run.specs.Blocks.{AreAcknowledged, Block, Round, SaysRun}
-use Rattle.fish_run.specs.Blocks.{rounds_of, with_cut}
+use Rattle.fish_run.specs.Blocks.{AreAcknowledged, Block, Round, SaysRun, rounds_of, with_cut}
 use Rattle.fish_run.specs.Rounds.{AreAll, AreRounds, FollowOn, given_in}
 use Rattle.fish_run.specs.Reports.{are_refused, first_item, report_of, whole_report}
 use Rattle.fish_run.specs.CommitRows.{KeepsDefinitions}
-use Rattle.fish_run.specs.Tables.{AreRenewed, LastTable, rows_over, shape_of}
+use Rattle.fish_run.specs.Tables.{AreRenewed, LastTable, rows_over}
 use Rattle.fish_run.specs.declared.fault.RunFault.{RunFault}
 use Rattle.fish_run.specs.declared.fault.RunFault.TheVariants as fault
+use Rattle.fish_script.specs.Laws.{Pairs}
 use Rattle.fish_script.specs.declared.script.Block as script
-use Rattle.fish_store.specs.Ending.{IsLost as LosesLog, IsShown, KeepsCatalog}
+use Rattle.fish_store.specs.Ending.{IsLost as LosesLog, IsShownLog, KeepsCatalog}
 
 -- a block that ran is one of the script: what its lanes were given over its rounds does their statements, with the
 -- files that they name, each round does what the one before it left to do and what was given for it, and the last one
@@ -32,7 +32,7 @@ use Rattle.fish_store.specs.Ending.{IsLost as LosesLog, IsShown, KeepsCatalog}
 pub record IsBlockOf (told : Option Files) (s : script.Block) (b : Block) : Type 0 where
   pub several : b.several ≡ s.several
   pub follow : FollowOn b.rounds
-  pub done : Pairs (AreDone told) s.lanes (given_in b.rounds)
+  pub done : Pairs (AreStatementsDone told) s.lanes (given_in b.rounds)
   pub all : AreAll b.rounds
 
 -- these are the first blocks of the script
@@ -65,7 +65,7 @@ pub record Keeps (now since : List ℕ → Type 0) (c : Commit) (log : List Entr
     (cut : Option Round) (remains : Remains) : Type 0 where
   pub count : ℕ
   pub acknowledged : AreAcknowledged count (with_cut rounds cut)
-  pub shown : IsShown now since log count
+  pub shown : IsShownLog now since log count
       (λ w. SaysRun w (length log) (map (clamped c.count) c.rows) rounds cut (length w.log)) remains
   pub all : ended ≡ true → count ≡ length shown.whole.log
   pub catalog : ended ≡ true → (i : List ℕ) → now i → KeepsCatalog (shape_of c) (rows_over c rounds) remains.lines i
@@ -92,7 +92,7 @@ entries_of remains = remains.base + length remains.log
 -- a run that came to its end: each block of the script ran; where a round found the table full, a new one was begun
 -- after it, but near the limits of a log; the text of their items, and that the log was closed, was written; refusals
 -- of a full log agree, what is left is that of a closed log, and it has its buckets; and the disk keeps all of the log
-pub record IsWhole {D : Type 0} (disks : Disks D) (disk disk' : D) (o : Opened) (told : Option Files)
+pub record IsRunWhole {D : Type 0} (disks : Disks D) (disk disk' : D) (o : Opened) (told : Option Files)
     (text : List script.Block) (remains : Remains) (old new : Option (List ℕ)) (refused : Bool) : Type 0 where
   pub blocks : List Block
   pub are : Pairs (IsBlockOf told) text blocks
@@ -115,7 +115,7 @@ WritesPart true first told text count old new blocks =
 -- lane stopped at the fault, but for one of a file that couldn't be read; what is left is that of a closed log; a first
 -- part of the report was written, without the cut block, and all of it unless it couldn't be written or memory ran out;
 -- refusals are those of the blocks; and the disk keeps what was committed
-pub record IsStopped {D : Type 0} (disks : Disks D) (disk disk' : D) (o : Opened) (told : Option Files)
+pub record IsRunStopped {D : Type 0} (disks : Disks D) (disk disk' : D) (o : Opened) (told : Option Files)
     (text : List script.Block) (remains : Remains) (old new : Option (List ℕ)) (refused : Bool) (why : RunFault)
     : Type 0 where
   pub blocks : List Block
@@ -137,7 +137,7 @@ pub record IsStopped {D : Type 0} (disks : Disks D) (disk disk' : D) (o : Opened
 
 -- a run whose log couldn't be shown, since memory ran out: the first blocks ran, and perhaps one more, which was cut; a
 -- first part of the report of the blocks was written; and the disk keeps what was committed
-pub record IsLost {D : Type 0} (disks : Disks D) (disk disk' : D) (o : Opened) (told : Option Files)
+pub record IsRunLost {D : Type 0} (disks : Disks D) (disk disk' : D) (o : Opened) (told : Option Files)
     (text : List script.Block) (old new : Option (List ℕ)) (refused : Bool) : Type 0 where
   pub blocks : List Block
   pub part : List Round

@@ -46,13 +46,13 @@ abbrev pub last_end : BlockEnd → List Round → BlockEnd
 last_end end [] = end
 last_end end (b ∷ rounds) = last_end b.end rounds
 
-abbrev pub end_of : List Round → BlockEnd
-end_of [] = record { to = 0; bound = None }
-end_of (a ∷ rounds) = last_end a.end rounds
+abbrev pub end_of_rounds : List Round → BlockEnd
+end_of_rounds [] = record { to = 0; bound = None }
+end_of_rounds (a ∷ rounds) = last_end a.end rounds
 
 -- the items of a block
 abbrev pub block_items : Block → List Item
-block_items b = said_items b.several (first_number b.rounds) (end_of b.rounds) (block_said b.rounds)
+block_items b = said_items b.several (first_number b.rounds) (end_of_rounds b.rounds) (block_said b.rounds)
 
 -- the first item of a run: its store was made, or opened with so many entries
 abbrev pub first_item : Bool → ℕ → Item

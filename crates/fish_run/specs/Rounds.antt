@@ -1,7 +1,8 @@
 -- How the statements of a block are shared out among its rounds.
 use Rattle.std.specs.Prelude.{ℕ, ◌≡◌, ◌+◌, ◌⊎◌, List, [], ◌∷◌, ◌++◌, Bool, false, true, Option, ⊤}
 use Rattle.fish_feed.specs.Queues.{both}
-use Rattle.fish_feed.specs.Works.{AreAnewAfterFirst, AreFirstOf, Pairs, Triples}
+use Rattle.fish_feed.specs.Works.{AreAnewAfterFirst, AreFirstOf, Triples}
+use Rattle.fish_script.specs.Laws.{Pairs}
 use Rattle.fish_lanes.specs.Full.{EndsFull}
 use Rattle.fish_lanes.specs.Outcome.{LeaveNone}
 use Rattle.fish_lanes.specs.declared.lane.Lane.{Lane}
@@ -22,7 +23,7 @@ use Rattle.fish_value.specs.declared.field.Form.{Form}
 
 -- the lane's last statement is a file of which records are left, as its last item says, since the table was full: it
 -- goes on with these, and then with what it handed back
-pub record IsRest (x : Lane) (next : List Work) : Type 0 where
+pub record IsRestOfWorks (x : Lane) (next : List Work) : Type 0 where
   pub before : List Work
   pub form : Form
   pub begin : Begin
@@ -55,19 +56,19 @@ pub record IsCutFile (x : Lane) : Type 0 where
 -- left of a file
 abbrev pub GoesOnWith : Bool → Lane → List Work → Type 0
 GoesOnWith false x next = next ≡ x.left
-GoesOnWith true x next = ((IsCutFile x → ⊥) × (next ≡ x.left)) ⊎ IsRest x next
+GoesOnWith true x next = ((IsCutFile x → ⊥) × (next ≡ x.left)) ⊎ IsRestOfWorks x next
 
 -- what a lane is to do in a round: what it goes on with after the one before, and where that is nothing, what it was
 -- given, of which the first alone may go on with a file
-abbrev pub IsNext : Bool → Lane → List Work → Lane → Type 0
-IsNext fresh x given y =
+abbrev pub IsNextLane : Bool → Lane → List Work → Lane → Type 0
+IsNextLane fresh x given y =
     (next : List Work) × GoesOnWith fresh x next × (to_do y ≡ next ++ given) × ((next ≡ []) ⊎ (given ≡ []))
     × AreAnewAfterFirst given
 
 -- each round goes on from the one before it
 abbrev pub GoOn : Round → List Round → Type 0
 GoOn a [] = ⊤
-GoOn a (b ∷ rounds) = Triples (IsNext b.fresh) a.lanes b.given b.lanes × AreNumbered b.lanes × GoOn b rounds
+GoOn a (b ∷ rounds) = Triples (IsNextLane b.fresh) a.lanes b.given b.lanes × AreNumbered b.lanes × GoOn b rounds
 
 -- and in the first one lanes do what they were given
 abbrev pub FollowOn : List Round → Type 0

@@ -9,7 +9,6 @@ use Rattle.fish_recover.specs.declared.opened.Opened.{Opened}
 use Rattle.fish_rule.specs.ClosedLog.{IsClosed}
 use Rattle.fish_rule.specs.Start.{table_lines}
 use Rattle.fish_rule.specs.declared.close.Remains.{Remains}
-use Rattle.fish_rule.specs.declared.table.Shape.{Shape}
 use Rattle.fish_rule.specs.declared.view.View.{View}
 use Rattle.fish_run.specs.Blocks.{AreInOne, FullsAgree, IsFullOf, Round, after_rounds, first_registry, left_table}
 use Rattle.fish_run.specs.Blocks.{with_cut}
@@ -60,9 +59,6 @@ pub record LastTable (o : Opened) (remains : Remains) (fresh : Bool) (rounds : L
   pub same : remains.base ≡ o.log.key.number → (view.about ≡ o.log.key) × AreInOne (with_cut rounds cut)
       × (fresh ≡ false)
 
--- the shape of a store with this commit, and the rows of its definitions after these rounds
-abbrev pub shape_of : Commit → Shape
-shape_of c = record { pages = c.pages; bucket_bits = c.bucket_bits }
-
+-- the rows of the definitions of a store with this commit, after these rounds
 abbrev pub rows_over : Commit → List Round → List CatRow
 rows_over c rounds = (after_rounds (first_registry (map (clamped c.count) c.rows)) rounds).rows

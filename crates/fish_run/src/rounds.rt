@@ -18,7 +18,7 @@ ghost use Rattle.fish_run.specs.within.Turning.{says_full};
 ghost use Rattle.fish_run.specs.Joins.{goes_on};
 ghost use Rattle.fish_run.specs.within.Rolls.{StopsRoll};
 ghost use Rattle.fish_run.specs.within.Runs.{CanClose, CanGoOn};
-ghost use Rattle.fish_run.specs.within.Steps.{AreWhole, Leaves};
+ghost use Rattle.fish_run.specs.within.Steps.{AreWholeLanes, Leaves};
 ghost use Rattle.fish_store.specs.Points.{Behind};
 
 use crate::fault::RunFault;
@@ -142,7 +142,7 @@ fn run_turn<R: Threads + Sync, D: Disk + Send, G: Gate + Sync>(
 
 /// Fails where a lane stopped at a fault, with that of the first one.
 fn first_fault(lanes: &[Lane]) -> Result<(), RunFault>
-    ensures whole { OnOk result (AreWhole lanes.now) }
+    ensures whole { OnOk result (AreWholeLanes lanes.now) }
     ensures first { IfErr result (IsFirstFault lanes.now) }
 {
     match fault_of(lanes) {
@@ -199,7 +199,7 @@ fn run_round<R: Threads + Sync, D: Disk + Send, G: Gate + Sync>(
     ensures lanes { LeavesLanes (Behind D.Disk disk.old store.old disk.new) (D.faults disk.old) (D.faults disk.new)
         (view store.old.pass) (view store.new.pass) lanes.old lanes.new }
     ensures close { CanClose store.new }
-    ensures go { AreWhole lanes.new → CanGoOn D.images disk.new store.new result.to }
+    ensures go { AreWholeLanes lanes.new → CanGoOn D.images disk.new store.new result.to }
     ensures leaves { Leaves (Behind D.Disk disk.old store.old disk.new) store.new.file.flusher.count
         (view store.old.pass) (view store.new.pass) store.old.registrar store.new.registrar from lanes.new result }
     ensures rises { D.faults disk.old ≤ D.faults disk.new }

@@ -12,10 +12,10 @@ ghost use Rattle.fish_report.specs.Writing.{HasWriteCause};
 ghost use Rattle.fish_rule.specs.ClosedLog.{IsClosed};
 ghost use Rattle.fish_rule.specs.Passes.{view};
 ghost use Rattle.fish_rule.specs.declared.close.Remains.{Remains};
-ghost use Rattle.fish_run.specs.Faults.{IsUndamaged};
-ghost use Rattle.fish_run.specs.Ran.{IsLost, IsStopped, IsWhole};
+ghost use Rattle.fish_run.specs.Faults.{IsRunUndamaged};
+ghost use Rattle.fish_run.specs.Ran.{IsRunLost, IsRunStopped, IsRunWhole};
 ghost use Rattle.fish_run.specs.Reports.{first_item, said_items, said_refused};
-ghost use Rattle.fish_run.specs.within.Running.{EndsOne, EndsRun, Finishes, StopsOne, StopsRun, counts_of};
+ghost use Rattle.fish_run.specs.within.Running.{EndsOne, EndsRunning, Finishes, StopsOne, StopsRun, counts_of};
 ghost use Rattle.fish_run.specs.within.Runs.{CanClose, CanGoOn, IsNewStore};
 ghost use Rattle.fish_run.specs.declared.fault.RunFault.{RunFault as Why};
 ghost use Rattle.fish_run.specs.within.Counting.{AreLater, IsCausedBy};
@@ -84,19 +84,20 @@ where
     requires opened { (c : Commit) × (log : List Entry)
         × IsOpened (D.content disk.old) (D.images disk.old) c log opened }
     requires script { CanRun script.now }
-    ensures whole { result.fault ≡ None → (r : Remains) × (result.remains ≡ Some r) × IsWhole D.Disk disk.old disk.new
-        opened (H.files host.new) script.now r (W.written out.old) (W.written out.new) result.refused }
+    ensures whole { result.fault ≡ None → (r : Remains) × (result.remains ≡ Some r)
+        × IsRunWhole D.Disk disk.old disk.new opened (H.files host.new) script.now r (W.written out.old)
+        (W.written out.new) result.refused }
     ensures stopped { (why : Why) → result.fault ≡ Some why → (r : Remains) → result.remains ≡ Some r
-        → IsStopped D.Disk disk.old disk.new opened (H.files host.new) script.now r (W.written out.old)
+        → IsRunStopped D.Disk disk.old disk.new opened (H.files host.new) script.now r (W.written out.old)
         (W.written out.new) result.refused why }
-    ensures lost { result.remains ≡ None → (result.fault ≡ Some RunFault.Memory) × IsLost D.Disk disk.old disk.new
+    ensures lost { result.remains ≡ None → (result.fault ≡ Some RunFault.Memory) × IsRunLost D.Disk disk.old disk.new
         opened (H.files host.new) script.now (W.written out.old) (W.written out.new) result.refused }
     ensures content { SameFiles (H.files host.old) (H.files host.new) }
     ensures before { IsSome (D.content disk.new) → IsSome (D.content disk.old) }
     ensures input { result.fault ≡ Some RunFault.Input → Rose (H.faults host.old) (H.faults host.new) }
     ensures output { result.fault ≡ Some RunFault.Output → Rose (W.faults out.old) (W.faults out.new) }
     ensures disk { result.fault ≡ Some RunFault.Disk → Rose (D.faults disk.old) (D.faults disk.new) }
-    ensures damaged { IsSome (D.content disk.new) → IfSome result.fault IsUndamaged }
+    ensures damaged { IsSome (D.content disk.new) → IfSome result.fault IsRunUndamaged }
 {
     let made = opened.made;
     let count = opened.count;
@@ -213,8 +214,8 @@ where
     requires count { count ≡ store.log.key.number }
     requires script { CanRun script.now }
     requires accepted { refused.old ≡ false }
-    ensures all { IfOk result (EndsRun D.Disk disk.old disk.new store count (first_item made count) (H.files host.new)
-        script.now (W.written out.old) (W.written out.new) refused.new true) }
+    ensures all { IfOk result (EndsRunning D.Disk disk.old disk.new store count (first_item made count)
+        (H.files host.new) script.now (W.written out.old) (W.written out.new) refused.new true) }
     ensures some { IfErr result (StopsRun D.Disk disk.old disk.new store count (first_item made count)
         (H.files host.new) script.now (W.written out.old) (W.written out.new) refused.new) }
     ensures content { SameFiles (H.files host.old) (H.files host.new) }
@@ -256,8 +257,8 @@ where
     requires count { count ≡ store.log.key.number }
     requires script { CanRun script.now }
     requires accepted { refused.old ≡ false }
-    ensures all { IfOk result (EndsRun D.Disk disk.old disk.new store count (first_item made count) (H.files host.new)
-        script.now (W.written out.old) (W.written out.new) refused.new false) }
+    ensures all { IfOk result (EndsRunning D.Disk disk.old disk.new store count (first_item made count)
+        (H.files host.new) script.now (W.written out.old) (W.written out.new) refused.new false) }
     ensures some { IfErr result (StopsRun D.Disk disk.old disk.new store count (first_item made count)
         (H.files host.new) script.now (W.written out.old) (W.written out.new) refused.new) }
     ensures content { SameFiles (H.files host.old) (H.files host.new) }

@@ -3,7 +3,8 @@
 ghost use Rattle.std.specs.Prelude.{◌≡◌, ◌++◌, ◌∷◌, [], Bool, false, true, reverse, None, IfOk, IfSome, OnOk};
 ghost use Rattle.fish_lanes.specs.Controlling.{bound_items};
 ghost use Rattle.fish_report.specs.declared.item.Item.{Item};
-ghost use Rattle.fish_run.specs.Joins.{first_joined, is_part, joined, nothing_said, said_after, sum_of, with_more};
+ghost use Rattle.fish_run.specs.Joins.{first_joined, is_part, joined_items, nothing_said, said_after, sum_of};
+ghost use Rattle.fish_run.specs.Joins.{with_more};
 ghost use Rattle.fish_run.specs.within.Saying.{TakesPart};
 
 use fish_lanes::{Boundary, Lane};
@@ -104,8 +105,8 @@ fn is_part(item: &Item) -> bool
 
 /// The counts of the first parts of a file to which those of the next one are added.
 fn counts_of(fresh: bool, part: &Item) -> Option<Counted>
-    ensures none { result ≡ None → (y : Item) → joined fresh part.now y ≡ part.now }
-    ensures some { IfSome result (λ c. (y : Item) → joined fresh part.now y ≡ with_more c.stored c.refused y) }
+    ensures none { result ≡ None → (y : Item) → joined_items fresh part.now y ≡ part.now }
+    ensures some { IfSome result (λ c. (y : Item) → joined_items fresh part.now y ≡ with_more c.stored c.refused y) }
 {
     match part {
         Item::Ingested {
@@ -139,7 +140,7 @@ fn counts_of_full(fresh: bool, stored: u32, refused: u32) -> Option<Counted>
 
 /// The item of the first parts of a file and that of the next one, in one.
 fn joined(fresh: bool, part: Item, item: Item) -> Item
-    ensures { result ≡ joined fresh part item }
+    ensures { result ≡ joined_items fresh part item }
 {
     match counts_of(fresh, &part) {
         Some(counted) => {

@@ -9,7 +9,7 @@ ghost use Rattle.fish_run.specs.Reports.{block_foot, block_head, first_item, lan
 ghost use Rattle.fish_run.specs.Reports.{said_items};
 ghost use Rattle.fish_run.specs.Reports.{said_refused};
 ghost use Rattle.fish_run.specs.Faults.{IsFirstFault};
-ghost use Rattle.fish_run.specs.within.Steps.{AreWhole};
+ghost use Rattle.fish_run.specs.within.Steps.{AreWholeLanes};
 
 use crate::fault::{RunFault, lane_fault};
 use crate::saying::Said;
@@ -20,7 +20,7 @@ use std::alloc::Global;
 
 /// The fault of the first lane that stopped at one.
 pub(crate) fn fault_of(lanes: &[Lane]) -> Option<RunFault>
-    ensures none { result ≡ None → AreWhole lanes.now }
+    ensures none { result ≡ None → AreWholeLanes lanes.now }
     ensures first { IfSome result (IsFirstFault lanes.now) }
 {
     for lane in lanes {

@@ -11,26 +11,26 @@ use Rattle.std.specs.List.{cons_option, enumerate_from, filter_map}
 use Rattle.fish_catalog.specs.declared.entry.Entry.{Entry}
 use Rattle.fish_catalog.specs.declared.entry.Entry.TheVariants as entry
 use Rattle.fish_layout.specs.Cleared.{choose}
-use Rattle.fish_psf.specs.Select.{Evaluation, has_value, row_of, select}
+use Rattle.fish_psf.specs.Select.{Evaluation, has_value, selected_row, select}
 use Rattle.fish_value.specs.declared.field.Form.{Form}
 use Rattle.fish_value.specs.declared.row.Row.{Row}
 use Rattle.fish_value.specs.declared.value.Value.{Value}
-use Rattle.fish_lanes.specs.Records.{Content, contents, rows_from}
+use Rattle.fish_lanes.specs.Records.{Content, contents_of_rows, rows_from}
 use Rattle.fish_lanes.specs.Telling.{all_of}
-use Rattle.fish_sample.specs.within.Parts.{Each, IsOfLanes, IsVoid}
+use Rattle.fish_sample.specs.within.Parts.{EachEntry, IsOfLanes, IsVoid}
 use Rattle.fish_scan.specs.Older.{selectable}
 
 -- ---- entries, one by one
 
-pub each_at : (P : Entry → Type 0) (es : List Entry) → ((i : ℕ) (e : Entry) → slice_get es i ≡ Some e → P e) → Each P es
+pub each_at : (P : Entry → Type 0) (es : List Entry) → ((i : ℕ) (e : Entry) → slice_get es i ≡ Some e → P e) → EachEntry P es
 each_at P [] h = tt
 each_at P (e ∷ es) h = (h 0 e refl, each_at P es (λ i. h (suc i)))
 
-pub each_both : (P : Entry → Type 0) (es fs : List Entry) → Each P es → Each P fs → Each P (es ++ fs)
+pub each_both : (P : Entry → Type 0) (es fs : List Entry) → EachEntry P es → EachEntry P fs → EachEntry P (es ++ fs)
 each_both P [] fs h k = k
 each_both P (e ∷ es) fs h k = (h.0, each_both P es fs h.1 k)
 
-pub each_weaker : (P Q : Entry → Type 0) → ((e : Entry) → P e → Q e) → (es : List Entry) → Each P es → Each Q es
+pub each_weaker : (P Q : Entry → Type 0) → ((e : Entry) → P e → Q e) → (es : List Entry) → EachEntry P es → EachEntry Q es
 each_weaker P Q so [] h = tt
 each_weaker P Q so (e ∷ es) h = (so e h.0, each_weaker P Q so es h.1)
 
@@ -42,50 +42,55 @@ void_lanes entry.Void h = tt
 -- ---- the records of a lane
 
 -- wherever they begin
-contents_from : (lane n m : ℕ) (es : List Entry) → contents (rows_from lane n es) ≡ contents (rows_from lane m es)
+contents_from : (lane n m : ℕ) (es : List Entry) → contents_of_rows (rows_from lane n es) ≡ contents_of_rows (rows_from lane m es)
 contents_from lane n m [] = refl
 contents_from lane n m (entry.Void ∷ es) = contents_from lane (suc n) (suc m) es
 contents_from lane n m (entry.Stored l form payload ∷ es) = by (ℕ_discrete l lane) (contents_from lane (suc n) (suc m) es)
   where
-    by : (d : Dec (l ≡ lane)) → contents (rows_from lane (suc n) es) ≡ contents (rows_from lane (suc m) es)
-        → contents (choose d (record { number = n; form = form; payload = payload } ∷ rows_from lane (suc n) es) (rows_from lane (suc n)
+    by : (d : Dec (l ≡ lane)) → contents_of_rows (rows_from lane (suc n) es) ≡ contents_of_rows (rows_from lane (suc m) es)
+        → contents_of_rows (choose d (record { number = n; form = form; payload = payload } ∷ rows_from lane (suc n) es)
+        (rows_from lane (suc n)
         es))
-        ≡ contents (choose d (record { number = m; form = form; payload = payload } ∷ rows_from lane (suc m) es) (rows_from lane (suc m)
+        ≡ contents_of_rows (choose d (record { number = m; form = form; payload = payload } ∷ rows_from lane (suc m) es)
+        (rows_from lane (suc m)
         es))
     by (yes is) rest = ap (λ (z : List Content). (form, payload) ∷ z) rest
     by (no is) rest = rest
 
 pub contents_both : (lane n m : ℕ) (es fs : List Entry)
-    → contents (rows_from lane n (es ++ fs)) ≡ contents (rows_from lane n es) ++ contents (rows_from lane m fs)
+    → contents_of_rows (rows_from lane n (es ++ fs)) ≡ contents_of_rows (rows_from lane n es) ++ contents_of_rows (rows_from lane m fs)
 contents_both lane n m [] fs = contents_from lane n m fs
 contents_both lane n m (entry.Void ∷ es) fs = contents_both lane (suc n) m es fs
 contents_both lane n m (entry.Stored l form payload ∷ es) fs = by (ℕ_discrete l lane) (contents_both lane (suc n) m es fs)
   where
     by : (d : Dec (l ≡ lane))
-        → contents (rows_from lane (suc n) (es ++ fs)) ≡ contents (rows_from lane (suc n) es) ++ contents (rows_from lane m fs)
-        → contents (choose d (record { number = n; form = form; payload = payload } ∷ rows_from lane (suc n) (es ++ fs))
+        → contents_of_rows (rows_from lane (suc n) (es ++ fs)) ≡ contents_of_rows (rows_from lane (suc n) es)
+        ++ contents_of_rows (rows_from lane m fs)
+        → contents_of_rows (choose d (record { number = n; form = form; payload = payload } ∷ rows_from lane (suc n) (es ++ fs))
         (rows_from lane (suc n) (es ++ fs)))
-        ≡ contents (choose d (record { number = n; form = form; payload = payload } ∷ rows_from lane (suc n) es) (rows_from lane (suc n)
+        ≡ contents_of_rows (choose d (record { number = n; form = form; payload = payload } ∷ rows_from lane (suc n) es)
+        (rows_from lane (suc n)
         es))
-        ++ contents (rows_from lane m fs)
+        ++ contents_of_rows (rows_from lane m fs)
     by (yes is) rest = ap (λ (z : List Content). (form, payload) ∷ z) rest
     by (no is) rest = rest
 
 -- where there are none
-pub contents_void : (lane n : ℕ) (es : List Entry) → Each IsVoid es → contents (rows_from lane n es) ≡ []
+pub contents_void : (lane n : ℕ) (es : List Entry) → EachEntry IsVoid es → contents_of_rows (rows_from lane n es) ≡ []
 contents_void lane n [] h = refl
 contents_void lane n (entry.Void ∷ es) h = contents_void lane (suc n) es h.1
 contents_void lane n (entry.Stored l form payload ∷ es) h = absurd h.0
 
 -- where the one lane that stored any stored none, there are none
-pub void_alone : (n : ℕ) (es : List Entry) → Each (IsOfLanes 1) es → contents (rows_from 1 n es) ≡ [] → Each IsVoid es
+pub void_alone : (n : ℕ) (es : List Entry) → EachEntry (IsOfLanes 1) es → contents_of_rows (rows_from 1 n es) ≡ [] → EachEntry IsVoid es
 void_alone n [] h none = tt
 void_alone n (entry.Void ∷ es) h none = (tt, void_alone (suc n) es h.1 none)
 void_alone n (entry.Stored l form payload ∷ es) h none = by (ℕ_discrete l 1) none
   where
     by : (d : Dec (l ≡ 1))
-        → contents (choose d (record { number = n; form = form; payload = payload } ∷ rows_from 1 (suc n) es) (rows_from 1 (suc n) es)) ≡ []
-        → Each IsVoid (entry.Stored l form payload ∷ es)
+        → contents_of_rows (choose d (record { number = n; form = form; payload = payload } ∷ rows_from 1 (suc n) es)
+        (rows_from 1 (suc n) es)) ≡ []
+        → EachEntry IsVoid (entry.Stored l form payload ∷ es)
     by (yes is) none = absurd (let bad = none in cc)
     by (no other) none = absurd (other (let a = h.0 in omega arith))
 
@@ -103,7 +108,7 @@ module _ (eval : Evaluation) (v : Value) where
   count_contents (c ∷ cs) = cond {A = ℕ} (has_value (eval c.0 c.1) v) 1 0 + count_contents cs
 
   abbrev pub count_lane : ℕ → ℕ → List Entry → ℕ
-  count_lane lane n es = count_contents (contents (rows_from lane n es))
+  count_lane lane n es = count_contents (contents_of_rows (rows_from lane n es))
 
   -- one more of a lane
   in_first : (x t a b c d : ℕ) → t ≡ a + (b + (c + d)) → x + t ≡ (x + a) + (b + (c + d))
@@ -119,7 +124,7 @@ module _ (eval : Evaluation) (v : Value) where
   in_fourth x t a b c d h = omega (h, arith)
 
   -- those of four lanes together
-  pub four_lanes : (n : ℕ) (es : List Entry) → Each (IsOfLanes 4) es
+  pub four_lanes : (n : ℕ) (es : List Entry) → EachEntry (IsOfLanes 4) es
       → count_entries es ≡ count_lane 1 n es + (count_lane 2 n es + (count_lane 3 n es + count_lane 4 n es))
   unfolding ℕ_discrete
   four_lanes n [] h = refl
@@ -154,17 +159,17 @@ module _ (eval : Evaluation) (v : Value) where
   more_row false row rows count h = omega (h, arith)
 
   rows_many : (from to n : ℕ) (es : List Entry) → Within from to n es
-      → length (filter_map (row_of eval v from to []) (enumerate_from n (map selectable es))) ≡ count_entries es
+      → length (filter_map (selected_row eval v from to []) (enumerate_from n (map selectable es))) ≡ count_entries es
   rows_many from to n [] h = refl
   rows_many from to n (entry.Void ∷ es) h =
-      void_row _ (filter_map (row_of eval v from to []) (enumerate_from (n + 1) (map selectable es))) (count_entries es)
+      void_row _ (filter_map (selected_row eval v from to []) (enumerate_from (n + 1) (map selectable es))) (count_entries es)
       (rows_many from to (n + 1) es h)
   rows_many from to n (entry.Stored lane form payload ∷ es) h =
       let low = le-leb from n h.0 in
       let high = le-leb (suc n) to (omega (h.1, arith)) in
       let rest = rows_many from to (n + 1) es h.2 in
       rw low (rw high (more_row (has_value (eval form payload) v) (record { number = n; payload = payload })
-      (filter_map (row_of eval v from to []) (enumerate_from (n + 1) (map selectable es))) (count_entries es) rest))
+      (filter_map (selected_row eval v from to []) (enumerate_from (n + 1) (map selectable es))) (count_entries es) rest))
 
   -- so many are selected
   pub selected_many : (from to : ℕ) (es : List Entry)
@@ -172,7 +177,7 @@ module _ (eval : Evaluation) (v : Value) where
       → length (select (map selectable es) eval v from to []) ≡ count_entries es
   unfolding select
   selected_many from to es within =
-      length-reverse (filter_map (row_of eval v from to []) (enumerate_from 0 (map selectable es)))
+      length-reverse (filter_map (selected_row eval v from to []) (enumerate_from 0 (map selectable es)))
       ∙ rows_many from to 0 es (all_within 0 es (λ i lane form payload at. (let a = within i lane form payload at in (
         omega (a, arith),
         omega (a, arith),

@@ -12,7 +12,7 @@ use Rattle.fish_lang.specs.Canonical.{definition_text}
 use Rattle.fish_lanes.proofs.Lists.{get_some, some_once}
 use Rattle.fish_lanes.proofs.Surely.{closed_length}
 use Rattle.fish_lanes.specs.Blocks.{SaysBlock}
-use Rattle.fish_lanes.specs.Records.{contents, rows_of_lane}
+use Rattle.fish_lanes.specs.Records.{contents_of_rows, rows_of_lane}
 use Rattle.fish_lanes.specs.Registering.{Registry, registry_of, after_all}
 use Rattle.fish_lanes.specs.Spans.{Span, answers}
 use Rattle.fish_lanes.specs.Telling.{SaysItems, all_of, content_of}
@@ -28,19 +28,21 @@ use Rattle.fish_sample.proofs.Shares.{part_lanes, sample_log, selected_count}
 use Rattle.fish_sample.proofs.Stored.{share_rows}
 use Rattle.fish_sample.proofs.Telling.{all_named, and_both, nothing_stored, registered_all, scan_lines, scan_of, scanned_all}
 use Rattle.fish_sample.proofs.Telling.{stored_after, stored_all, text_of}
-use Rattle.fish_sample.specs.within.Blocks.{AreRows, AreSelected, Goes, namings, HasCounted, HasDefined, HasDefinitions, HasFilled, HasRun}
-use Rattle.fish_sample.specs.within.Blocks.{HasStored, IsBetween}
-use Rattle.fish_sample.specs.within.Blocks.{IsNewStore, IsSample, IsSummary, span_of}
+use Rattle.fish_sample.specs.within.Blocks.{AreRows, AreSelected, GoesLater, namings, HasCounted, HasDefined, HasDefinitions, HasFilled}
+use Rattle.fish_sample.specs.within.Blocks.{HasRunBlock}
+use Rattle.fish_sample.specs.within.Blocks.{HasStored, IsBetweenRuns}
+use Rattle.fish_sample.specs.within.Blocks.{IsSampleStore, IsSample, IsSummary, span_of}
 use Rattle.fish_gen.specs.Sample.{sample_text}
-use Rattle.fish_sample.specs.within.Files.{lines_of}
+use Rattle.fish_sample.specs.within.Files.{sample_lines}
 use Rattle.fish_sample.specs.within.Items.{is_all_stored, is_registered, is_scanned, is_stored, items_text}
 use Rattle.fish_sample.specs.Logs.{IsSampleLog}
-use Rattle.fish_sample.specs.within.Parts.{Each, HasRecords, HasShares, IsVoid, part}
+use Rattle.fish_sample.specs.within.Parts.{EachEntry, HasRecords, HasShares, IsVoid, log_part}
 use Rattle.fish_sample.specs.Sample.{AreDefined, Definitions, all_asked, number_line, share, summary_text}
 use Rattle.fish_sample.specs.declared.opening.Sampled.{Sampled}
 use Rattle.std.proofs.Common.{Result, Ok, Err, get_or}
 use Rattle.std.specs.Prelude.{IfOk}
-use Rattle.fish_sample.specs.within.Works.{AreDefining, AreShareLanes, IsDefiningLane, IsScanningLane, all_scans, ingest_of, register_of}
+use Rattle.fish_sample.specs.within.Works.{AreDefining, AreShareLanes, IsDefiningLane, IsScanningLane, all_scans, ingest_work}
+use Rattle.fish_sample.specs.within.Works.{register_work}
 use Rattle.fish_store.specs.Points.{point_at}
 use Rattle.fish_store.specs.Sound.{Sound}
 use Rattle.fish_store.specs.declared.store.Store.{Store}
@@ -58,7 +60,7 @@ one_lane x (y ∷ []) many = (y, refl)
 one_lane x (y ∷ z ∷ new) many = absurd (omega (many, arith))
 
 module _ {D : Type 0} (disks : Disks D) (disk disk' : D) (s t : Store) (from to : ℕ)
-    (x : Lane) (new : List Lane) (h : HasRun disks disk s from (x ∷ []) disk' t to new) where
+    (x : Lane) (new : List Lane) (h : HasRunBlock disks disk s from (x ∷ []) disk' t to new) where
   abbrev last : Lane
   last = (one_lane x new h.many).0
 
@@ -84,8 +86,9 @@ module _ {D : Type 0} (disks : Disks D) (disk disk' : D) (s t : Store) (from to 
       (tells.each 0 last last_at)
 
   -- where its statements store nothing, no record is stored
-  none_stored : (w : Whole) → SaysBlock w span new → AllByRecursion (λ y. content_of y ≡ []) x.works → Each IsVoid (part from to w.log)
-  none_stored w tells none = void_alone from (part from to w.log)
+  none_stored : (w : Whole) → SaysBlock w span new → AllByRecursion (λ y. content_of y ≡ []) x.works
+      → EachEntry IsVoid (log_part from to w.log)
+  none_stored w tells none = void_alone from (log_part from to w.log)
       (part_lanes 1 from to w.log (λ n lane form payload low high at.
       (let k = tells.own n lane form payload low high at in let many = h.many in (k.0, omega (k, many, arith)))))
       (nothing_stored w span [] [] (rows_of_lane w.log from to 1) x.works (answers last.items) none (last_tells w tells))
@@ -108,7 +111,7 @@ module _ {D : Type 0} (disks : Disks D) (disk disk' : D) (s t : Store) (from to 
       let same : answers last.items ≡ last.items = registered_all last.items all in
       let items = subst (λ (z : List Item). SaysItems w span [] [] (rows_of_lane w.log from to 1) x.works z) same (last_tells w tells) in
       let works = subst (λ (z : List Work). SaysItems w span [] [] (rows_of_lane w.log from to 1) z last.items) gs.are items in
-      let many : length last.items ≡ length (map register_of named) = ap length (sym same) ∙ last_ended ∙ ap length gs.are in
+      let many : length last.items ≡ length (map register_work named) = ap length (sym same) ∙ last_ended ∙ ap length gs.are in
       let rows = all_named w span [] [] (rows_of_lane w.log from to 1) named last.items (registry_of (view s.pass) s.registrar) works
       many all in
       record {
@@ -192,13 +195,13 @@ module _ {D : Type 0} (disks : Disks D) (disk disk' : D) (s t : Store) (from to 
   )
 
   -- the definitions in each whole are those of the registrar
-  whole_rows : (begun : IsBetween disks.images disk s from) (past : Whole) (w : Whole) → MayEnd past (view t.pass) w
+  whole_rows : (begun : IsBetweenRuns disks.images disk s from) (past : Whole) (w : Whole) → MayEnd past (view t.pass) w
       → w.rows (registry_of (view s.pass) s.registrar).version ≡ map listed_of s.registrar.catalog
   whole_rows begun past w may =
       sure_rows past (view s.pass) (registry_of (view s.pass) s.registrar).version (map listed_of s.registrar.catalog) begun.known w
       (may_hold past (view s.pass) w (narrows_later past (view s.pass) (view t.pass) h.goes.later w may))
 
-  counted_text : (number : ℕ) (begun : IsBetween disks.images disk s from) (past : Whole) (w : Whole) → MayEnd past (view t.pass) w
+  counted_text : (number : ℕ) (begun : IsBetweenRuns disks.images disk s from) (past : Whole) (w : Whole) → MayEnd past (view t.pass) w
       → SaysBlock w span new → x.works ≡ all_scans → list_all is_scanned last.items ≡ true → (d : Definitions) → AreDefined d
       → AreRows d s.registrar.catalog → AreSelected number from w → items_text number last.items ≡ summary_text d number
   counted_text number begun past w may tells scans all d defined are selected =
@@ -212,7 +215,7 @@ module _ {D : Type 0} (disks : Disks D) (disk disk' : D) (s t : Store) (from to 
       (rows_of_lane w.log from to 1) (all_asked d) last.items from (to + 16) refl works many all (h.so last last_at)
       (all_mean d defined s.registrar.catalog are))
 
-  pub has_counted : (number : ℕ) (text : List ℕ) → IsBetween disks.images disk s from → x.works ≡ all_scans
+  pub has_counted : (number : ℕ) (text : List ℕ) → IsBetweenRuns disks.images disk s from → x.works ≡ all_scans
       → list_all is_scanned last.items ≡ true → text ≡ items_text number last.items
       → HasCounted disks number disk s from disk' t text
   has_counted number text begun scans all is = record {
@@ -234,30 +237,30 @@ module _ {D : Type 0} (disks : Disks D) (disk disk' : D) (s t : Store) (from to 
 module _ {D : Type 0} (disks : Disks D) (disk disk' : D) (s t : Store) (from to : ℕ)
     (old new : List Lane) where
   -- the lane that was read is the last one
-  read_last : (x : Lane) (h : HasRun disks disk s from (x ∷ []) disk' t to new) (y : Lane) → y ≡ get_or new 0 y
+  read_last : (x : Lane) (h : HasRunBlock disks disk s from (x ∷ []) disk' t to new) (y : Lane) → y ≡ get_or new 0 y
       → y ≡ (one_lane x new h.many).0
   read_last x h y at = at ∙ ap (λ (z : List Lane). get_or z 0 y) (one_lane x new h.many).1
 
-  pub defined_of : HasRun disks disk s from old disk' t to new → (x : Lane) × (old ≡ x ∷ []) × IsDefiningLane x → (y : Lane)
+  pub defined_of : HasRunBlock disks disk s from old disk' t to new → (x : Lane) × (old ≡ x ∷ []) × IsDefiningLane x → (y : Lane)
       → y ≡ get_or new 0 y → list_all is_registered y.items ≡ true → HasDefined disks disk s from disk' t to
   defined_of h (x, is, lane) y at all =
-      let run : HasRun disks disk s from (x ∷ []) disk' t to new
-      = subst (λ (z : List Lane). HasRun disks disk s from z disk' t to new) is h in
+      let run : HasRunBlock disks disk s from (x ∷ []) disk' t to new
+      = subst (λ (z : List Lane). HasRunBlock disks disk s from z disk' t to new) is h in
       has_defined disks disk disk' s t from to x new run lane.works
       (subst (λ (z : Lane). list_all is_registered z.items ≡ true) (read_last x run y at) all)
 
-  counted_one : (number : ℕ) → IsBetween disks.images disk s from → HasRun disks disk s from old disk' t to new
+  counted_one : (number : ℕ) → IsBetweenRuns disks.images disk s from → HasRunBlock disks disk s from old disk' t to new
       → (x : Lane) × (old ≡ x ∷ []) × IsScanningLane x → (y : Lane) → y ≡ get_or new 0 y → list_all is_scanned y.items ≡ true
       → (text : List ℕ) → text ≡ items_text number y.items → HasCounted disks number disk s from disk' t text
   counted_one number begun h (x, is, lane) y at all text text_is =
-      let run : HasRun disks disk s from (x ∷ []) disk' t to new
-      = subst (λ (z : List Lane). HasRun disks disk s from z disk' t to new) is h in
+      let run : HasRunBlock disks disk s from (x ∷ []) disk' t to new
+      = subst (λ (z : List Lane). HasRunBlock disks disk s from z disk' t to new) is h in
       let same = read_last x run y at in
       has_counted disks disk disk' s t from to x new run number text begun lane.works
       (subst (λ (z : Lane). list_all is_scanned z.items ≡ true) same all)
       (text_is ∙ ap (λ (z : Lane). items_text number z.items) same)
 
-  pub counted_of : {E : Type 0} (number : ℕ) → IsBetween disks.images disk s from → HasRun disks disk s from old disk' t to new
+  pub counted_of : {E : Type 0} (number : ℕ) → IsBetweenRuns disks.images disk s from → HasRunBlock disks disk s from old disk' t to new
       → (x : Lane) × (old ≡ x ∷ []) × IsScanningLane x → (y : Lane) → y ≡ get_or new 0 y → list_all is_scanned y.items ≡ true
       → (r : Result (List ℕ) E) → IfOk r (λ text. text ≡ items_text number y.items)
       → IfOk r (HasCounted disks number disk s from disk' t)
@@ -273,7 +276,7 @@ list_at p (y ∷ lanes) h zero x at = subst (λ (z : Lane). p z ≡ true) (some_
 list_at p (y ∷ lanes) h (suc i) x at = list_at p lanes (and_both (p y) (list_all p lanes) h).1 i x at
 
 module _ {D : Type 0} (disks : Disks D) (disk disk' : D) (s t : Store) (from to : ℕ)
-    (old new : List Lane) (h : HasRun disks disk s from old disk' t to new) (number : ℕ) (few : number < 2 ^ 32)
+    (old new : List Lane) (h : HasRunBlock disks disk s from old disk' t to new) (number : ℕ) (few : number < 2 ^ 32)
     (lanes : AreShareLanes number 4 old) (all : list_all is_all_stored new ≡ true) where
   four : length new ≡ 4
   four = h.many ∙ lanes.many
@@ -283,14 +286,15 @@ module _ {D : Type 0} (disks : Disks D) (disk disk' : D) (s t : Store) (from to 
 
   -- the records of a lane
   rows_at : (w : Whole) → SaysBlock w span_four new → (i : ℕ) → i < 4
-      → contents (rows_of_lane w.log from to (i + 1)) ≡ all_of Json (map sample_text (share number (i + 1)))
+      → contents_of_rows (rows_of_lane w.log from to (i + 1)) ≡ all_of Json (map sample_text (share number (i + 1)))
   rows_at w tells i less =
       let a = get_some old i (let many = lanes.many in omega arith) in
       let b = get_some new i (let many = four in omega arith) in
       let x = a.0 in
       let y = b.0 in
       let share_lane = lanes.each i x a.1 in
-      let works : y.works ≡ ingest_of share_lane.name (lines_of (share number (i + 1))) ∷ [] = h.kept i x y a.1 b.1 ∙ share_lane.works in
+      let works : y.works ≡ ingest_work share_lane.name (sample_lines (share number (i + 1))) ∷ [] = h.kept i x y a.1 b.1
+      ∙ share_lane.works in
       let stored : list_all is_stored y.items ≡ true = list_at is_all_stored new all i y b.1 in
       let same : answers y.items ≡ y.items = stored_all y.items stored in
       let items = subst (λ (z : List Item). SaysItems w span_four [] [] (rows_of_lane w.log from to (i + 1)) y.works z) same (tells.each
@@ -306,7 +310,7 @@ module _ {D : Type 0} (disks : Disks D) (disk disk' : D) (s t : Store) (from to 
     rows = λ lane some less.
         let i : ℕ = lane - 1 in
         let is : i + 1 ≡ lane = omega (some, arith) in
-        subst (λ (z : ℕ). contents (rows_of_lane w.log from to z) ≡ all_of Json (map sample_text (share number z))) is
+        subst (λ (z : ℕ). contents_of_rows (rows_of_lane w.log from to z) ≡ all_of Json (map sample_text (share number z))) is
         (rows_at w tells i (omega (some, less, arith)));
   }
 
@@ -324,13 +328,13 @@ module _ {D : Type 0} (disks : Disks D) (disk disk' : D) (s t : Store) (from to 
 -- ---- all three
 
 module _ {D : Type 0} (disks : Disks D) where
-  goes_both : (a b c : D) (s m t : Store) → Goes disks a s b m → Goes disks b m c t → Goes disks a s c t
+  goes_both : (a b c : D) (s m t : Store) → GoesLater disks a s b m → GoesLater disks b m c t → GoesLater disks a s c t
   goes_both a b c s m t p q = record {
     later = later_both (view s.pass) (view m.pass) (view t.pass) p.later q.later;
     sound = λ past sound. q.sound past (p.sound past sound);
   }
 
-  module _ (number : ℕ) (a b c d : D) (s u v t : Store) (one two : ℕ) (text : List ℕ) (new : IsNewStore disks a s)
+  module _ (number : ℕ) (a b c d : D) (s u v t : Store) (one two : ℕ) (text : List ℕ) (new : IsSampleStore disks a s)
       (first : HasDefined disks a s 0 b u one) (second : HasStored disks number b u one c v two)
       (third : HasCounted disks number c v two d t text) where
     -- what is so of each whole that may be in the end
@@ -349,7 +353,7 @@ module _ {D : Type 0} (disks : Disks D) where
           second = (let up = (third.told past sound_v).0 in omega arith);
           before = defined.0;
           records = stored;
-          after = subst (λ (z : ℕ). Each IsVoid (part two z w.log)) (sym long) counted.0;
+          after = subst (λ (z : ℕ). EachEntry IsVoid (log_part two z w.log)) (sym long) counted.0;
         } in
         let rows = defined.1 new.rows in (
           sample_log w.log one two number shares,
@@ -372,7 +376,7 @@ module _ {D : Type 0} (disks : Disks D) where
 
   -- ---- the log that is closed
 
-  pub sample_of : (number : ℕ) (a d : D) (s t : Store) (text : List ℕ) (remains : Remains) → IsNewStore disks a s
+  pub sample_of : (number : ℕ) (a d : D) (s t : Store) (text : List ℕ) (remains : Remains) → IsSampleStore disks a s
       → HasFilled disks number a s d t text → IsClosed (view t.pass) remains → remains.opened ≡ true → IsSample number text remains
   sample_of number a d s t text remains new h closed opened =
       let sound = h.goes.sound new.past new.sound in
@@ -395,14 +399,14 @@ module _ {D : Type 0} (disks : Disks D) where
       }
 
   -- as far as the text could be made, and the log be closed
-  pub filled_of : {E : Type 0} (number : ℕ) (a b c d : D) (s u v t : Store) (one two : ℕ) → IsNewStore disks a s
+  pub filled_of : {E : Type 0} (number : ℕ) (a b c d : D) (s u v t : Store) (one two : ℕ) → IsSampleStore disks a s
       → HasDefined disks a s 0 b u one → HasStored disks number b u one c v two
       → (r : Result (List ℕ) E) → IfOk r (HasCounted disks number c v two d t) → IfOk r (HasFilled disks number a s d t)
   filled_of number a b c d s u v t one two new first second (Ok text) third =
       has_filled number a b c d s u v t one two text new first second third
   filled_of number a b c d s u v t one two new first second (Err e) third = third
 
-  pub made_of : {E : Type 0} (number : ℕ) (a d : D) (s t : Store) (text : List ℕ) → IsNewStore disks a s
+  pub made_of : {E : Type 0} (number : ℕ) (a d : D) (s t : Store) (text : List ℕ) → IsSampleStore disks a s
       → HasFilled disks number a s d t text → (r : Result Sampled E) → IfOk r (λ m. m.text ≡ text)
       → IfOk r (λ m. m.remains.opened ≡ true) → IfOk r (λ m. IsClosed (view t.pass) m.remains)
       → IfOk r (λ m. IsSample number m.text m.remains)

@@ -10,15 +10,17 @@ use Rattle.std.proofs.Common.{cond}
 use Rattle.std.proofs.lemmas.List.Sums.{sum_by-cons}
 use Rattle.std.proofs.lemmas.List.Splits.{slice_split-cons_no, slice_split-cons_yes}
 use Rattle.fish_gen.specs.Sample.{sample_key, sample_text}
-use Rattle.fish_json.specs.Lines.{is_blank, is_line_end, lines_of as json_lines_of, outcomes as json_outcomes, outcomes_of}
-use Rattle.fish_json.specs.Lines.{payload_of, without_mark}
+use Rattle.fish_json.specs.Lines.{is_blank_line, is_line_end, lines_of_parts as json_lines_of, line_outcomes as json_outcomes}
+use Rattle.fish_json.specs.Lines.{line_outcomes_of}
+use Rattle.fish_json.specs.Lines.{payload_of_line, without_mark}
 use Rattle.fish_json.specs.Reading.{record_of}
 use Rattle.serde_json.specs.Data.{Data}
-use Rattle.fish_lines.specs.File.{accepted, outcomes, refused}
+use Rattle.fish_lines.specs.File.{outcomes}
+use Rattle.fish_value.specs.Outcomes.{accepted, refused}
 use Rattle.fish_lines.specs.Resuming.{outcomes_from}
 use Rattle.fish_lines.specs.declared.resuming.Begin.TheVariants.{Start}
 use Rattle.fish_value.specs.declared.field.Form.TheVariants.{Json}
-use Rattle.fish_sample.specs.within.Files.{lines_of}
+use Rattle.fish_sample.specs.within.Files.{sample_lines}
 
 -- ---- no byte of a record ends a line
 
@@ -66,11 +68,11 @@ part_first [] rest h = slice_split-cons_yes is_line_end 10 rest refl
 part_first (x ∷ xs) rest h = slice_split-cons_no is_line_end x (xs ++ 10 ∷ rest) h.0 ∙ rw (part_first xs rest h.1) refl
 
 -- the parts of a file are its lines' records, and nothing after the last LF
-parts_are : (xs : List ℕ) → All (λ i. i < 2 ^ 32) xs → slice_split is_line_end (lines_of xs) ≡ map sample_text xs ++ [] ∷ []
+parts_are : (xs : List ℕ) → All (λ i. i < 2 ^ 32) xs → slice_split is_line_end (sample_lines xs) ≡ map sample_text xs ++ [] ∷ []
 parts_are [] h = refl
 parts_are (x ∷ xs) h =
-    ap (slice_split is_line_end) (append_assoc (sample_text x) (10 ∷ []) (lines_of xs))
-    ∙ part_first (sample_text x) (lines_of xs) (none_text x (h 0 x (omega arith)))
+    ap (slice_split is_line_end) (append_assoc (sample_text x) (10 ∷ []) (sample_lines xs))
+    ∙ part_first (sample_text x) (sample_lines xs) (none_text x (h 0 x (omega arith)))
     ∙ ap (λ (z : List (List ℕ)). sample_text x ∷ z) (parts_are xs (λ i d less. h (suc i) d (omega arith)))
 
 last_at : (xs : List ℕ) (y : ℕ) → slice_index (xs ++ y ∷ []) (length xs) ≡ y
@@ -91,11 +93,11 @@ and_false true = refl
 and_false false = refl
 
 -- and it isn't blank
-none_blank : (n : ℕ) → is_blank (sample_text n) ≡ false
+none_blank : (n : ℕ) → is_blank_line (sample_text n) ≡ false
 unfolding sample_text
 none_blank n = and_false _
 
-without_none : (xs : List ℕ) → without_mark (lines_of xs) ≡ lines_of xs
+without_none : (xs : List ℕ) → without_mark (sample_lines xs) ≡ sample_lines xs
 unfolding sample_text
 without_none [] = refl
 without_none (x ∷ xs) = refl
@@ -106,26 +108,26 @@ lines_are (x ∷ xs) = rw (none_stripped x) (rw (none_blank x) (ap (λ (z : List
 
 -- what is read of the file: each record, or that it is none
 pub outcomes_are : (xs : List ℕ) → All (λ i. i < 2 ^ 32) xs
-    → outcomes_from Json (Start false) (lines_of xs) ≡ map payload_of (map sample_text xs)
-unfolding outcomes_from outcomes json_outcomes outcomes_of
+    → outcomes_from Json (Start false) (sample_lines xs) ≡ map payload_of_line (map sample_text xs)
+unfolding outcomes_from outcomes json_outcomes line_outcomes_of
 outcomes_are xs h =
-    ap (λ (z : List ℕ). map payload_of (json_lines_of (slice_split is_line_end z))) (without_none xs)
-    ∙ ap (λ (z : List (List ℕ)). map payload_of (json_lines_of z)) (parts_are xs h) ∙ ap (map payload_of) (lines_are xs)
+    ap (λ (z : List ℕ). map payload_of_line (json_lines_of (slice_split is_line_end z))) (without_none xs)
+    ∙ ap (λ (z : List (List ℕ)). map payload_of_line (json_lines_of z)) (parts_are xs h) ∙ ap (map payload_of_line) (lines_are xs)
 
 -- of one line more, one more is refused where it is no record
 refused_more : (o : Option (List ℕ)) (os : List (Option (List ℕ))) → refused (o ∷ os) ≡ cond {A = ℕ} (is_none o) 1 0 + refused os
 refused_more o os = sum_by-cons (λ x. cond (is_none x) 1 0) o os
 
 -- where none is refused, the payloads are the lines
-pub accepted_all : (lines : List (List ℕ)) → refused (map payload_of lines) ≡ 0 → accepted (map payload_of lines) ≡ lines
+pub accepted_all : (lines : List (List ℕ)) → refused (map payload_of_line lines) ≡ 0 → accepted (map payload_of_line lines) ≡ lines
 accepted_all [] none = refl
 accepted_all (line ∷ lines) none = by (record_of line) refl (accepted_all lines)
   where
-    by : (r : Option Data) → record_of line ≡ r → (refused (map payload_of lines) ≡ 0 → accepted (map payload_of lines) ≡ lines)
-        → accepted (map payload_of (line ∷ lines)) ≡ line ∷ lines
+    by : (r : Option Data) → record_of line ≡ r → (refused (map payload_of_line lines) ≡ 0 → accepted (map payload_of_line lines) ≡ lines)
+        → accepted (map payload_of_line (line ∷ lines)) ≡ line ∷ lines
     by None is rest = absurd
-        (let more = refused_more (payload_of line) (map payload_of lines) in
-        let one : cond {A = ℕ} (is_none (payload_of line)) 1 0 ≡ 1 = rw is refl in omega arith)
+        (let more = refused_more (payload_of_line line) (map payload_of_line lines) in
+        let one : cond {A = ℕ} (is_none (payload_of_line line)) 1 0 ≡ 1 = rw is refl in omega arith)
     by (Some d) is rest =
-        let more = refused_more (payload_of line) (map payload_of lines) in
+        let more = refused_more (payload_of_line line) (map payload_of_line lines) in
         rw is (ap (λ (z : List (List ℕ)). line ∷ z) (rest (omega arith)))

@@ -6,10 +6,10 @@ use Rattle.fish_catalog.specs.declared.commit.Commit.{Commit}
 use Rattle.fish_catalog.specs.declared.entry.Entry.{Entry}
 use Rattle.fish_catalog.specs.declared.row.CatRow.{CatRow}
 use Rattle.fish_disk.specs.declared.disk.Disk.{Ghosts as Disks}
-use Rattle.fish_flush.specs.Carrying.{Carries}
+use Rattle.fish_flush.specs.Carrying.{CarriesLog}
 use Rattle.fish_ingest.specs.Ingestion.{CanStart}
 use Rattle.fish_lanes.specs.Registering.{KnowsRegistry, registry_of}
-use Rattle.fish_recover.specs.Stores.{HasOpened, IsOf, IsOpened, asked_shape}
+use Rattle.fish_recover.specs.Stores.{HasOpened, IsImageAsked, IsOpened, asked_shape}
 use Rattle.fish_recover.specs.declared.opened.Opened.{Opened}
 use Rattle.fish_registry.specs.Knowing.{HasBegunBy, Knows, KnowsFirst}
 use Rattle.fish_registry.specs.declared.registrar.Registrar.{Registrar}
@@ -29,7 +29,7 @@ use Rattle.std.proofs.lemmas.Bool.{false≢true}
 use Rattle.std.specs.Prelude.{IfOk, IfSome, IsSome}
 use Rattle.fish_flush.specs.Kept.{first_commit}
 use Rattle.fish_recover.specs.declared.refusal.Asked.{Asked}
-use Rattle.fish_sample.specs.within.Blocks.{IsAlwaysShown, IsBetween, IsNewStore, IsOfMade}
+use Rattle.fish_sample.specs.within.Blocks.{IsAlwaysShown, IsBetweenRuns, IsSampleStore, IsOfMade}
 use Rattle.fish_lanes.proofs.Beginning.{begun_all, first_end}
 
 -- a registrar of the rows with which a table begins knows them
@@ -69,8 +69,8 @@ module _ {D : Type 0} (disks : Disks D) (disk : D) (c : Commit) (log : List Entr
     }
 
     -- a block may be run where its table begins
-    between_made : IsBetween disks.images disk s o.log.key.number
-    between_made = subst (λ (z : Store). IsBetween disks.images disk z o.log.key.number) (λ i. same i) (record {
+    between_made : IsBetweenRuns disks.images disk s o.log.key.number
+    between_made = subst (λ (z : Store). IsBetweenRuns disks.images disk z o.log.key.number) (λ i. same i) (record {
       can = record {
         of = h.pass;
         start = subst CanStart (sym h.first) (record { live = omega arith; outside = refl });
@@ -81,7 +81,7 @@ module _ {D : Type 0} (disks : Disks D) (disk : D) (c : Commit) (log : List Entr
         may = (
           c,
           log,
-          subst (λ (l : List CatRow). Carries (disks.images disk) o.flusher (view o.pass) o.log.shape l c log) (sym m.rows) h.carries,
+          subst (λ (l : List CatRow). CarriesLog (disks.images disk) o.flusher (view o.pass) o.log.shape l c log) (sym m.rows) h.carries,
         );
         counted =
             let count = h.carries.rest.committed.count in
@@ -109,9 +109,9 @@ module _ {D : Type 0} (disks : Disks D) (disk : D) (c : Commit) (log : List Entr
     -- nothing is in a store of an empty log, of a disk whose content is told
     pub new_made : ((i : List ℕ) → disks.content disk ≡ Some i → disks.images disk i) → IsSome (disks.content disk) → log ≡ []
         → c.count ≡ 0 → c.rows ≡ []
-        → IsNewStore disks disk s
+        → IsSampleStore disks disk s
     new_made read told nothing count rows = record {
-      between = subst (IsBetween disks.images disk s) (h.number ∙ count) between_made;
+      between = subst (IsBetweenRuns disks.images disk s) (h.number ∙ count) between_made;
       rows = m.rows ∙ h.catalog ∙ ap (map (clamped c.count)) rows;
       past = first_past log o;
       nothing = nothing;
@@ -124,18 +124,18 @@ made_new : {D : Type 0} (disks : Disks D) (before after : D)
     → ((i : List ℕ) → disks.content after ≡ Some i → disks.images after i) → IsAlwaysShown disks.content
     → disks.content before ≡ Some [] → (asked : Asked)
     → (o : Opened) → HasOpened (disks.content before) (disks.content after) (disks.images after) asked o → (s : Store) → IsOfMade o s
-    → IsNewStore disks after s
+    → IsSampleStore disks after s
 made_new disks before after read told empty asked o h s m =
     by (disks.content after) refl (told after) h.was
   where
-    of : (made : Bool) → made ≡ true → (c : Commit) (log : List Entry) (i : List ℕ) → IsOf asked made c log i
+    of : (made : Bool) → made ≡ true → (c : Commit) (log : List Entry) (i : List ℕ) → IsImageAsked asked made c log i
         → (log ≡ []) × (c ≡ first_commit (asked_shape asked))
     of true is c log i k = (k.2, k.1)
     of false is c log i k = absurd (false≢true is)
 
     by : (now : Option (List ℕ)) → disks.content after ≡ now → IsSome now
-        → IfSome now (λ x. (i : List ℕ) × (disks.content before ≡ Some i) × IsOf asked o.made h.commit h.log i)
-        → IsNewStore disks after s
+        → IfSome now (λ x. (i : List ℕ) × (disks.content before ≡ Some i) × IsImageAsked asked o.made h.commit h.log i)
+        → IsSampleStore disks after s
     by None is some was = absurd (let bad = some in cc)
     by (Some x) is some was =
         let k = of o.made m.made h.commit h.log was.0 was.2 in
@@ -147,7 +147,7 @@ pub new_opened : {D E : Type 0} (disks : Disks D) (before after : D)
     → disks.content before ≡ Some [] → (asked : Asked)
     → (o : Opened) → HasOpened (disks.content before) (disks.content after) (disks.images after) asked o → (r : Result Store E)
     → IfOk r (IsOfMade o)
-    → IfOk r (IsNewStore disks after)
+    → IfOk r (IsSampleStore disks after)
 new_opened disks before after read told empty asked o h (Ok s) m = made_new disks before after read told empty asked o
     h s m
 new_opened disks before after read told empty asked o h (Err e) m = m

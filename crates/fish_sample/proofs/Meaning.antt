@@ -14,8 +14,8 @@ use Rattle.fish_lang.specs.Language.{IsAccepted}
 use Rattle.fish_lanes.proofs.Lists.{some_once}
 use Rattle.fish_sample.proofs.Telling.{MeansIn}
 use Rattle.fish_sample.specs.within.Blocks.{AreRows, namings}
-use Rattle.fish_sample.specs.Sample.{AreDefined, Asked, Definitions, all_asked, asked_band, asked_kind, asked_late}
-use Rattle.fish_scan.specs.Naming.{IsNewest}
+use Rattle.fish_sample.specs.Sample.{AreDefined, SampleQuestion, Definitions, all_asked, asked_band, asked_kind, asked_late}
+use Rattle.fish_scan.specs.Naming.{IsNewestListed}
 
 -- a source has one reading
 pub one_reading : (b : List ℕ) (d e : Definition) → IsAccepted b d → IsAccepted b e → d ≡ e
@@ -75,7 +75,7 @@ module _ (k l b : List ℕ) where
   band_at (suc (suc (suc position))) name text e is = absurd cc
 
 module _ (d : Definitions) (defined : AreDefined d) (rows : List CatRow) (are : AreRows d rows) where
-  found : (position : ℕ) (name : List ℕ) (n : IsNewest (map listed_of rows) name position)
+  found : (position : ℕ) (name : List ℕ) (n : IsNewestListed (map listed_of rows) name position)
       → slice_get (three (definition_text d.kind) (definition_text d.late) (definition_text d.band)) position
       ≡ Some (n.listed.name, n.listed.def)
   found position name n = ap (λ (z : List Pair). slice_get z position) (sym are) ∙ pair_at rows position n.listed n.there
@@ -99,11 +99,12 @@ module _ (d : Definitions) (defined : AreDefined d) (rows : List CatRow) (are : 
       (found position (codes "band") n) n.named in
       text_reading (codes "bucket k by 100") d.band def defined.band (subst (λ (z : List ℕ). IsAccepted z def) text accepted)
 
-  each_map : (P : Asked → Type 0) (f : ℕ → Asked) → ((n : ℕ) → P (f n)) → (xs : List ℕ) → AllByRecursion P (map f xs)
+  each_map : (P : SampleQuestion → Type 0) (f : ℕ → SampleQuestion) → ((n : ℕ) → P (f n)) → (xs : List ℕ) → AllByRecursion P (map f xs)
   each_map P f h [] = tt
   each_map P f h (x ∷ xs) = (h x, each_map P f h xs)
 
-  each_append : (P : Asked → Type 0) (xs ys : List Asked) → AllByRecursion P xs → AllByRecursion P ys → AllByRecursion P (xs ++ ys)
+  each_append : (P : SampleQuestion → Type 0) (xs ys : List SampleQuestion) → AllByRecursion P xs → AllByRecursion P ys
+      → AllByRecursion P (xs ++ ys)
   each_append P [] ys h k = k
   each_append P (x ∷ xs) ys h k = (h.0, each_append P xs ys h.1 k)
 

@@ -12,7 +12,7 @@ use Rattle.fish_lanes.specs.Running.{IsShared}
 use Rattle.fish_lanes.specs.declared.lane.Lane.{Lane}
 use Rattle.fish_lanes.specs.declared.work.Work.{Work}
 use Rattle.fish_sample.specs.within.Works.{AreDefining, AreShareLanes, Defines, HasPushed, IsShareLane, all_scans, band_scans}
-use Rattle.fish_sample.specs.within.Works.{kind_scans, register_of, scan_late}
+use Rattle.fish_sample.specs.within.Works.{kind_scans, register_work, scan_late}
 
 defining : (old one two three : List Work) → old ≡ [] → Defines (codes "kind") (codes "take type") old one
     → Defines (codes "late") (codes "flag when n >= 10000 and type = \"T3\"") one two
@@ -24,9 +24,9 @@ defining old one two three empty kind late band = record {
     kind = kind.def;
     late = late.def;
     band = band.def;
-    are = band.more ∙ ap (λ (z : List Work). z ++ register_of (codes "band", band.def) ∷ [])
-        (late.more ∙ ap (λ (z : List Work). z ++ register_of (codes "late", late.def) ∷ [])
-        (kind.more ∙ ap (λ (z : List Work). z ++ register_of (codes "kind", kind.def) ∷ []) empty));
+    are = band.more ∙ ap (λ (z : List Work). z ++ register_work (codes "band", band.def) ∷ [])
+        (late.more ∙ ap (λ (z : List Work). z ++ register_work (codes "late", late.def) ∷ [])
+        (kind.more ∙ ap (λ (z : List Work). z ++ register_work (codes "kind", kind.def) ∷ []) empty));
     kind_is = refl;
     late_is = refl;
     band_is = refl;

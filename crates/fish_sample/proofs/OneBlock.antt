@@ -9,7 +9,7 @@ use Rattle.fish_lanes.proofs.Controls.{each_last}
 use Rattle.fish_lanes.proofs.Lists.{some_once}
 use Rattle.fish_lanes.specs.Blocks.{AreEnded, AreKept, EachLane, EachLanePair, HasRegistered, IsBlockSpan, control_items}
 use Rattle.fish_lanes.specs.Controlling.{CanControl, bound_items}
-use Rattle.fish_lanes.specs.Ending.{HasEnd}
+use Rattle.fish_lanes.specs.Ending.{EndsAlone}
 use Rattle.fish_lanes.specs.Registering.{KnowsRegistry, after_all, registry_of}
 use Rattle.fish_lanes.specs.Spans.{answers}
 use Rattle.fish_lanes.specs.declared.block.BlockEnd.{BlockEnd}
@@ -22,7 +22,7 @@ use Rattle.fish_report.specs.declared.item.Item.{Item}
 use Rattle.fish_rule.specs.Passes.{view}
 use Rattle.fish_rule.specs.declared.view.View.{View}
 use Rattle.fish_sample.proofs.Telling.{and_both, none_left}
-use Rattle.fish_sample.specs.within.Blocks.{IsBetween, span_of}
+use Rattle.fish_sample.specs.within.Blocks.{IsBetweenRuns, span_of}
 use Rattle.fish_sample.specs.within.Items.{is_none_fault, is_whole_lane}
 use Rattle.fish_scan.specs.Colder.{IsBelow}
 use Rattle.fish_store.specs.Points.{point_at}
@@ -77,7 +77,7 @@ module _ (lanes : List Lane) (whole : list_all is_whole_lane lanes ≡ true) whe
     -- and all that the next block asks for
     pub between_after : (x : Lane) → slice_get lanes 0 ≡ Some x → CanControl t.log t.pass t.registrar
         → (((x : Lane) → slice_get lanes 0 ≡ Some x → x.fault ≡ cause.Disk → ⊥) → MayGoOn disks.images (point_at disk' t))
-        → IsBelow t.log.key t.file.cold → HasEnd (view t.pass) end.to → IsBetween disks.images disk' t end.to
+        → IsBelow t.log.key t.file.cold → EndsAlone (view t.pass) end.to → IsBetweenRuns disks.images disk' t end.to
     between_after x at can again below ends = record {
       can = can;
       commit = again (λ y there failed.
@@ -90,7 +90,7 @@ module _ (lanes : List Lane) (whole : list_all is_whole_lane lanes ≡ true) whe
     }
 
 -- the block lies in its span
-pub span_is : (v u : View) (from to lanes : ℕ) → HasEnd v from → IsBlockSpan v u to (span_of v u from to lanes)
+pub span_is : (v u : View) (from to lanes : ℕ) → EndsAlone v from → IsBlockSpan v u to (span_of v u from to lanes)
 span_is v u from to lanes begins = record { begins = begins; ends = refl; first = omega arith; last = omega arith; full = refl }
 
 -- a list that is not empty has a first element

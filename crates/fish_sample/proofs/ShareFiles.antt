@@ -5,7 +5,7 @@ use Rattle.std.proofs.lemmas.Grind.{flat_map-append}
 use Rattle.std.proofs.lemmas.List.Elements.{filter-append}
 use Rattle.std.specs.Prelude.{◌==◌}
 use Rattle.std.specs.List.{range_with_len}
-use Rattle.fish_sample.specs.within.Files.{line_of, lines_of}
+use Rattle.fish_sample.specs.within.Files.{line_of, sample_lines}
 use Rattle.fish_sample.specs.Sample.{share}
 
 range_push : (a n : ℕ) → range_with_len a (suc n) ≡ range_with_len a n ++ (a + n) ∷ []
@@ -21,13 +21,13 @@ share_push n lane =
     ≡ n = omega arith in e))
     ∙ filter-append (λ i. (i % 4) + 1 == lane) (range_with_len 0 n) (n ∷ [])
 
-pub lines_more : (n lane : ℕ) → (n % 4) + 1 ≡ lane → lines_of (share (n + 1) lane) ≡ lines_of (share n lane) ++ line_of n
+pub lines_more : (n lane : ℕ) → (n % 4) + 1 ≡ lane → sample_lines (share (n + 1) lane) ≡ sample_lines (share n lane) ++ line_of n
 lines_more n lane is =
     let test : ((n % 4) + 1 == lane) ≡ true = grind arith in
-    ap lines_of (share_push n lane ∙ ap (λ (z : Bool). share n lane ++ cond z (n ∷ []) []) test)
-    ∙ flat_map-append line_of (share n lane) (n ∷ []) ∙ ap (λ (z : List ℕ). lines_of (share n lane) ++ z) (append-nil (line_of n))
+    ap sample_lines (share_push n lane ∙ ap (λ (z : Bool). share n lane ++ cond z (n ∷ []) []) test)
+    ∙ flat_map-append line_of (share n lane) (n ∷ []) ∙ ap (λ (z : List ℕ). sample_lines (share n lane) ++ z) (append-nil (line_of n))
 
-pub lines_same : (n lane : ℕ) → (n % 4) + 1 ≢ lane → lines_of (share (n + 1) lane) ≡ lines_of (share n lane)
+pub lines_same : (n lane : ℕ) → (n % 4) + 1 ≢ lane → sample_lines (share (n + 1) lane) ≡ sample_lines (share n lane)
 lines_same n lane other =
     let test : ((n % 4) + 1 == lane) ≡ false = grind arith in
-    ap lines_of (share_push n lane ∙ ap (λ (z : Bool). share n lane ++ cond z (n ∷ []) []) test ∙ append-nil (share n lane))
+    ap sample_lines (share_push n lane ∙ ap (λ (z : Bool). share n lane ++ cond z (n ∷ []) []) test ∙ append-nil (share n lane))

@@ -28,25 +28,25 @@ pub record AreDefined (d : Definitions) : Type 0 where
 -- ---- what is counted
 
 -- a value, and the definition with its name
-pub record Asked : Type 0 where
+pub record SampleQuestion : Type 0 where
   pub name : List ℕ
   pub definition : Definition
   pub value : Value
 
 -- `kind "T0"`
-abbrev pub asked_kind : Definitions → ℕ → Asked
+abbrev pub asked_kind : Definitions → ℕ → SampleQuestion
 asked_kind d n = record { name = codes "kind"; definition = d.kind; value = value.Text (codes "T" ++ decimal n) }
 
 -- `late true`
-abbrev pub asked_late : Definitions → Asked
+abbrev pub asked_late : Definitions → SampleQuestion
 asked_late d = record { name = codes "late"; definition = d.late; value = value.Bool true }
 
 -- `band 100`, the second of the bands
-abbrev pub asked_band : Definitions → ℕ → Asked
+abbrev pub asked_band : Definitions → ℕ → SampleQuestion
 asked_band d n = record { name = codes "band"; definition = d.band; value = value.Int (pos (n * 100)) }
 
 -- the seven kinds, the late ones, and ten bands
-abbrev pub all_asked : Definitions → List Asked
+abbrev pub all_asked : Definitions → List SampleQuestion
 all_asked d = map (asked_kind d) (range_with_len 0 7) ++ asked_late d ∷ map (asked_band d) (range_with_len 0 10)
 
 -- ---- records
@@ -56,8 +56,8 @@ abbrev pub share : ℕ → ℕ → List ℕ
 share number lane = filter (λ i. (i % 4) + 1 == lane) (range_with_len 0 number)
 
 -- for how many of the records below a number the definition gives the value
-abbrev pub count_of : ℕ → Asked → ℕ
-count_of number a =
+abbrev pub asked_count : ℕ → SampleQuestion → ℕ
+asked_count number a =
     count_by (λ i. has_value (evaluation a.definition Json (sample_text i)) a.value) (range_with_len 0 number)
 
 -- ---- the text
@@ -73,5 +73,5 @@ count_line name value count = number_line (name ++ (codes " " ++ value_print val
 -- what is printed of the records below a number
 abbrev pub summary_text : Definitions → ℕ → List ℕ
 summary_text d number = number_line (codes "sample") number
-    ++ (flat_map (λ a. count_line a.name a.value (count_of number a)) (all_asked d)
+    ++ (flat_map (λ a. count_line a.name a.value (asked_count number a)) (all_asked d)
     ++ number_line (codes "stored") number)

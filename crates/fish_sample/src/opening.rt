@@ -4,7 +4,7 @@ ghost use Rattle.std.specs.Prelude.{◌≡◌, [], IfOk, Some, true};
 ghost use Rattle.fish_rule.specs.ClosedLog.{IsClosed};
 ghost use Rattle.fish_rule.specs.LoadSteps.{IsAlone};
 ghost use Rattle.fish_rule.specs.Passes.{IsPassOf, view};
-ghost use Rattle.fish_sample.specs.within.Blocks.{IsAlwaysShown, IsNewStore, IsOfMade};
+ghost use Rattle.fish_sample.specs.within.Blocks.{IsAlwaysShown, IsSampleStore, IsOfMade};
 
 use fish_disk::Disk;
 use fish_recover::{Asked, Opened, open_store};
@@ -23,7 +23,7 @@ const ASKED: Asked = Asked {
 pub(crate) fn make_store<D: Disk>(alloc: Global, disk: &mut D) -> Result<Store, AllocError>
     requires content { IsAlwaysShown D.content }
     requires empty { D.content disk.old ≡ Some [] }
-    ensures { IfOk result (IsNewStore D.Disk disk.new) }
+    ensures { IfOk result (IsSampleStore D.Disk disk.new) }
 {
     match open_store(alloc, ASKED, disk) {
         Ok(opened) => of_made(opened),

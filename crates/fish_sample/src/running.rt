@@ -2,7 +2,7 @@
 
 ghost use Rattle.std.specs.Prelude.{IfOk};
 ghost use Rattle.fish_lanes.specs.Blocks.{AreLanes};
-ghost use Rattle.fish_sample.specs.within.Blocks.{HasRun, IsAlwaysShown, IsBetween};
+ghost use Rattle.fish_sample.specs.within.Blocks.{HasRunBlock, IsAlwaysShown, IsBetweenRuns};
 
 use crate::items::are_whole;
 use fish_disk::Disk;
@@ -21,9 +21,9 @@ pub(crate) fn run_lanes<R: Threads + Sync, D: Disk + Send>(
     lanes: &mut [Lane],
 ) -> Result<u32, AllocError>
     requires content { IsAlwaysShown D.content }
-    requires between { IsBetween D.images disk.old store.old from }
+    requires between { IsBetweenRuns D.images disk.old store.old from }
     requires lanes { AreLanes lanes.old }
-    ensures { IfOk result (λ to. HasRun D.Disk disk.old store.old from lanes.old disk.new store.new to lanes.new) }
+    ensures { IfOk result (λ to. HasRunBlock D.Disk disk.old store.old from lanes.old disk.new store.new to lanes.new) }
 {
     let end = run_block(rt, alloc, store, disk, lanes, &OpenGate);
     if end.bound.is_some() || !are_whole(lanes) {

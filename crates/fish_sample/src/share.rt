@@ -1,7 +1,7 @@
 //! The records of one lane of a sample, as a file in JSON Lines, and the lane that stores it.
 
 ghost use Rattle.std.specs.Prelude.{◌≡◌, ◌++◌, IfOk, OnOk};
-ghost use Rattle.fish_sample.specs.within.Files.{line_of, lines_of};
+ghost use Rattle.fish_sample.specs.within.Files.{line_of, sample_lines};
 ghost use Rattle.fish_sample.specs.Sample.{share};
 ghost use Rattle.fish_sample.specs.within.Works.{IsShareLane, IsShareWork};
 
@@ -50,7 +50,7 @@ fn share_work(alloc: Global, number: u32, lane: u8) -> Result<Work, AllocError>
 
 /// Of the records below a number those of a lane, from 1 on, each in a line.
 fn share_file(alloc: Global, number: u32, lane: u8) -> Result<Bytes, AllocError>
-    ensures { IfOk result (λ file. file ≡ lines_of (share number lane)) }
+    ensures { IfOk result (λ file. file ≡ sample_lines (share number lane)) }
 {
     let mut file = Bytes::new(alloc);
     for i in 0..number {

@@ -1,7 +1,7 @@
 -- What was read on both sides of the base is an answer.
 use Rattle.std.proofs.Common.{◌≡◌, ℕ, ◌≤◌, List, [], ◌++◌, min, sym, ap, ◌∙◌, subst, arith}
 use Rattle.std.specs.Prelude.{Option}
-use Rattle.fish_cold.specs.within.Caching.{IsUndamaged}
+use Rattle.fish_cold.specs.within.Caching.{IsColdUndamaged}
 use Rattle.fish_cold.specs.Carries.{CarriesTable}
 use Rattle.fish_cold.specs.declared.cold.Cold.{Cold}
 use Rattle.fish_cold.specs.declared.refusal.ColdRefusal.{ColdRefusal}
@@ -27,7 +27,7 @@ use Rattle.fish_scan.specs.Matching.{Finds}
 use Rattle.fish_scan.specs.within.Older.{FindsOlder}
 use Rattle.fish_scan.specs.Parses.{HasParsed}
 use Rattle.fish_scan.specs.within.Reach.{first_in}
-use Rattle.fish_scan.specs.Refusals.{refusal_of}
+use Rattle.fish_scan.specs.Refusals.{scan_refusal_of}
 use Rattle.fish_scan.specs.Scans.{IsUnplanned, OnlyScans}
 use Rattle.fish_scan.specs.within.Scans.{IsPlannedScan}
 use Rattle.fish_scan.specs.Work.{AreAllowed}
@@ -135,7 +135,7 @@ unplanned_fault v u known ask r h is = subst (IsUnplanned v u known ask) is h
 -- a fault or damage came after the range was planned
 pub broken_with : (v m u : View) (known : Known) (ask : Ask) (p : PlannedScan) (base : ℕ) (e : ColdRefusal) → OnlyScans m u
     → IsPlannedScan v m known ask p → base ≡ u.about.number → IsDamageIn p.query.reach.from base e
-    → IsRefusedWith v u known ask (refusal_of e)
+    → IsRefusedWith v u known ask (scan_refusal_of e)
 broken_with v m u known ask p base cold.DiskFault after ready is h = record {
   from = p.query.reach.from;
   to = p.query.reach.to;
@@ -157,7 +157,7 @@ broken_with v m u known ask p base (cold.Damaged n) after ready is h = (
 )
 broken_with v m u known ask p base cold.OutOfMemory after ready is h = tt
 
-pub sound_of : (e : ColdRefusal) → IsUndamaged e → IsUndamagedScan (refusal_of e)
+pub sound_of : (e : ColdRefusal) → IsColdUndamaged e → IsUndamagedScan (scan_refusal_of e)
 sound_of cold.DiskFault h = tt
 sound_of (cold.Damaged n) h = h
 sound_of cold.OutOfMemory h = tt

@@ -33,7 +33,7 @@ use Rattle.fish_rule.proofs.laws.Members.{at_among}
 use Rattle.fish_scan.proofs.Looking.{open_later, open_sooner}
 use Rattle.fish_scan.proofs.Reaching.{reached_still}
 use Rattle.fish_scan.specs.within.Indices.{IsIndex}
-use Rattle.fish_scan.specs.Intervals.{IsIntervalOf, end_within}
+use Rattle.fish_scan.specs.Intervals.{IsListedIntervalOf, end_within}
 use Rattle.fish_scan.specs.Matching.{Finds}
 use Rattle.fish_scan.specs.within.Pieces.{AreReadable, IsReadable}
 use Rattle.fish_scan.specs.Reach.{IsExact, IsRange, end_of}
@@ -262,7 +262,7 @@ module _ (v u : View) (known : Known) (def : Definition) (text : List ℕ) (reac
   -- the index of a row with the text is complete in its interval
   index_found : (id p q settled : ℕ) (x : Interval) → x.id ≡ id → p < q
       → ((n : ℕ) → p ≤ n → n < q → (x.from ≤ n) × IsBelowEnd n x.to)
-      → q ≤ settled → IsIntervalOf u settled (rows_of known) text x → IsIndex u def id p q
+      → q ≤ settled → IsListedIntervalOf u settled (rows_of known) text x → IsIndex u def id p q
   index_found id p q settled x id_is some holds below h = record {
     version = version_of known;
     rows = rows_of known;

@@ -16,7 +16,7 @@ use Rattle.fish_rule.specs.Views.{Among}
 use Rattle.fish_rule.specs.declared.view.RegistryWord.{RegistryWord}
 use Rattle.fish_rule.specs.declared.view.View.{View}
 use Rattle.fish_scan.proofs.Lists.{among_last}
-use Rattle.fish_scan.specs.Intervals.{AreIntervals, HasEndKnown, IsBegun, IsIntervalOf}
+use Rattle.fish_scan.specs.Intervals.{AreListedIntervals, HasEndKnown, IsBegunInterval, IsListedIntervalOf}
 use Rattle.fish_scan.specs.within.Intervals.{AddsInterval, IsTaken}
 use Rattle.fish_scan.specs.Intervals.{end_within}
 use Rattle.fish_scan.specs.within.Intervals.{IsUnbegun, OnlyBoundaries}
@@ -68,8 +68,8 @@ end_same (Some to) n is = ap Some (omega arith)
 module _ (v m u : View) (id x y from : ℕ) (to : Option ℕ) (few : id < 256) (first : m ≡ after_load_boundary v id 0 x)
     (last : u ≡ after_load_boundary m id 1 y) (begins : x ≡ suc from) (ends : y ≡ word_of_end to) where
   -- a beginning and an end that were loaded make an interval
-  begun_found : IsBegun u v.learned.settled id (record { id = id; from = from; to = to })
-  begun_found = subst (λ (z : View). IsBegun z v.learned.settled id (record { id = id; from = from; to = to }))
+  begun_found : IsBegunInterval u v.learned.settled id (record { id = id; from = from; to = to })
+  begun_found = subst (λ (z : View). IsBegunInterval z v.learned.settled id (record { id = id; from = from; to = to }))
       (sym (last ∙ (λ i. after_load_boundary (first i) id 1 (ends i)) ∙ ap (λ (z : ℕ).
       after_load_boundary (after_load_boundary v id 0 z) id 1 (word_of_end to)) begins)) (record {
         id_is = refl;
@@ -101,7 +101,7 @@ module _ (v m u : View) (id x y from : ℕ) (to : Option ℕ) (few : id < 256) (
 
 -- the intervals of the rows up to one
 pub record AreSoFar (v u : View) (rows : List Listed) (text : List ℕ) (upto : ℕ) (intervals : List Interval) : Type 0 where
-  pub each : (x : Interval) → Among x intervals → IsIntervalOf u v.learned.settled rows text x
+  pub each : (x : Interval) → Among x intervals → IsListedIntervalOf u v.learned.settled rows text x
   pub known : (id : ℕ) (row : Listed) → id < upto → slice_get rows id ≡ Some row → row.def ≡ text
       → (from : ℕ) → Among (record { index = row_at id 0; value = suc from }) v.learned.words
       → (x : Interval) × Among x intervals × (x.id ≡ id)
@@ -109,7 +109,7 @@ pub record AreSoFar (v u : View) (rows : List Listed) (text : List ℕ) (upto : 
 
 -- all of all rows
 pub so_far_all : (v u : View) (rows : List Listed) (text : List ℕ) (upto : ℕ) (intervals : List Interval)
-    → length rows ≤ upto → AreSoFar v u rows text upto intervals → AreIntervals v u rows text intervals
+    → length rows ≤ upto → AreSoFar v u rows text upto intervals → AreListedIntervals v u rows text intervals
 so_far_all v u rows text upto intervals all h = record {
   each = h.each;
   known = λ id row there. h.known id row (let w = slice_get_within rows id row there in omega arith) there;
@@ -118,7 +118,7 @@ so_far_all v u rows text upto intervals all h = record {
 
 -- what is known of an interval stays known
 pub interval_later : (v u : View) (settled : ℕ) (rows : List Listed) (text : List ℕ) (x : Interval) → Learns v u
-    → IsIntervalOf v settled rows text x → IsIntervalOf u settled rows text x
+    → IsListedIntervalOf v settled rows text x → IsListedIntervalOf u settled rows text x
 interval_later v u settled rows text x learns h = record {
   row = h.row;
   there = h.there;
@@ -141,13 +141,13 @@ module _ (v m u : View) (rows : List Listed) (text : List ℕ) (n : ℕ) (row : 
       id_is : row.id ≡ n
       id_is = listing.ids n row there
 
-      kept : (x : Interval) → Among x before → IsIntervalOf u v.learned.settled rows text x
+      kept : (x : Interval) → Among x before → IsListedIntervalOf u v.learned.settled rows text x
       kept x among = interval_later m u v.learned.settled rows text x new.extends.learns (h.each x among)
 
       by : AddsInterval m u row text before after → AreSoFar v u rows text (suc n) after
       by (inl a) = record {
         each = λ x among. ⊎_elim (λ (old : Among x before). kept x old) (λ (e : a.interval ≡ x). subst (λ (z : Interval).
-            IsIntervalOf u v.learned.settled rows text z) e mine)
+            IsListedIntervalOf u v.learned.settled rows text z) e mine)
             (among_last x a.interval before (subst (Among x) a.added among));
         known = λ id r below at is from among. either id r below at is from among (dec_lt id n);
         ended = λ x among. ⊎_elim (λ (old : Among x before). h.ended x old) (λ (e : a.interval ≡ x).
@@ -158,12 +158,12 @@ module _ (v m u : View) (rows : List Listed) (text : List ℕ) (n : ℕ) (row : 
           same : a.interval.id ≡ n
           same = a.begun.id_is ∙ id_is
 
-          mine : IsIntervalOf u v.learned.settled rows text a.interval
+          mine : IsListedIntervalOf u v.learned.settled rows text a.interval
           mine = record {
             row = row;
             there = ap (slice_get rows) same ∙ there;
             text_is = a.text_is;
-            begun = subst (λ (z : ℕ × ℕ). IsBegun u z.0 z.1 a.interval) (λ i. (old.settled i, sym a.begun.id_is i)) a.begun;
+            begun = subst (λ (z : ℕ × ℕ). IsBegunInterval u z.0 z.1 a.interval) (λ i. (old.settled i, sym a.begun.id_is i)) a.begun;
           }
 
           end_known : HasEndKnown v a.interval.id a.interval

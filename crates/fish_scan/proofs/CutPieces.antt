@@ -8,15 +8,15 @@ use Rattle.std.proofs.lemmas.Option.{same_Some}
 use Rattle.fish_plan.specs.Pieces.{Fill, piece_from, piece_to}
 use Rattle.fish_plan.specs.declared.pieces.Piece.{Piece}
 use Rattle.fish_plan.specs.declared.pieces.Piece.TheVariants.{Full, Index}
-use Rattle.fish_scan.specs.Cutting.{above_of, below_of, ended, pieces_above, pieces_below}
+use Rattle.fish_scan.specs.Cutting.{above_of, below_of, piece_with_ends, pieces_above, pieces_below}
 
 -- ---- the ends of a piece
 
-from_is : (x : Piece) (from to : ℕ) → piece_from (ended x from to) ≡ from
+from_is : (x : Piece) (from to : ℕ) → piece_from (piece_with_ends x from to) ≡ from
 from_is (Index id a b) from to = refl
 from_is (Full a b) from to = refl
 
-to_is : (x : Piece) (from to : ℕ) → piece_to (ended x from to) ≡ to
+to_is : (x : Piece) (from to : ℕ) → piece_to (piece_with_ends x from to) ≡ to
 to_is (Index id a b) from to = refl
 to_is (Full a b) from to = refl
 
@@ -52,7 +52,7 @@ above_by : (x : Piece) (ps : List Piece) (from to base : ℕ) → Fill (x ∷ ps
     → Fill (pieces_above base ps) (min (max from base) (piece_from x)) (piece_from x)
     → (t : Bool) → nat_lt base (piece_to x) ≡ t → Fill (pieces_above base (x ∷ ps)) (min (max from base) to) to
 above_by x ps from to base h rest true is =
-    let y = ended x (max (piece_from x) base) (piece_to x) in
+    let y = piece_with_ends x (max (piece_from x) base) (piece_to x) in
     let less : base < piece_to x = ltb-true base (piece_to x) is in
     let same : pieces_above base (x ∷ ps) ≡ y ∷ pieces_above base ps =
     map_some (above_of base) x y ps (cut_some (nat_lt base (piece_to x)) y is) in
@@ -76,7 +76,7 @@ above_by x ps from to base h rest true is =
       ],
     )
 above_by x ps from to base h rest false is =
-    let y = ended x (max (piece_from x) base) (piece_to x) in
+    let y = piece_with_ends x (max (piece_from x) base) (piece_to x) in
     let more : piece_to x ≤ base = ltb-false base (piece_to x) is in
     let same : pieces_above base (x ∷ ps) ≡ pieces_above base ps =
     map_none (above_of base) x ps (cut_none (nat_lt base (piece_to x)) y is) in
@@ -97,7 +97,7 @@ below_by : (x : Piece) (ps : List Piece) (from to base : ℕ) → Fill (x ∷ ps
     → Fill (pieces_below base ps) from (max from (min (piece_from x) base))
     → (t : Bool) → nat_lt (piece_from x) base ≡ t → Fill (pieces_below base (x ∷ ps)) from (max from (min to base))
 below_by x ps from to base h rest true is =
-    let y = ended x (piece_from x) (min (piece_to x) base) in
+    let y = piece_with_ends x (piece_from x) (min (piece_to x) base) in
     let less : piece_from x < base = ltb-true (piece_from x) base is in
     let same : pieces_below base (x ∷ ps) ≡ y ∷ pieces_below base ps =
     map_some (below_of base) x y ps (cut_some (nat_lt (piece_from x) base) y is) in
@@ -110,7 +110,7 @@ below_by x ps from to base h rest true is =
     subst (λ (z : List Piece). Fill z from (max from (min to base))) (sym same)
     (omega arith, omega arith, subst (Fill (pieces_below base ps) from) high rest)
 below_by x ps from to base h rest false is =
-    let y = ended x (piece_from x) (min (piece_to x) base) in
+    let y = piece_with_ends x (piece_from x) (min (piece_to x) base) in
     let more : base ≤ piece_from x = ltb-false (piece_from x) base is in
     let same : pieces_below base (x ∷ ps) ≡ pieces_below base ps =
     map_none (below_of base) x ps (cut_none (nat_lt (piece_from x) base) y is) in

@@ -10,7 +10,7 @@ use Rattle.fish_plan.specs.declared.pieces.Piece.{Piece}
 use Rattle.fish_plan.specs.declared.pieces.Piece.TheVariants.{Full, Index}
 use Rattle.fish_rule.specs.declared.view.View.{View}
 use Rattle.fish_scan.proofs.CutPieces.{cut_none, cut_some, map_none, map_some}
-use Rattle.fish_scan.specs.Cutting.{above_of, below_of, ended, pieces_above, pieces_below}
+use Rattle.fish_scan.specs.Cutting.{above_of, below_of, piece_with_ends, pieces_above, pieces_below}
 use Rattle.fish_scan.specs.within.Cutting.{AreOlderReadable, IsOlderReadable}
 use Rattle.fish_scan.specs.within.Pieces.{AreReadable, IsReadable}
 use Rattle.fish_scan.specs.declared.reach.Reach.{Reach}
@@ -46,22 +46,22 @@ part_of f (x ∷ ps) n y there = part_by f x ps y (λ m at. part_of f ps m y at)
 
 -- a part ends as the piece does, and some of it is past the number
 some_above : (base : ℕ) (x y : Piece) → above_of base x ≡ Some y
-    → (base < piece_to x) × (y ≡ ended x (max (piece_from x) base) (piece_to x))
+    → (base < piece_to x) × (y ≡ piece_with_ends x (max (piece_from x) base) (piece_to x))
 some_above base x y h = by (nat_lt base (piece_to x)) refl
   where
     z : Piece
-    z = ended x (max (piece_from x) base) (piece_to x)
+    z = piece_with_ends x (max (piece_from x) base) (piece_to x)
 
     by : (t : Bool) → nat_lt base (piece_to x) ≡ t → (base < piece_to x) × (y ≡ z)
     by true is = (ltb-true base (piece_to x) is, same_Some y z (sym h ∙ cut_some (nat_lt base (piece_to x)) z is))
     by false is = absurd (let none = sym h ∙ cut_none (nat_lt base (piece_to x)) z is in cc)
 
 some_below : (base : ℕ) (x y : Piece) → below_of base x ≡ Some y
-    → (piece_from x < base) × (y ≡ ended x (piece_from x) (min (piece_to x) base))
+    → (piece_from x < base) × (y ≡ piece_with_ends x (piece_from x) (min (piece_to x) base))
 some_below base x y h = by (nat_lt (piece_from x) base) refl
   where
     z : Piece
-    z = ended x (piece_from x) (min (piece_to x) base)
+    z = piece_with_ends x (piece_from x) (min (piece_to x) base)
 
     by : (t : Bool) → nat_lt (piece_from x) base ≡ t → (piece_from x < base) × (y ≡ z)
     by true is = (ltb-true (piece_from x) base is, same_Some y z (sym h ∙ cut_some (nat_lt (piece_from x) base) z is))
@@ -72,7 +72,7 @@ some_below base x y h = by (nat_lt (piece_from x) base) refl
 module _ (v : View) (def : Definition) (reach : Reach) where
   -- a part past the number can be
   readable_part : (base : ℕ) (x : Piece) → base < piece_to x → IsReadable v def reach x
-      → IsReadable v def reach (ended x (max (piece_from x) base) (piece_to x))
+      → IsReadable v def reach (piece_with_ends x (max (piece_from x) base) (piece_to x))
   readable_part base (Index id from to) less h = (
     (let within = h.0 in let a = within.from in let b = within.some in record { from = omega arith; some = omega arith; to = within.to }),
     h.1,
@@ -101,7 +101,7 @@ module _ (v : View) (def : Definition) (reach : Reach) where
 
   -- and a part below it
   older_part : (base : ℕ) (x : Piece) → piece_from x < base → IsReadable v def reach x
-      → IsOlderReadable v def base (ended x (piece_from x) (min (piece_to x) base))
+      → IsOlderReadable v def base (piece_with_ends x (piece_from x) (min (piece_to x) base))
   older_part base (Index id from to) less h = (
     (let b = h.0.some in omega arith),
     omega arith,

@@ -16,7 +16,7 @@ use Rattle.fish_scan.proofs.Loading.{loaded_both, loaded_none, loaded_within, ri
 use Rattle.fish_scan.proofs.Loading.{rows_later}
 use Rattle.fish_scan.specs.Indices.{bucket_of_value}
 use Rattle.fish_scan.specs.within.Reading.{Adds}
-use Rattle.fish_scan.specs.Work.{AreEntries, RisesBy, words_of}
+use Rattle.fish_scan.specs.Work.{AreEntries, RisesBy, words_of_found}
 use Rattle.fish_scan.specs.within.Work.{AreRecordsOf, HasLoadedRows, IsIndexWork}
 use Rattle.fish_value.specs.declared.row.Row.{Row}
 use Rattle.fish_value.specs.declared.value.Value.{Value}
@@ -132,7 +132,7 @@ descent_end v m u walk def value id from to place opens before after old mid new
     let mine = h.loaded.rows in
     let rows : mine ≡ found = append_cancel_left before mine found (sym h.loaded.added ∙ is) in
     let are = rows_later m u mine h.loaded.records on h.loaded.are in (
-      38 * length (h.entries ++ b.passed) + words_of h.loaded.records + 2,
+      38 * length (h.entries ++ b.passed) + words_of_found h.loaded.records + 2,
       record {
         top = h.top;
         entries = h.entries ++ b.passed;

@@ -7,10 +7,10 @@ use Rattle.std.proofs.lemmas.Option.{slice_get-get_or}
 use Rattle.fish_rule.proofs.laws.Alone.{alone_later}
 use Rattle.fish_rule.proofs.laws.Learning.{learns_self}
 use Rattle.fish_rule.specs.Logs.{KnowsMark}
-use Rattle.fish_rule.specs.Parts.{IsEntryWord, Rests}
+use Rattle.fish_rule.specs.Parts.{IsEntryWord, RestsAt}
 use Rattle.fish_rule.specs.LoadSteps.{IsAlone}
 use Rattle.fish_rule.specs.Regions.{code}
-use Rattle.fish_rule.specs.Table.{Stands}
+use Rattle.fish_rule.specs.Table.{IsOfMoment}
 use Rattle.fish_rule.specs.Views.{Among}
 use Rattle.fish_rule.specs.ChainFacts.{Always}
 use Rattle.fish_rule.specs.World.{high, low}
@@ -18,7 +18,7 @@ use Rattle.fish_rule.specs.declared.view.Kind.TheVariants.{Mark, Stored, Void}
 use Rattle.fish_rule.specs.declared.view.View.{View}
 use Rattle.fish_scan.proofs.Reaching.{found_word}
 use Rattle.fish_scan.specs.Reach.{IsExact, end_of}
-use Rattle.fish_scan.specs.within.Reach.{AreLooks, IsCut}
+use Rattle.fish_scan.specs.within.Reach.{AreLooks, IsCutAt}
 use Rattle.fish_walk.proofs.Looking.{ends_later}
 use Rattle.fish_walk.specs.Looks.{IsLookAt, IsTailCount, with_look}
 use Rattle.fish_walk.specs.Settling.{EndsAt, HasTail, OnlySettles}
@@ -28,7 +28,7 @@ use Rattle.fish_walk.specs.declared.outcome.Look.TheVariants as look
 
 -- ---- marks
 
-module _ (u : View) (s : Stands u) where
+module _ (u : View) (s : IsOfMoment u) where
   -- no entry stands at a mark
   no_entry : (n : ℕ) → KnowsMark u n → Always u (λ k w. IsEntryWord (w.dir n)) → ⊥
   no_entry n mark entry = (entry u (learns_self u) s.moment s.rule s.seat s.at).unmarked
@@ -59,8 +59,8 @@ module _ (u : View) (s : Stands u) where
   end_above n count alone tail (inr m) = mark_above n m.1
   end_above n count alone tail (inl e) =
       let w = s.moment in
-      let rests : Rests w.count w.line (Some (record { number = high tail.0; line = low tail.0 })) =
-      subst (Rests w.count w.line) tail.1 (s.rule.tails s.seat u s.at alone.control alone.all) in
+      let rests : RestsAt w.count w.line (Some (record { number = high tail.0; line = low tail.0 })) =
+      subst (RestsAt w.count w.line) tail.1 (s.rule.tails s.seat u s.at alone.control alone.all) in
       let all : high tail.0 ≡ w.count = rests.0 in
       let same = tail.2 in
       let some = s.rule.space.regions.some in
@@ -126,9 +126,9 @@ ends_within u n count (inr m) = (let less = m.0 in omega arith)
 
 -- the views of a call: as it began, and after each of its parts
 module _ (a b c d : View) (from : ℕ) (to : Option ℕ) (settled count base stop end first last : ℕ) (looks : List Look)
-    (opens : List ℕ) (settles : OnlySettles a b) (cuts : OnlyLooks b c) (looked : OnlyLooks c d) (sb : Stands b) (sd : Stands d)
+    (opens : List ℕ) (settles : OnlySettles a b) (cuts : OnlyLooks b c) (looked : OnlyLooks c d) (sb : IsOfMoment b) (sd : IsOfMoment d)
     (tail : HasTail b count) (rests : IsAlone a → IsTailCount count a.tail) (ends : IsAlone a → EndsAt b settled count)
-    (base_is : base ≡ b.about.number) (stop_is : stop ≡ max base settled) (cut : IsCut c stop from (end_of to count) end)
+    (base_is : base ≡ b.about.number) (stop_is : stop ≡ max base settled) (cut : IsCutAt c stop from (end_of to count) end)
     (alone_cut : IsAlone b → stop < from → KnowsMark c stop → end ≤ stop) (first_is : first ≡ min (max stop from) end)
     (are : AreLooks c d first end count looks opens) (closed : IsAlone c → opens ≡ []) (last_is : last ≡ first + length looks) where
   -- a pass that was alone has reached all that it was asked for

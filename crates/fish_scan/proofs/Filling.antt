@@ -13,7 +13,7 @@ use Rattle.fish_scan.proofs.Walks.{index_later}
 use Rattle.fish_scan.proofs.Working.{take_all}
 use Rattle.fish_scan.specs.Parses.{HasParsed}
 use Rattle.fish_scan.specs.within.Parses.{HasParsedPiece}
-use Rattle.fish_scan.specs.within.Pieces.{AreReadable, IsReadable, full_numbers, full_of}
+use Rattle.fish_scan.specs.within.Pieces.{AreReadable, IsReadable, full_numbers, full_size}
 use Rattle.fish_scan.specs.within.Reading.{Adds}
 use Rattle.fish_scan.specs.declared.reach.Reach.{Reach}
 use Rattle.fish_value.specs.declared.row.Row.{Row}
@@ -54,9 +54,9 @@ fill_end (x ∷ pieces) (suc n) from to past fill = fill_end pieces n from to (o
 
 -- the numbers of a piece and of those after it that are looked at one by one
 pub full_at : (pieces : List Piece) (n : ℕ) (x : Piece) → slice_get pieces n ≡ Some x
-    → full_numbers (drop n pieces) ≡ full_of x + full_numbers (drop (suc n) pieces)
+    → full_numbers (drop n pieces) ≡ full_size x + full_numbers (drop (suc n) pieces)
 full_at [] n x there = absurd cc
-full_at (y ∷ pieces) zero x there = ap (λ (z : Piece). full_of z + full_numbers pieces) (same_Some y x there)
+full_at (y ∷ pieces) zero x there = ap (λ (z : Piece). full_size z + full_numbers pieces) (same_Some y x there)
 full_at (y ∷ pieces) (suc n) x there = full_at pieces n x there
 
 -- the numbers from a bound on were read and the records of full pieces parsed, and the pieces from a place on fill what is below

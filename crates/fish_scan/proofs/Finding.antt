@@ -3,7 +3,7 @@ use Rattle.std.proofs.Common.{◌≡◌, ℕ, ◌<◌, ◌≤◌, suc, List, [],
 use Rattle.std.proofs.Math.Decide.{dec_lt}
 use Rattle.fish_catalog.specs.declared.entry.Entry.TheVariants as entry
 use Rattle.fish_lang.specs.Definition.{Definition}
-use Rattle.fish_psf.specs.Records.{Gives}
+use Rattle.fish_psf.specs.Records.{GivesValue}
 use Rattle.fish_psf.specs.SelectLaw.{FallsBelow}
 use Rattle.fish_rule.proofs.laws.Moments.{entry_once}
 use Rattle.fish_rule.proofs.laws.Lists.{among_either, among_left, among_right}
@@ -144,7 +144,7 @@ finds_one v def value row opens closed matches = record {
 
 -- a record for which the definition gives another value, or none, doesn't match
 pub told_other : (v : View) (def : Definition) (value : Value) (n lane : ℕ) (form : Form) (payload : List ℕ)
-    → KnowsAs v n (entry.Stored lane form payload) → ¬ Gives def form payload value
+    → KnowsAs v n (entry.Stored lane form payload) → ¬ GivesValue def form payload value
     → (other : List ℕ) → Always v (λ k w. ¬ Matches def value (record { number = n; payload = other }) k w)
 told_other v def value n lane form payload tells differs other x learns w r seat at m =
     let one = entry_once r n (entry.Stored lane form payload) (entry.Stored m.0 m.1 other)
@@ -152,11 +152,11 @@ told_other v def value n lane form payload tells differs other x learns w r seat
     differs (gives lane m.0 form m.1 payload other one m.3)
   where
     gives : (a b : ℕ) (f g : Form) (p q : List ℕ) → entry.Stored a f p ≡ entry.Stored b g q
-        → Gives def g q value → Gives def f p value
+        → GivesValue def g q value → GivesValue def f p value
     gives a b f g p q e is =
         let form_is : f ≡ g = cc in
         let payload_is : p ≡ q = cc in
-        subst (λ (z : Form × List ℕ). Gives def z.0 z.1 value) (sym (λ i. (form_is i, payload_is i))) is
+        subst (λ (z : Form × List ℕ). GivesValue def z.0 z.1 value) (sym (λ i. (form_is i, payload_is i))) is
 
 -- no record stands at a number where something else does
 pub told_void : (v : View) (def : Definition) (value : Value) (n : ℕ) → KnowsAs v n entry.Void

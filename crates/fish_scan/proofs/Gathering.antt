@@ -9,7 +9,7 @@ use Rattle.fish_rule.proofs.laws.Lists.{among_left, among_right}
 use Rattle.fish_rule.proofs.laws.Learning.{learns_self}
 use Rattle.fish_rule.proofs.laws.ChainFacts.{always_later}
 use Rattle.fish_rule.specs.Logs.{Learns, KnowsAs}
-use Rattle.fish_rule.specs.Table.{Stands}
+use Rattle.fish_rule.specs.Table.{IsOfMoment}
 use Rattle.fish_rule.specs.Views.{Among}
 use Rattle.fish_rule.specs.ChainFacts.{Always, IsClear, IsEntryIn, IsNodeIn}
 use Rattle.fish_rule.specs.declared.view.Key.{Key}
@@ -81,7 +81,7 @@ module _ (def : Definition) (value : Value) (id bucket from to : ℕ) where
             (subst (λ (z : ℕ × ℕ). HasValue z.0 z.1 value x.about w) (λ i. (same.0 i, same.1 i)) has))
 
     -- the record of an entry of the definition with the value is gathered
-    pub gather_add : Stands v → Always v (HasValue node.number node.key value) → (row : Row) → row.number ≡ node.number
+    pub gather_add : IsOfMoment v → Always v (HasValue node.number node.key value) → (row : Row) → row.number ≡ node.number
         → node.id ≡ id → from ≤ row.number → row.number < to → Always v (Matches def value row)
         → Gathers v def value id bucket from to node.place (rows ++ row ∷ [])
     gather_add s valued row number own after before matches = record {

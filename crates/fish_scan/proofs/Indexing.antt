@@ -20,8 +20,8 @@ use Rattle.fish_layout.specs.Hash.{bucket_in, key_hash_of}
 use Rattle.fish_layout.specs.declared.parts.BodyParts.{BodyParts}
 use Rattle.fish_layout.specs.declared.parts.KeyPart.{KeyPart}
 use Rattle.fish_psf.specs.Eval.{Fields, values}
-use Rattle.fish_psf.specs.Keys.{keys_of, keys_under, value_under}
-use Rattle.fish_psf.specs.Records.{Gives, fields_of_payload}
+use Rattle.fish_psf.specs.Keys.{keys_for, keys_under, value_under}
+use Rattle.fish_psf.specs.Records.{GivesValue, fields_of_payload}
 use Rattle.fish_psf.specs.declared.key.ActiveDef.{ActiveDef}
 use Rattle.fish_psf.specs.declared.key.KeyValue.{KeyValue}
 use Rattle.fish_epoch.proofs.Reading.{knows_later}
@@ -72,9 +72,9 @@ module _ (k : Key) (w : World) (id n : ℕ) (text : List ℕ) (def : Definition)
       (all_at IsWritten i.keyed.keys.defs d i.keyed.keys.written m)) means
 
   -- where the definition gives a value, the record has an entry with it
-  pub value_entry : (value : Value) → Gives def i.parts.form i.parts.payload value
+  pub value_entry : (value : Value) → GivesValue def i.parts.form i.parts.payload value
       → (c : ℕ) × (key : KeyPart) × (slice_get i.parts.keys c ≡ Some key) × (key.id ≡ id) × (key.value ≡ value)
-  unfolding keys_of
+  unfolding keys_for
   value_entry value gives =
       let fields : Fields = fields_of_payload i.parts.form i.parts.payload in
       let d = among_map text_of i.keyed.keys.defs (id, text) i.active in
@@ -90,11 +90,11 @@ module _ (k : Key) (w : World) (id n : ℕ) (text : List ℕ) (def : Definition)
 
   -- and of an entry under the id the definition gives the value
   pub entry_value : (c : ℕ) (key : KeyPart) → slice_get i.parts.keys c ≡ Some key → key.id ≡ id
-      → Gives def i.parts.form i.parts.payload key.value
-  unfolding keys_of
+      → GivesValue def i.parts.form i.parts.payload key.value
+  unfolding keys_for
   entry_value c key at own =
       let fields : Fields = fields_of_payload i.parts.form i.parts.payload in
-      let among : Among (property key) (keys_of fields i.keyed.keys.defs) = subst (Among (property key)) i.keyed.keys.keys
+      let among : Among (property key) (keys_for fields i.keyed.keys.defs) = subst (Among (property key)) i.keyed.keys.keys
       (map_among property i.parts.keys key (at_among i.parts.keys c key at)) in
       let d = among_flat (keys_under fields) i.keyed.keys.defs (property key) among in
       let v = among_map (value_under d.0.id) (values (definition_of d.0.def) fields) (property key) d.2 in
@@ -124,7 +124,7 @@ module _ (v : View) {u : View} (learns : Learns v u) (def : Definition) (id from
       let same : q ≡ i.parts = spelled_once e.spells i.keyed.record_of.spells
       (e.number_is ∙ sym i.keyed.record_of.number_is) in
       let found = value_entry u.about w id n x.listed.def def x.means i value
-      (subst (λ (z : Form × List ℕ). Gives def z.0 z.1 value)
+      (subst (λ (z : Form × List ℕ). GivesValue def z.0 z.1 value)
       (λ j. (
         (sym e.form_is ∙ ap (λ (z : BodyParts). z.form) same) j,
         (sym e.payload_is ∙ ap (λ (z : BodyParts). z.payload) same) j,
@@ -157,7 +157,7 @@ module _ (v : View) {u : View} (learns : Learns v u) (def : Definition) (id from
   -- of an entry with the value and the id, the definition gives the value for the record
   pub entry_match : (value : Value) (b c p lane : ℕ) (form : Form) (payload : List ℕ)
       → IsEntry w n (entry.Stored lane form payload) → IsNodeIn b n c p id u.about w → HasValue n c value u.about w
-      → Gives def form payload value
+      → GivesValue def form payload value
   entry_match value b c p lane form payload (q, e) node has =
       let i = index_there in
       let same : q ≡ i.parts = spelled_once e.spells i.keyed.record_of.spells
@@ -174,8 +174,8 @@ module _ (v : View) {u : View} (learns : Learns v u) (def : Definition) (id from
       subst (λ (z : BodyParts). slice_get z.keys c ≡ Some has.key) own has.there in
       let id_is : has.key.id ≡ id = sym (entry_id-key c has.key i.keyed.record_of.spells there) ∙ node.definition in
       let gives = entry_value u.about w id n x.listed.def def x.means i c has.key there id_is in
-      subst (λ (z : Form × List ℕ). Gives def z.0 z.1 value)
+      subst (λ (z : Form × List ℕ). GivesValue def z.0 z.1 value)
       (λ j. (
         (sym (ap (λ (z : BodyParts). z.form) same) ∙ e.form_is) j,
         (sym (ap (λ (z : BodyParts). z.payload) same) ∙ e.payload_is) j,
-      )) (subst (Gives def i.parts.form i.parts.payload) has.is gives)
+      )) (subst (GivesValue def i.parts.form i.parts.payload) has.is gives)

@@ -7,8 +7,8 @@ use Rattle.fish_rule.specs.Views.{Among}
 use Rattle.fish_rule.specs.declared.view.Found.{Found}
 use Rattle.fish_rule.specs.declared.view.Kind.TheVariants.{Stored}
 use Rattle.fish_rule.specs.declared.view.View.{View}
-use Rattle.fish_scan.specs.Work.{AreRecords, RisesBy, words_of}
-use Rattle.fish_scan.specs.within.Work.{AreRecordsOf, HasLoadedRows, IsRecordAt}
+use Rattle.fish_scan.specs.Work.{AreRecords, RisesBy, words_of_found}
+use Rattle.fish_scan.specs.within.Work.{AreRecordsOf, HasLoadedRows, IsFoundAt}
 use Rattle.fish_value.specs.declared.row.Row.{Row}
 use Rattle.fish_walk.specs.Looks.{CountsLoads, HasFound}
 
@@ -29,7 +29,7 @@ pub rises_within : (v u : View) (old new a b : ℕ) → a ≤ b → RisesBy v u 
 rises_within v u old new a b less h = (let x = h.counted in let y = h.own in record { counted = omega arith; own = omega arith })
 
 -- the words of records in two lists
-pub words_both : (fs gs : List Found) → words_of (fs ++ gs) ≡ words_of fs + words_of gs
+pub words_both : (fs gs : List Found) → words_of_found (fs ++ gs) ≡ words_of_found fs + words_of_found gs
 words_both [] gs = omega arith
 words_both (f ∷ fs) gs = (let rest = words_both fs gs in omega arith)
 
@@ -53,7 +53,7 @@ records_both v from mid to [] gs h g = records_below v from mid to gs h g
 records_both v from mid to (f ∷ fs) gs h g = (h.0, h.1, h.2, records_both v from mid f.number fs gs h.3 g)
 
 -- the record of a number stays found
-pub record_later : (v u : View) (n : ℕ) (f : Found) → Learns v u → IsRecordAt v n f → IsRecordAt u n f
+pub record_later : (v u : View) (n : ℕ) (f : Found) → Learns v u → IsFoundAt v n f → IsFoundAt u n f
 record_later v u n f learns h = record { among = learns.found f h.among; number_is = h.number_is; kind = h.kind }
 
 -- so do those of rows
@@ -118,12 +118,12 @@ loaded_within v u before after old new a b less h = record {
   added = h.added;
   records = h.records;
   are = h.are;
-  rises = rises_within v u old new (a + words_of h.records) (b + words_of h.records) (omega arith) h.rises;
+  rises = rises_within v u old new (a + words_of_found h.records) (b + words_of_found h.records) (omega arith) h.rises;
 }
 
 -- one was
 pub loaded_one : (v u : View) (before after : List Row) (row : Row) (f : Found) (old new most : ℕ)
-    → after ≡ before ++ row ∷ [] → IsRecordAt u row.number f → RisesBy v u old new (most + f.lines * 4)
+    → after ≡ before ++ row ∷ [] → IsFoundAt u row.number f → RisesBy v u old new (most + f.lines * 4)
     → HasLoadedRows v u before after old new most
 loaded_one v u before after row f old new most is r h = record {
   rows = row ∷ [];
@@ -143,14 +143,14 @@ loaded_both v m u before rows after old mid new a b learns h g =
       added = g.added ∙ ap (λ (z : List Row). z ++ g.rows) h.added ∙ append_assoc before h.rows g.rows;
       records = h.records ++ g.records;
       are = rows_both u h.rows g.rows h.records g.records (rows_later m u h.rows h.records learns h.are) g.are;
-      rises = rises_within v u old new (a + words_of h.records + (b + words_of g.records))
-          (a + b + words_of (h.records ++ g.records)) (omega arith) (rises_both v m u old mid new _ _ h.rises g.rises);
+      rises = rises_within v u old new (a + words_of_found h.records + (b + words_of_found g.records))
+          (a + b + words_of_found (h.records ++ g.records)) (omega arith) (rises_both v m u old mid new _ _ h.rises g.rises);
     }
 
 -- ---- reads
 
 -- the loads of a record that was read
-pub record_loads : (v u : View) (n : ℕ) (f : Found) (old new : ℕ) → IsRecordAt v n f → CountsLoads v u n old new
+pub record_loads : (v u : View) (n : ℕ) (f : Found) (old new : ℕ) → IsFoundAt v n f → CountsLoads v u n old new
     → RisesBy v u old new (1 + f.lines * 4)
 record_loads v u n f old new r h =
     let few = h.few f r.among r.number_is r.kind in
@@ -163,9 +163,9 @@ compared v u old new same few = record { counted = omega arith; own = omega arit
 
 -- and after that its record was read
 pub compared_read : (v m t : View) (n old mid new : ℕ) → mid + v.clock.loads ≡ old + m.clock.loads → mid ≤ old + 35
-    → HasFound m n Stored → Learns m t → CountsLoads m t n mid new → (f : Found) × IsRecordAt t n f × RisesBy v t old new (36 + f.lines * 4)
+    → HasFound m n Stored → Learns m t → CountsLoads m t n mid new → (f : Found) × IsFoundAt t n f × RisesBy v t old new (36 + f.lines * 4)
 compared_read v m t n old mid new same few (f, among, number_is, kind) learns counts =
-    let at : IsRecordAt m n f = record { among = among; number_is = number_is; kind = kind } in
+    let at : IsFoundAt m n f = record { among = among; number_is = number_is; kind = kind } in
     let read = record_loads m t n f mid new at counts in
     let a = read.counted in
     let b = read.own in

@@ -21,11 +21,11 @@ use Rattle.fish_rule.specs.declared.view.View.{View}
 use Rattle.fish_scan.proofs.Lists.{among_last, get_before, get_here, get_last, length_more}
 use Rattle.fish_scan.proofs.Reaching.{reached_word, seen_still}
 use Rattle.fish_scan.specs.Reach.{IsExact, Rise, WasOpen, end_of}
-use Rattle.fish_scan.specs.within.Reach.{AreLooks, AreSeen, IsCut, IsReach, IsReached}
+use Rattle.fish_scan.specs.within.Reach.{AreLooks, AreSeen, IsCutAt, IsReach, IsReached}
 use Rattle.fish_scan.specs.declared.reach.Reach.{Reach}
 use Rattle.fish_walk.proofs.Looking.{entry_later, look_loads, looked_both, stops_within, unknown_unfinished, zero_told}
-use Rattle.fish_walk.specs.Looks.{HasOpens, IsLookAt, KeepsOpens, look_of, with_look}
-use Rattle.fish_walk.specs.Settling.{HasLoadedCount, HasTail, IsEnd, OnlySettles, StopsAt}
+use Rattle.fish_walk.specs.Looks.{HasOpens, IsLookAt, KeepsOpens, look_of_word, with_look}
+use Rattle.fish_walk.specs.Settling.{HasLoadedCount, HasTail, IsEnd, OnlySettles, SettlesAt}
 use Rattle.fish_walk.specs.within.Settling.{OnlyLooks}
 use Rattle.fish_walk.specs.declared.outcome.Look.{Look}
 use Rattle.fish_walk.specs.declared.outcome.Look.TheVariants as look
@@ -76,8 +76,8 @@ open_here : (n : ℕ) (r : Look) (ns : List ℕ) → r ≡ look.Unfinished → A
 open_here n r ns is = subst (λ (z : Look). Among n (with_look n z ns)) (sym is) (among_right n ns (n ∷ []) (inl refl))
 
 -- a look at a number tells that it is open
-pub open_looked : (v m u : View) (n lines x word : ℕ) (r : Look) → Extends v m → u ≡ after_look_at m n lines x → r ≡ look_of x
-    → Sees m n word → r ≡ look_of word → r ≡ look.Unfinished → WasOpen v u n
+pub open_looked : (v m u : View) (n lines x word : ℕ) (r : Look) → Extends v m → u ≡ after_look_at m n lines x → r ≡ look_of_word x
+    → Sees m n word → r ≡ look_of_word word → r ≡ look.Unfinished → WasOpen v u n
 open_looked v m u n lines x word r before is told sees seen open_is = record {
   loaded = subst (HasLoaded v.clock u.clock (Directory n)) (zero_told x (sym told ∙ open_is))
       (loaded_within v.clock m.clock u.clock u.clock (Directory n) x before.clock (look_loads m u n lines x is) (later_self u.clock));
@@ -211,14 +211,14 @@ listed_last v count last opens h within m n lane f g p q at more below =
     opens_last v h.last (subst (Among h.last) (sym h.opens) (inl refl)) m n lane f g p q (h.listed n at) more (omega arith)
 
 -- the end of a range isn't past the one that is asked for
-pub cut_within : (v : View) (stop from limit end : ℕ) → IsCut v stop from limit end → end ≤ limit
+pub cut_within : (v : View) (stop from limit end : ℕ) → IsCutAt v stop from limit end → end ≤ limit
 cut_within v stop from limit end (inl e) = omega arith
 cut_within v stop from limit end (inr h) = (let less = h.1 in let same = h.2 in omega arith)
 
 module _ (a b c d : View) (from : ℕ) (to : Option ℕ) (settled count end base first : ℕ) (reach : Reach)
     (settles : OnlySettles a b) (rises : a.learned.settled ≤ settled) (known : settled ≤ b.learned.settled)
-    (stops : StopsAt IsEnd a b settled count) (counted : HasLoadedCount a b count) (tail : HasTail b count) (cuts : OnlyLooks b c)
-    (cut : IsCut c (max base settled) from (end_of to count) end) (base_is : base ≡ a.about.number)
+    (stops : SettlesAt IsEnd a b settled count) (counted : HasLoadedCount a b count) (tail : HasTail b count) (cuts : OnlyLooks b c)
+    (cut : IsCutAt c (max base settled) from (end_of to count) end) (base_is : base ≡ a.about.number)
     (first_is : first ≡ min (max (max base settled) from) end) (looked : OnlyLooks c d)
     (looks : AreLooks c d first end count reach.looks.items reach.opens) (settled_is : reach.settled ≡ settled)
     (begins : reach.first ≡ first) (ends : reach.to ≡ first + length reach.looks.items)
@@ -277,7 +277,7 @@ module _ (a b c d : View) (from : ℕ) (to : Option ℕ) (settled count end base
     };
     reached = reach_reached less;
     opened = opened;
-    stops_at = subst (λ (z : ℕ). StopsAt IsEnd a d z count) (sym settled_is)
+    stops_at = subst (λ (z : ℕ). SettlesAt IsEnd a d z count) (sym settled_is)
         (stops_within IsEnd a a b d settled count (learns_self a) (later_self a.clock) stops looked_all.extends.clock);
     settled = omega arith;
     exact = λ alone. subst (λ (z : ℕ). IsExact a d to count z reach.to reach.opens) (sym settled_is) (exact alone);
@@ -301,7 +301,7 @@ module _ (a b c d : View) (from : ℕ) (to : Option ℕ) (settled count end base
           omega arith
 
       -- where no look told of a mark, the range ends where it is asked to, or was cut at one
-      at_end : first + length reach.looks.items ≡ end → IsCut c (max base settled) from (end_of to count) end
+      at_end : first + length reach.looks.items ≡ end → IsCutAt c (max base settled) from (end_of to count) end
           → (reach.to ≡ end_of to count) ⊎ (KnowsMark d reach.to × (d.about.number ≤ reach.to))
       at_end e (inl is) = inl (omega arith)
       at_end e (inr h) = inr (

@@ -3,7 +3,7 @@ use Rattle.std.proofs.Common.{◌≡◌, ℕ, ◌+◌, ◌*◌, ◌<◌, ◌≤�
 use Rattle.std.proofs.Common.{subst, arith, Some, slice_get}
 use Rattle.std.proofs.Math.Decide.{ℕ_discrete, dec_lt}
 use Rattle.std.proofs.lemmas.Option.{same_Some, slice_get_read}
-use Rattle.fish_chain.specs.Values.{HasValue, words_in}
+use Rattle.fish_chain.specs.Values.{HasValue, record_words_at}
 use Rattle.fish_layout.proofs.Buckets.{entry_id-key, entry_number-key}
 use Rattle.fish_layout.proofs.Entries.{some_element}
 use Rattle.fish_layout.proofs.Spelled.{spelled_keys}
@@ -53,7 +53,8 @@ keys_once least (k ∷ ks) (suc i) (suc j) a b proper at_a at_b same value =
 
 module _ {k : Key} {w : World} (r : Rule k w) where
   -- the value of an entry, by the parts that the words spell
-  value_at : (n c : ℕ) (value : Value) (key : KeyPart) (q : BodyParts) → (s : Spells q (words_in n w)) → slice_get q.keys c ≡ Some key
+  value_at : (n c : ℕ) (value : Value) (key : KeyPart) (q : BodyParts) → (s : Spells q (record_words_at n w)) → slice_get q.keys c
+      ≡ Some key
       → HasValue n c value k w → key.value ≡ value
   value_at n c value key q s there has =
       let number : has.parts.number ≡ q.number = sym (entry_number-key c has.key has.spells has.there) ∙ entry_number-key c key s there in

@@ -18,7 +18,7 @@ use Rattle.fish_scan.proofs.OlderFinding.{AreCovered, IsFinding, find_end, find_
 use Rattle.fish_scan.proofs.OlderLoads.{IsDescended, entries_lower, entries_more, older_words_more, records_lower, records_more}
 use Rattle.fish_scan.proofs.PriorChains.{IsHere, IsOn, on_start}
 use Rattle.fish_scan.proofs.PriorRecords.{prior_number}
-use Rattle.fish_scan.specs.within.OlderReading.{IsPayloadAt, IsVisit, Passes, Takes}
+use Rattle.fish_scan.specs.within.OlderReading.{IsPayloadAt, IsVisit, Passes, TakesNode}
 use Rattle.fish_scan.specs.within.Older.{FindsOlder}
 use Rattle.fish_scan.specs.OlderWork.{AreOlderRecords, IsOlderEntry, IsOlderIndexAllowed, older_words}
 use Rattle.fish_value.specs.declared.row.Row.{Row}
@@ -111,7 +111,7 @@ module _ {image : List ℕ} {count : ℕ} {end : Reached} (prior : IsPrior image
 
     -- or its record's row
     down_take : (after : List Row) (late last : ℕ) (told : List ℕ → ℕ → ℕ → Type 0)
-        → (t : Takes node id value top rows after mid late told last) → IsPayloadAt here.parts t.payload mid late
+        → (t : TakesNode node id value top rows after mid late told last) → IsPayloadAt here.parts t.payload mid late
         → IsDown here.key.prev (here.number + 1) last before after old late
     down_take after late last told t payload = record {
       on = here.next;

@@ -13,7 +13,7 @@ use Rattle.fish_rule.proofs.laws.Opened.{opened_interval}
 use Rattle.fish_rule.proofs.laws.Versions.{text_grows}
 use Rattle.fish_rule.specs.Parts.{first_head}
 use Rattle.fish_rule.specs.Registry.{HasRead, IsRegistered, definitions_at}
-use Rattle.fish_rule.specs.Table.{Stands}
+use Rattle.fish_rule.specs.Table.{IsOfMoment}
 use Rattle.fish_rule.specs.Views.{AllOf}
 use Rattle.fish_rule.specs.declared.view.Key.{Key}
 use Rattle.fish_rule.specs.declared.view.RegistryWord.{RegistryWord}
@@ -27,7 +27,7 @@ read_of k g [] h = tt
 read_of k g (x ∷ ws) h = (h.0.word, read_of k g ws h.1)
 
 -- a row of the start has the text of the row that a pass knows under the id
-row_text : (v : View) → Stands v → (id : ℕ) (row : CatRow) → slice_get v.about.rows.value id ≡ Some row → (def : Definition)
+row_text : (v : View) → IsOfMoment v → (id : ℕ) (row : CatRow) → slice_get v.about.rows.value id ≡ Some row → (def : Definition)
     → (from to : ℕ) → (x : IsIndex v def id from to) → row.def ≡ x.listed.def
 row_text v s id row there def from to x =
     let g = s.moment.registry in
@@ -40,7 +40,7 @@ row_text v s id row there def from to x =
     sym grown.2 ∙ ap (λ (z : Listed). z.def) same
 
 -- so each record of an index piece below the base has them
-pub index_covered : {content : Option (List ℕ)} {k : Key} {cold : Cold} (h : CarriesTable content k cold) (v : View) → Stands v
+pub index_covered : {content : Option (List ℕ)} {k : Key} {cold : Cold} (h : CarriesTable content k cold) (v : View) → IsOfMoment v
     → v.about ≡ k → (def : Definition) (id from to : ℕ) → IsIndex v def id from to → IsCoveredBy h def id from to
 index_covered {k = k} h v s about def id from to x n p stored after before =
     let few = stored.few in

@@ -5,10 +5,10 @@ use Rattle.std.specs.Result.{IsErrAnd}
 use Rattle.fish_catalog.specs.declared.entry.Entry.{Entry}
 use Rattle.fish_catalog.specs.declared.entry.Entry.TheVariants.{Stored, Void}
 use Rattle.fish_cold.proofs.Carried.{carried, carried_key, record_there}
-use Rattle.fish_cold.specs.Answers.{Answers, IsDamageOf, LoadsWords, Walks}
+use Rattle.fish_cold.specs.Answers.{AnswersEntry, IsDamageOf, LoadsWords, Walks}
 use Rattle.fish_cold.specs.Cached.{HasNodeOn, HasRegion, IsReadFrom, words_on}
 use Rattle.fish_cold.specs.Chains.{IsKeyAt}
-use Rattle.fish_cold.specs.within.Caching.{IsUndamaged}
+use Rattle.fish_cold.specs.within.Caching.{IsColdUndamaged}
 use Rattle.fish_cold.specs.Carries.{CarriesTable, IsEntryAnswer, IsEntryRead}
 use Rattle.fish_cold.specs.declared.cold.Cold.{Cold}
 use Rattle.fish_cold.specs.declared.refusal.ColdRefusal.{ColdRefusal}
@@ -36,14 +36,14 @@ use Rattle.fish_value.specs.declared.value.Value.{Value}
 -- ---- refusals
 
 -- an answer of an entry isn't damage
-pub answer_undamaged : (entry : Entry) (e : ColdRefusal) → IsEntryAnswer entry (Err e) → IsUndamaged e
+pub answer_undamaged : (entry : Entry) (e : ColdRefusal) → IsEntryAnswer entry (Err e) → IsColdUndamaged e
 answer_undamaged entry (Damaged n) h = h
 answer_undamaged entry DiskFault h = tt
 answer_undamaged entry OutOfMemory h = tt
 
 -- an answer of a key entry isn't
 pub walk_undamaged : (place from : ℕ) (p : BodyParts) (j : ℕ) (key : KeyPart) (e : ColdRefusal) → Walks place from p j key (Err e)
-    → IsUndamaged e
+    → IsColdUndamaged e
 walk_undamaged place from p j key (Damaged n) h = h
 walk_undamaged place from p j key DiskFault h = tt
 walk_undamaged place from p j key OutOfMemory h = tt
@@ -80,7 +80,7 @@ module _ {content : Option (List ℕ)} {k : Key} {cold : Cold} (h : CarriesTable
   -- what was loaded of an entry
   pub one_loaded : (n : ℕ) → n < k.number → (found : Entry) → slice_get h.end.entries n ≡ Some found → (loaded loads : ℕ)
       → IfSome content (λ c. (rest : List ℕ) → IsReadFrom c cold → HasRegion cold c n rest
-      → Answers n rest (Ok found) × LoadsWords rest loaded loads (Ok found))
+      → AnswersEntry n rest (Ok found) × LoadsWords rest loaded loads (Ok found))
       → (most : ℕ) × IsOlderFullAllowed h.prior n (n + 1) most × (loads ≤ loaded + most)
   one_loaded n less Void there loaded loads says =
       let at = carried content k cold h n less in
@@ -99,7 +99,7 @@ module _ {content : Option (List ℕ)} {k : Key} {cold : Cold} (h : CarriesTable
       → (number lane : ℕ) (form : Form) (payload : List ℕ) (found : Entry) (loaded loads : ℕ) → found ≡ Stored lane form payload
       → IsEntryAnswer (Stored p.lane p.form p.payload) (Ok found)
       → IfSome content (λ c. (line : ℕ) (p : BodyParts) (k : KeyPart) → IsReadFrom c cold → HasNodeOn cold c place line p j k
-      → Answers number (drop (4 * line) (words_on cold c place)) (Ok found)
+      → AnswersEntry number (drop (4 * line) (words_on cold c place)) (Ok found)
       × LoadsWords (drop (4 * line) (words_on cold c place)) loaded loads (Ok found))
       → IsPayloadAt p payload loaded loads
   row_read b place n p j key at number lane form payload found loaded loads same is says =
@@ -116,7 +116,7 @@ module _ {content : Option (List ℕ)} {k : Key} {cold : Cold} (h : CarriesTable
       → (slice_get h.end.entries n ≡ Some found → AddsOlder h.end.entries def value n (n + 1) before after)
       → parses ≡ parsed + parses_of found
       → IfSome content (λ c. (rest : List ℕ) → IsReadFrom c cold → HasRegion cold c n rest
-      → Answers n rest (Ok found) × LoadsWords rest loaded loads (Ok found))
+      → AnswersEntry n rest (Ok found) × LoadsWords rest loaded loads (Ok found))
       → HasReadOlder h.prior def value n (n + 1) before after parsed parses loaded loads
   one_read def value n less found read before after parsed parses loaded loads adds counted says =
       let there : slice_get h.end.entries n ≡ Some found = read.there ∙ ap Some (sym read.is) in

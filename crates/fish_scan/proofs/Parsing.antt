@@ -14,7 +14,7 @@ use Rattle.fish_rule.proofs.laws.Lists.{among_either, among_left, among_right}
 use Rattle.fish_rule.specs.ChainFacts.{Always}
 use Rattle.fish_rule.specs.Logs.{Learns, KnowsAs}
 use Rattle.fish_rule.specs.Regions.{code}
-use Rattle.fish_rule.specs.Table.{Stands}
+use Rattle.fish_rule.specs.Table.{IsOfMoment}
 use Rattle.fish_rule.specs.Views.{Among}
 use Rattle.fish_rule.specs.World.{high}
 use Rattle.fish_rule.specs.declared.view.Found.{Found}
@@ -239,7 +239,7 @@ record_parsed u n opens f old among is kind closed = record {
 }
 
 -- once, as the entry was told
-pub parsed_read : (v u : View) (n : ℕ) (e : Entry) (opens : List ℕ) (old new : ℕ) → HasFound v n Stored → Learns v u → Stands u
+pub parsed_read : (v u : View) (n : ℕ) (e : Entry) (opens : List ℕ) (old new : ℕ) → HasFound v n Stored → Learns v u → IsOfMoment u
     → KnowsAs u n e → ¬ Among n opens → new ≡ old + parses_of e → HasParsed u opens (Full n (n + 1) ∷ []) n (n + 1) old new
 parsed_read v u n entry.Void opens old new found learns stands tells closed is =
     absurd (stored_told u n stands tells (found_code u n Stored (found_still v u n Stored learns found)))

@@ -7,14 +7,14 @@ use Rattle.fish_catalog.specs.declared.entry.Entry.TheVariants as entry
 use Rattle.fish_lang.specs.Definition.{Definition}
 use Rattle.fish_layout.proofs.Once.{spelled_once}
 use Rattle.fish_layout.specs.declared.parts.BodyParts.{BodyParts}
-use Rattle.fish_psf.specs.Records.{Gives, is_record}
+use Rattle.fish_psf.specs.Records.{GivesValue, is_record}
 use Rattle.fish_rule.proofs.laws.Learning.{learns_self}
 use Rattle.fish_rule.proofs.laws.Moments.{stored_parts}
 use Rattle.fish_rule.proofs.laws.Lists.{all_among}
 use Rattle.fish_rule.specs.Facts.{IsFound}
 use Rattle.fish_rule.specs.Logs.{IsEntry, Learns, KnowsAs}
 use Rattle.fish_rule.specs.Regions.{code}
-use Rattle.fish_rule.specs.Table.{Stands}
+use Rattle.fish_rule.specs.Table.{IsOfMoment}
 use Rattle.fish_rule.specs.Views.{Among}
 use Rattle.fish_rule.specs.World.{high}
 use Rattle.fish_rule.specs.declared.view.Kind.TheVariants.{Stored, Void}
@@ -22,7 +22,7 @@ use Rattle.fish_rule.specs.declared.view.View.{View}
 use Rattle.fish_scan.proofs.Finding.{finds_both, finds_later, finds_none, finds_one, finds_open, finds_other, told_other, told_void}
 use Rattle.fish_scan.specs.Matching.{Finds}
 use Rattle.fish_scan.specs.within.Reading.{Adds, IsMatching, IsParsable}
-use Rattle.fish_chain.specs.Values.{IsGiven}
+use Rattle.fish_chain.specs.Values.{IsNodeGiven}
 use Rattle.fish_chain.specs.declared.walk.Node.{Node}
 use Rattle.fish_rule.specs.ChainFacts.{Always}
 use Rattle.fish_walk.specs.Looks.{IsLookAt}
@@ -33,7 +33,7 @@ use Rattle.fish_value.specs.declared.row.Row.{Row}
 use Rattle.fish_value.specs.declared.value.Value.{Value}
 
 -- a record that was told is a record of its form
-pub told_parsable : (v : View) (n : ℕ) (e : Entry) → Stands v → KnowsAs v n e → IsParsable e
+pub told_parsable : (v : View) (n : ℕ) (e : Entry) → IsOfMoment v → KnowsAs v n e → IsParsable e
 told_parsable v n entry.Void s tells = tt
 told_parsable v n (entry.Stored lane form payload) s tells =
     let h = tells v (learns_self v) s.moment s.rule s.seat s.at in
@@ -61,7 +61,7 @@ told_found v def value n (entry.Stored lane form found) payload opens before aft
             form,
             subst (λ (z : List ℕ). IsEntry w n (entry.Stored lane form z)) matches.0
                 (tells x learns w r seat at),
-            subst (λ (z : List ℕ). Gives def form z value) matches.0 matches.1,
+            subst (λ (z : List ℕ). GivesValue def form z value) matches.0 matches.1,
           ))),
     )
 
@@ -135,12 +135,12 @@ adds_both v def value from mid to opens before between after less more h g = (
 -- ---- records of settled numbers
 
 -- and no void was told of it
-pub stored_told : (u : View) (n : ℕ) → Stands u → KnowsAs u n entry.Void → ¬ Always u (λ k w. high (w.dir n) ≡ code Stored)
+pub stored_told : (u : View) (n : ℕ) → IsOfMoment u → KnowsAs u n entry.Void → ¬ Always u (λ k w. high (w.dir n) ≡ code Stored)
 stored_told u n s tells stored =
     let void = tells u (learns_self u) s.moment s.rule s.seat s.at in
     let is_stored = stored u (learns_self u) s.moment s.rule s.seat s.at in
     absurd (omega arith)
 
 -- so it is of the record of an entry that a walk gave
-pub given_stored : (v : View) (node : Node) → IsGiven v node → Always v (λ k w. high (w.dir node.number) ≡ code Stored)
+pub given_stored : (v : View) (node : Node) → IsNodeGiven v node → Always v (λ k w. high (w.dir node.number) ≡ code Stored)
 given_stored v node given x learns w r seat at = (given.1 x learns w r seat at).entry.stored

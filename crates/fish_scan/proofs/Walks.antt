@@ -3,7 +3,7 @@ use Rattle.std.proofs.Common.{◌≡◌, ◌≢◌, ℕ, ◌*◌, ◌<◌, ◌�
 use Rattle.std.proofs.Common.{arith, append_assoc, append-nil}
 use Rattle.std.proofs.Math.Decide.{ℕ_discrete}
 use Rattle.fish_chain.specs.Values.{HasValue}
-use Rattle.fish_chain.specs.Walks.{HasBegun, HasRange, IsNextNode, IsRest, IsWalking}
+use Rattle.fish_chain.specs.Walks.{HasBegunWalk, HasRange, IsNextNode, IsWalkRest, IsWalking}
 use Rattle.fish_chain.specs.declared.walk.Node.{Node}
 use Rattle.fish_epoch.proofs.Reading.{knows_later}
 use Rattle.fish_lang.specs.Definition.{Definition}
@@ -13,7 +13,7 @@ use Rattle.fish_rule.proofs.laws.ChainFacts.{always_later}
 use Rattle.fish_rule.specs.ChainSteps.{HasNode}
 use Rattle.fish_rule.specs.Logs.{Learns}
 use Rattle.fish_rule.specs.Parts.{first_head}
-use Rattle.fish_rule.specs.Table.{Stands}
+use Rattle.fish_rule.specs.Table.{IsOfMoment}
 use Rattle.fish_rule.specs.Views.{Among}
 use Rattle.fish_rule.specs.ChainFacts.{Always, IsClear, IsNodeIn}
 use Rattle.fish_rule.specs.declared.table.Walk.{Walk}
@@ -59,7 +59,7 @@ next_later v u walk node learns h = record {
 pub walking_later : (v u : View) (walk : Walk) → Learns v u → IsWalking v walk → IsWalking u walk
 walking_later v u walk learns h = record {
   settled = (let a = h.settled in let b = learns.settled in omega arith);
-  at = ⊎_elim (λ (e : IsRest v walk.bucket walk.from walk.place).
+  at = ⊎_elim (λ (e : IsWalkRest v walk.bucket walk.from walk.place).
       inl (let p = subst (λ (z : Key). (walk.place ≤ z.line * 4) × (walk.from ≤ z.number
       → walk.place ≡ first_head z walk.bucket)) (sym learns.about) (e.past, e.first) in
       record { past = p.0; first = p.1 }))
@@ -82,7 +82,7 @@ Gathered v def value id bucket from to given start rows = (new : List Row) × (r
 
 -- at each entry that the walk gives its record is gathered where it matches
 pub gathered_next : (v : View) (def : Definition) (value : Value) (id bucket from to : ℕ) (walk : Walk) (node : Node)
-    (start before after : List Row) → HasRange walk bucket from to → Stands v → IsIndex v def id from to
+    (start before after : List Row) → HasRange walk bucket from to → IsOfMoment v → IsIndex v def id from to
     → Gathered v def value id bucket from to walk.given start before → IsNextNode v walk node
     → (node.id ≡ id → AddsNode v value node before after) → (node.id ≢ id → after ≡ before)
     → Gathered v def value id bucket from to node.place start after
@@ -128,7 +128,7 @@ gathered_next v def value id bucket from to walk node start before after range s
 
 -- at the head nothing is gathered
 pub gathered_none : (v : View) (def : Definition) (value : Value) (id bucket from to : ℕ) (walk : Walk) (start : List Row)
-    → HasBegun v walk bucket from to → Gathered v def value id bucket from to walk.given start start
+    → HasBegunWalk v walk bucket from to → Gathered v def value id bucket from to walk.given start start
 gathered_none v def value id bucket from to walk start begun =
     ([], sym (append-nil start), gather_start def value id bucket from to v walk.given begun.ahead)
 

@@ -15,7 +15,7 @@ use Rattle.fish_scan.proofs.Descending.{entries_later}
 use Rattle.fish_scan.proofs.Loading.{record_later, record_loads, records_both, records_later, rises_both, rises_none, words_both}
 use Rattle.fish_scan.proofs.Walks.{bucket_still}
 use Rattle.fish_scan.specs.Work.{AreAllowed, AreEntries, IsAllowed}
-use Rattle.fish_scan.specs.within.Work.{ArePiecesWork, IsFullWork, IsPieceWork, IsRecordAt}
+use Rattle.fish_scan.specs.within.Work.{ArePiecesWork, IsFullWork, IsPieceWork, IsFoundAt}
 use Rattle.fish_scan.specs.Work.{IsWork, RisesBy}
 use Rattle.fish_value.specs.declared.row.Row.{Row}
 use Rattle.fish_value.specs.declared.value.Value.{Value}
@@ -60,7 +60,7 @@ full_other v u opens n old same = (
 )
 
 -- the record of a number was loaded
-pub full_one : (v u : View) (opens : List ℕ) (n : ℕ) (f : Found) (old new : ℕ) → IsRecordAt u n f → ¬ Among n opens
+pub full_one : (v u : View) (opens : List ℕ) (n : ℕ) (f : Found) (old new : ℕ) → IsFoundAt u n f → ¬ Among n opens
     → RisesBy v u old new (1 + f.lines * 4) → IsFullWork v u opens n (n + 1) old new
 full_one v u opens n f old new r closed h = (
   1 + f.lines * 4,
@@ -80,7 +80,7 @@ full_one v u opens n f old new r closed h = (
 pub full_read : (v u : View) (opens : List ℕ) (n old new : ℕ) → HasFound v n Stored → Learns v u → ¬ Among n opens
     → CountsLoads v u n old new → IsFullWork v u opens n (n + 1) old new
 full_read v u opens n old new (f, among, number_is, kind) learns closed counts =
-    let at : IsRecordAt v n f = record { among = among; number_is = number_is; kind = kind } in
+    let at : IsFoundAt v n f = record { among = among; number_is = number_is; kind = kind } in
     full_one v u opens n f old new (record_later v u n f learns at) closed (record_loads v u n f old new at counts)
 
 -- a look in front loads no word of the log

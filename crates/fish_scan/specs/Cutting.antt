@@ -6,19 +6,21 @@ use Rattle.fish_plan.specs.declared.pieces.Piece.{Piece}
 use Rattle.fish_plan.specs.declared.pieces.Piece.TheVariants.{Full, Index}
 
 -- the piece with other ends
-abbrev pub ended : Piece → ℕ → ℕ → Piece
-ended (Index id first last) from to = Index id from to
-ended (Full first last) from to = Full from to
+abbrev pub piece_with_ends : Piece → ℕ → ℕ → Piece
+piece_with_ends (Index id first last) from to = Index id from to
+piece_with_ends (Full first last) from to = Full from to
 
 -- what of a piece is at or past a number, if anything is
 abbrev pub above_of : ℕ → Piece → Option Piece
 above_of base piece =
-    if nat_lt base (piece_to piece) then Some (ended piece (max (piece_from piece) base) (piece_to piece)) else None
+    if nat_lt base (piece_to piece) then Some (piece_with_ends piece (max (piece_from piece) base) (piece_to piece))
+    else None
 
 -- what of it is below the number
 abbrev pub below_of : ℕ → Piece → Option Piece
 below_of base piece =
-    if nat_lt (piece_from piece) base then Some (ended piece (piece_from piece) (min (piece_to piece) base)) else None
+    if nat_lt (piece_from piece) base then Some (piece_with_ends piece (piece_from piece) (min (piece_to piece) base))
+    else None
 
 -- what of the pieces is at or past a number
 abbrev pub pieces_above : ℕ → List Piece → List Piece

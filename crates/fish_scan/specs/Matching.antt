@@ -2,7 +2,7 @@
 use Rattle.std.specs.Prelude.{ℕ, ◌<◌, ◌≤◌, List}
 use Rattle.fish_catalog.specs.declared.entry.Entry.TheVariants as entry
 use Rattle.fish_lang.specs.Definition.{Definition}
-use Rattle.fish_psf.specs.Records.{Gives}
+use Rattle.fish_psf.specs.Records.{GivesValue}
 use Rattle.fish_psf.specs.SelectLaw.{FallsBelow}
 use Rattle.fish_rule.specs.Logs.{IsEntry}
 use Rattle.fish_rule.specs.Views.{Among}
@@ -17,7 +17,7 @@ use Rattle.fish_value.specs.declared.value.Value.{Value}
 -- a record with this payload stands at the row's number, and the definition gives the value for it
 abbrev pub Matches : Definition → Value → Row → Key → World → Type 0
 Matches def value row k w = (lane : ℕ) × (form : Form)
-    × IsEntry w row.number (entry.Stored lane form row.payload) × Gives def form row.payload value
+    × IsEntry w row.number (entry.Stored lane form row.payload) × GivesValue def form row.payload value
 
 -- the rows are exactly the records from a number on and below another, less the open ones, for which the definition
 -- gives the value, newest first: in every moment of a pass that knows as much

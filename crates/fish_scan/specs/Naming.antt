@@ -7,7 +7,7 @@ abbrev pub HasNone : List Listed → List ℕ → Type 0
 HasNone rows name = (i : ℕ) (l : Listed) → slice_get rows i ≡ Some l → l.name ≢ name
 
 -- the definition at a place has the name, and none after it has
-pub record IsNewest (rows : List Listed) (name : List ℕ) (position : ℕ) : Type 0 where
+pub record IsNewestListed (rows : List Listed) (name : List ℕ) (position : ℕ) : Type 0 where
   pub listed : Listed
   pub there : slice_get rows position ≡ Some listed
   pub named : listed.name ≡ name

@@ -5,7 +5,7 @@ use Rattle.fish_scan.specs.declared.refusal.ScanRefusal.{ScanRefusal}
 use Rattle.fish_scan.specs.declared.refusal.ScanRefusal.TheVariants as refusal
 
 -- the same refusal
-abbrev pub refusal_of : ColdRefusal → ScanRefusal
-refusal_of cold.DiskFault = refusal.DiskFault
-refusal_of (cold.Damaged number) = refusal.Damaged number
-refusal_of cold.OutOfMemory = refusal.OutOfMemory
+abbrev pub scan_refusal_of : ColdRefusal → ScanRefusal
+scan_refusal_of cold.DiskFault = refusal.DiskFault
+scan_refusal_of (cold.Damaged number) = refusal.Damaged number
+scan_refusal_of cold.OutOfMemory = refusal.OutOfMemory

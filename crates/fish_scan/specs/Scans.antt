@@ -17,9 +17,9 @@ use Rattle.fish_rule.specs.LoadSteps.{IsAlone}
 use Rattle.fish_rule.specs.declared.view.Epoch.TheVariants.{Out}
 use Rattle.fish_rule.specs.declared.view.Noted.TheVariants.{Version}
 use Rattle.fish_rule.specs.declared.view.View.{View}
-use Rattle.fish_scan.specs.Intervals.{AreIntervals}
+use Rattle.fish_scan.specs.Intervals.{AreListedIntervals}
 use Rattle.fish_scan.specs.Matching.{Finds}
-use Rattle.fish_scan.specs.Naming.{HasNone, IsNewest}
+use Rattle.fish_scan.specs.Naming.{HasNone, IsNewestListed}
 use Rattle.fish_scan.specs.Reach.{IsExact, IsRange}
 use Rattle.fish_scan.specs.declared.ask.Answer.{Answer}
 use Rattle.fish_scan.specs.declared.ask.Ask.{Ask}
@@ -27,7 +27,7 @@ use Rattle.fish_scan.specs.declared.ask.How.{How}
 use Rattle.fish_scan.specs.declared.ask.How.TheVariants as how
 use Rattle.fish_scan.specs.declared.refusal.ScanRefusal.{ScanRefusal}
 use Rattle.fish_scan.specs.declared.refusal.ScanRefusal.TheVariants as refusal
-use Rattle.fish_walk.specs.Settling.{IsEnd, StopsAt}
+use Rattle.fish_walk.specs.Settling.{IsEnd, SettlesAt}
 
 -- the second view is the first but for what was learned since, and the tail and the epoch that were seen
 pub record OnlyScans (v u : View) : Type 0 where
@@ -61,7 +61,7 @@ pub record IsNamed (v u : View) (known : Known) (ask : Ask) (position : ℕ) : T
   pub loaded : HasLoaded v.clock u.clock Version (version_of known)
   pub least : v.learned.version ≤ version_of known
   pub read : AreRead u known
-  pub newest : IsNewest (rows_of known) ask.name position
+  pub newest : IsNewestListed (rows_of known) ask.name position
 
 -- and the range that is asked for isn't empty
 pub record IsAsked (v u : View) (known : Known) (ask : Ask) (position : ℕ) : Type 0 where
@@ -78,7 +78,7 @@ pub record IsCovered (v u : View) (rows : List Listed) (text : List ℕ) (from s
   pub after : Learns v moment
   pub known : settled ≤ moment.learned.settled
   pub intervals : List Interval
-  pub are : AreIntervals moment u rows text intervals
+  pub are : AreListedIntervals moment u rows text intervals
   pub cover : IsCover plan from settled to intervals
 
 -- the range is read in the way that is asked for
@@ -98,7 +98,7 @@ pub record IsPlanned (v u : View) (known : Known) (ask : Ask) (from to : ℕ) (o
   pub range : IsRange v u (first_asked ask) ask.to from to opens
   -- it is settled as far as this call found: up to the count, or to a number at which it loaded no entry's word
   pub settled : ℕ
-  pub stops_at : StopsAt IsEnd v u settled range.count
+  pub stops_at : SettlesAt IsEnd v u settled range.count
   pub least : v.learned.settled ≤ settled
   pub most : settled ≤ u.learned.settled
   -- a pass that was alone has planned all that was asked for of the log
@@ -131,7 +131,7 @@ pub record IsUncovered (v u : View) (known : Known) (ask : Ask) (from to : ℕ) 
   pub opens : List ℕ
   pub range : IsRange v u (first_asked ask) ask.to first last opens
   pub settled : ℕ
-  pub stops_at : StopsAt IsEnd v u settled range.count
+  pub stops_at : SettlesAt IsEnd v u settled range.count
   pub least : v.learned.settled ≤ settled
   pub most : settled ≤ u.learned.settled
   pub exact : IsAlone v → IsExact v u ask.to range.count settled last opens

@@ -15,9 +15,9 @@ use Rattle.fish_value.specs.declared.value.Value.{Value}
 -- ---- what loads are allowed for
 
 -- the words of records
-abbrev pub words_of : List Found → ℕ
-words_of [] = 0
-words_of (f ∷ found) = f.lines * 4 + words_of found
+abbrev pub words_of_found : List Found → ℕ
+words_of_found [] = 0
+words_of_found (f ∷ found) = f.lines * 4 + words_of_found found
 
 -- records that were found at numbers from one on and below another, the newest first
 abbrev pub AreRecords : View → ℕ → ℕ → List Found → Type 0
@@ -43,14 +43,14 @@ pub record IsIndexAllowed (v : View) (value : Value) (rows : List Row) (id from 
   pub records : List Found
   pub are : AreRecords v from to records
   pub given : (f : Found) → Among f records → (row : Row) × Among row rows × (row.number ≡ f.number)
-  pub few : loads ≤ 38 * length entries + words_of records + 2
+  pub few : loads ≤ 38 * length entries + words_of_found records + 2
 
 -- a full piece one for each of its records that aren't open, and one for each word of these
 pub record IsFullAllowed (v : View) (opens : List ℕ) (from to loads : ℕ) : Type 0 where
   pub records : List Found
   pub are : AreRecords v from to records
   pub closed : (f : Found) → Among f records → ¬ Among f.number opens
-  pub few : loads ≤ length records + words_of records
+  pub few : loads ≤ length records + words_of_found records
 
 -- either of them
 abbrev pub IsAllowed : View → Value → List ℕ → List Row → Piece → ℕ → Type 0

@@ -1,7 +1,7 @@
 //! A scan whose range may begin below the table: what is older is read from the store's file.
 
 ghost use Rattle.std.specs.Prelude.{◌≤◌, ℕ, IfErr, IfOk, IfSome, OnOk};
-ghost use Rattle.fish_cold.specs.within.Caching.{IsUndamaged};
+ghost use Rattle.fish_cold.specs.within.Caching.{IsColdUndamaged};
 ghost use Rattle.fish_cold.specs.Carries.{CarriesTable};
 ghost use Rattle.fish_epoch.specs.Definitions.{IsDefsOf};
 ghost use Rattle.fish_lang.specs.Definition.{definition_of};
@@ -129,7 +129,7 @@ fn read_across<D: Disk, P: Ledger, L: Ledger>(
 
     ensures fault { IsFaultOf (D.faults disk.old) (D.faults disk.new) result }
     ensures damage { IfErr result (IsDamageIn query.now.reach.from log.now.key.number) }
-    ensures whole { (h : CarriesTable (D.content disk.new) log.now.key cold.old) → IfErr result IsUndamaged }
+    ensures whole { (h : CarriesTable (D.content disk.new) log.now.key cold.old) → IfErr result IsColdUndamaged }
 {
     let cut = cut_at(alloc, pieces, base(log).number)?;
     read_pieces(

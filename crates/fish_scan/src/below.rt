@@ -1,7 +1,7 @@
 //! The part of a range below the base is read from the file piece by piece, newest first.
 
 ghost use Rattle.std.specs.Prelude.{◌≡◌, ◌+◌, ◌≤◌, IfErr, OnOk};
-ghost use Rattle.fish_cold.specs.within.Caching.{IsUndamaged};
+ghost use Rattle.fish_cold.specs.within.Caching.{IsColdUndamaged};
 ghost use Rattle.fish_cold.specs.Carries.{CarriesTable};
 ghost use Rattle.fish_lang.specs.Definition.{definition_of};
 ghost use Rattle.fish_plan.specs.Pieces.{Fill, piece_from};
@@ -53,7 +53,7 @@ pub(crate) fn read_below<D: Disk, P: Ledger, L: Ledger>(
 
     ensures fault { IsFaultOf (D.faults disk.old) (D.faults disk.new) result }
     ensures damage { IfErr result (IsDamageIn query.now.reach.from log.now.key.number) }
-    ensures whole { (h : CarriesTable (D.content disk.new) log.now.key cold.old) → IfErr result IsUndamaged }
+    ensures whole { (h : CarriesTable (D.content disk.new) log.now.key cold.old) → IfErr result IsColdUndamaged }
 {
     for piece in pieces {
         read_older_piece(
@@ -89,7 +89,7 @@ fn read_older_piece<D: Disk, P: Ledger, L: Ledger>(
 
     ensures fault { IsFaultOf (D.faults disk.old) (D.faults disk.new) result }
     ensures damage { IfErr result (IsDamageIn (piece_from piece.now) log.now.key.number) }
-    ensures whole { (h : CarriesTable (D.content disk.new) log.now.key cold.old) → IfErr result IsUndamaged }
+    ensures whole { (h : CarriesTable (D.content disk.new) log.now.key cold.old) → IfErr result IsColdUndamaged }
 {
     let stretch = Stretch {
         from: piece.from(),

@@ -3,7 +3,7 @@
 
 ghost use Rattle.std.specs.Prelude.{◌≡◌, ◌≢◌, ◌↔◌, ◌+◌, ◌*◌, ◌<◌, ◌≤◌, ℕ, List, IfErr, IfOk, IsTrue, OnOk};
 ghost use Rattle.fish_cold.specs.Answers.{IsDamageOf};
-ghost use Rattle.fish_cold.specs.within.Caching.{IsUndamaged};
+ghost use Rattle.fish_cold.specs.within.Caching.{IsColdUndamaged};
 ghost use Rattle.fish_cold.specs.Carries.{CarriesTable};
 ghost use Rattle.fish_cold.specs.Chains.{IsKeyAt};
 ghost use Rattle.fish_lang.specs.Definition.{definition_of};
@@ -12,7 +12,7 @@ ghost use Rattle.fish_layout.specs.declared.parts.BodyParts.{BodyParts};
 ghost use Rattle.fish_layout.specs.declared.parts.KeyPart.{KeyPart};
 ghost use Rattle.fish_rule.specs.ChainSteps.{CanLoadHead};
 ghost use Rattle.fish_rule.specs.Logs.{Extends};
-ghost use Rattle.fish_rule.specs.Parts.{IsOlder, first_head};
+ghost use Rattle.fish_rule.specs.Parts.{IsOlderPlace, first_head};
 ghost use Rattle.fish_rule.specs.Passes.{IsPassOf, view};
 ghost use Rattle.fish_rule.specs.declared.view.Key.{Key as TableKey};
 ghost use Rattle.fish_scan.specs.Colder.{IsBelow, StaysCold};
@@ -63,7 +63,7 @@ pub(crate) fn read_chain<D: Disk, L: Ledger>(
 
     ensures fault { IsFaultOf (D.faults disk.old) (D.faults disk.new) result }
     ensures damage { IfErr result (IsDamageIn stretch.now.from log.now.key.number) }
-    ensures whole { (h : CarriesTable (D.content disk.new) log.now.key cold.old) → IfErr result IsUndamaged }
+    ensures whole { (h : CarriesTable (D.content disk.new) log.now.key cold.old) → IfErr result IsColdUndamaged }
 {
     let bucket = bucket_of(key_hash(id, &query.value), buckets(log)) as u32;
     let place = rest_of(log, pass, bucket, loads);
@@ -87,7 +87,7 @@ fn rest_of<L: Ledger>(log: &Log, pass: &mut Pass, bucket: u32, loads: &mut Steps
     ensures pass { IsPassOf log.now pass.new }
     ensures extends { Extends (view pass.old) (view pass.new) }
     ensures rest { result ≡ first_head log.now.key bucket }
-    ensures older { IsOlder log.now.key.line result }
+    ensures older { IsOlderPlace log.now.key.line result }
     ensures loads { IsWalkWork (view pass.old) (view pass.new) bucket loads.old loads.new }
 {
     // no number lies in this range, so the walk gives no entry and ends below the table
@@ -125,7 +125,7 @@ fn walk_down<D: Disk, L: Ledger>(
     ensures fault { IsFaultOf (D.faults disk.old) (D.faults disk.new) result }
     ensures damage { IfErr result (IsDamageIn stretch.now.from base) }
     ensures whole { (k : TableKey) (h : CarriesTable (D.content disk.new) k cold.old) (b : ℕ) → IsHeadOf h b head
-        → IfErr result IsUndamaged }
+        → IfErr result IsColdUndamaged }
 {
     let mut place = head;
     let mut below = base;
@@ -167,7 +167,7 @@ fn visit<D: Disk, L: Ledger>(
     ensures fault { IsFaultOf (D.faults disk.old) (D.faults disk.new) result }
     ensures damage { IfErr result (IsDamageOf node.now.number) }
     ensures whole { (k : TableKey) (h : CarriesTable (D.content disk.new) k cold.old) (b n : ℕ) (p : BodyParts)
-        (key : KeyPart) → IsKeyAt h.prior b node.now.place n p node.now.key key → IfErr result IsUndamaged }
+        (key : KeyPart) → IsKeyAt h.prior b node.now.place n p node.now.key key → IfErr result IsColdUndamaged }
 {
     if !is_taken(query, id, to, node) {
         return Ok(to);
@@ -202,7 +202,7 @@ fn payload_of<D: Disk, L: Ledger>(
     ensures fault { IsFaultOf (D.faults disk.old) (D.faults disk.new) result }
     ensures damage { IfErr result (IsDamageOf node.now.number) }
     ensures whole { (k : TableKey) (h : CarriesTable (D.content disk.new) k cold.old) (b n : ℕ) (p : BodyParts)
-        (key : KeyPart) → IsKeyAt h.prior b node.now.place n p node.now.key key → IfErr result IsUndamaged }
+        (key : KeyPart) → IsKeyAt h.prior b node.now.place n p node.now.key key → IfErr result IsColdUndamaged }
 {
     match cold.cold_row(disk, node, loads) {
         Ok(Entry::Stored { payload, .. }) => Ok(payload),

@@ -2,7 +2,7 @@
 
 ghost use Rattle.std.specs.Prelude.{◌≡◌, ◌++◌, [], IfOk, OnOk};
 ghost use Rattle.std.specs.List.{cons_option};
-ghost use Rattle.fish_scan.specs.Cutting.{above_of, below_of, ended, pieces_above, pieces_below};
+ghost use Rattle.fish_scan.specs.Cutting.{above_of, below_of, piece_with_ends, pieces_above, pieces_below};
 
 use fish_plan::Piece;
 use std::alloc::{AllocError, Global};
@@ -64,7 +64,7 @@ fn part_before(piece: &Piece, base: u32) -> Option<Piece>
 
 /// The piece with other ends.
 fn with_ends(piece: &Piece, from: u32, to: u32) -> Piece
-    ensures { result ≡ ended piece.now from to }
+    ensures { result ≡ piece_with_ends piece.now from to }
 {
     match piece {
         Piece::Index { id, .. } => Piece::Index { id: *id, from, to },

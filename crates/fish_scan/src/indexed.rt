@@ -4,7 +4,7 @@ ghost use Rattle.std.specs.Prelude.{◌≡◌, ◌≢◌, ◌<◌, ◌≤◌, If
 ghost use Rattle.fish_lang.specs.Definition.{definition_of};
 ghost use Rattle.fish_rule.specs.Logs.{Extends};
 ghost use Rattle.fish_rule.specs.Passes.{IsPassOf, view, walk_of};
-ghost use Rattle.fish_chain.specs.Values.{IsGiven};
+ghost use Rattle.fish_chain.specs.Values.{IsNodeGiven};
 ghost use Rattle.fish_scan.specs.within.Indices.{AddsNode, IsIndex, IsValued};
 ghost use Rattle.fish_scan.specs.within.Reach.{IsReached};
 ghost use Rattle.fish_scan.specs.within.Reading.{Adds};
@@ -70,7 +70,7 @@ fn read_node<L: Ledger>(
     loads: &mut Steps<L>,
 ) -> Result<(), AllocError>
     requires pass { IsPassOf log.now pass.old }
-    requires given { IsGiven (view pass.old) node.now }
+    requires given { IsNodeGiven (view pass.old) node.now }
     requires settled { node.now.number < (view pass.old).learned.settled }
     requires counted { node.now.number < (view pass.old).learned.count }
     ensures pass { IsPassOf log.now pass.new }
@@ -106,7 +106,7 @@ fn payload_with<L: Ledger>(
     loads: &mut Steps<L>,
 ) -> Result<Option<Text>, AllocError>
     requires pass { IsPassOf log.now pass.old }
-    requires given { IsGiven (view pass.old) node.now }
+    requires given { IsNodeGiven (view pass.old) node.now }
     requires settled { node.now.number < (view pass.old).learned.settled }
     requires counted { node.now.number < (view pass.old).learned.count }
     ensures pass { IsPassOf log.now pass.new }

@@ -3,7 +3,7 @@
 ghost use Rattle.std.specs.Prelude.{◌≡◌, ◌<◌, IfOk, OnOk};
 ghost use Rattle.fish_catalog.specs.Listing.{IsListing};
 ghost use Rattle.fish_rule.specs.Passes.{IsPassOf, view};
-ghost use Rattle.fish_scan.specs.Intervals.{AreIntervals};
+ghost use Rattle.fish_scan.specs.Intervals.{AreListedIntervals};
 ghost use Rattle.fish_scan.specs.within.Intervals.{AddsInterval, IsTaken, OnlyBoundaries};
 
 use fish_catalog::{Interval, Intervals, Listed};
@@ -23,7 +23,7 @@ pub(crate) fn load_intervals(
     requires rows { IsListing rows.now }
     ensures pass { IsPassOf log.now pass.new }
     ensures only { OnlyBoundaries (view pass.old) (view pass.new) }
-    ensures intervals { IfOk result (AreIntervals (view pass.old) (view pass.new) rows.now text.now) }
+    ensures intervals { IfOk result (AreListedIntervals (view pass.old) (view pass.new) rows.now text.now) }
 {
     let mut intervals = Intervals::new(alloc);
     for row in rows {

@@ -2,7 +2,7 @@
 
 ghost use Rattle.std.specs.Prelude.{◌≡◌, ◌+◌, IfErr, IfOk, IsTrue, ◌↔◌};
 ghost use Rattle.fish_lang.specs.Definition.{definition_of};
-ghost use Rattle.fish_psf.specs.Records.{Gives, is_record};
+ghost use Rattle.fish_psf.specs.Records.{GivesValue, is_record};
 ghost use Rattle.fish_psf.specs.declared.reading.PsfRefusal.TheVariants.{OutOfMemory};
 ghost use Rattle.fish_scan.specs.Reading.{parses_of};
 ghost use Rattle.fish_scan.specs.within.Reading.{IsMatching, IsParsable};
@@ -61,7 +61,7 @@ fn has_value<P: Ledger>(
 ) -> Result<bool, AllocError>
     requires { IsTrue (is_record form b.now) }
     ensures value { IfOk result (λ has. IsTrue has
-        ↔ Gives (definition_of query.now.def) form b.now query.now.value) }
+        ↔ GivesValue (definition_of query.now.def) form b.now query.now.value) }
     ensures parses { parses.new ≡ parses.old + 1 }
 {
     match value_in(alloc, reader, query, form, b, parses) {
@@ -81,7 +81,7 @@ pub(crate) fn value_in<P: Ledger>(
     parses: &mut Steps<P>,
 ) -> Result<bool, PsfRefusal>
     ensures value { IfOk result (λ has. IsTrue has
-        ↔ Gives (definition_of query.now.def) form b.now query.now.value) }
+        ↔ GivesValue (definition_of query.now.def) form b.now query.now.value) }
     ensures memory { IsTrue (is_record form b.now) → IfErr result (λ refusal. refusal ≡ OutOfMemory) }
     ensures parses { parses.new ≡ parses.old + 1 }
 {

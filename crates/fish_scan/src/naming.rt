@@ -1,14 +1,14 @@
 //! The definition that a name means.
 
 ghost use Rattle.std.specs.Prelude.{◌≡◌, ◌↔◌, IsTrue, MatchOption};
-ghost use Rattle.fish_scan.specs.Naming.{HasNone, IsNewest};
+ghost use Rattle.fish_scan.specs.Naming.{HasNone, IsNewestListed};
 
 use fish_catalog::Listed;
 use fish_value::Text;
 
 /// The place of the newest definition of a name, active or not, if one has it.
 pub(crate) fn newest(rows: &[Listed], name: &Text) -> Option<usize>
-    ensures { MatchOption result (HasNone rows.now name.now) (IsNewest rows.now name.now) }
+    ensures { MatchOption result (HasNone rows.now name.now) (IsNewestListed rows.now name.now) }
 {
     let mut position = rows.len();
     while position > 0 {

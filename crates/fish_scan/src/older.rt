@@ -2,10 +2,10 @@
 
 ghost use Rattle.std.specs.Prelude.{◌≡◌, ◌↔◌, ◌+◌, ◌<◌, ◌≤◌, IfErr, IfOk, IsTrue, OnOk};
 ghost use Rattle.fish_cold.specs.within.Answers.{IsReadingOf};
-ghost use Rattle.fish_cold.specs.within.Caching.{IsUndamaged};
+ghost use Rattle.fish_cold.specs.within.Caching.{IsColdUndamaged};
 ghost use Rattle.fish_cold.specs.Carries.{CarriesTable};
 ghost use Rattle.fish_lang.specs.Definition.{definition_of};
-ghost use Rattle.fish_psf.specs.Records.{Gives, is_record};
+ghost use Rattle.fish_psf.specs.Records.{GivesValue, is_record};
 ghost use Rattle.fish_rule.specs.declared.view.Key.{Key};
 ghost use Rattle.fish_scan.specs.Colder.{StaysCold};
 ghost use Rattle.fish_scan.specs.within.Colder.{IsDamageIn, IsFaultOf};
@@ -46,7 +46,7 @@ pub(crate) fn read_older<D: Disk, P: Ledger, L: Ledger>(
 
     ensures fault { IsFaultOf (D.faults disk.old) (D.faults disk.new) result }
     ensures damage { IfErr result (IsDamageIn stretch.now.from stretch.now.to) }
-    ensures whole { (k : Key) (h : CarriesTable (D.content disk.new) k cold.old) → IfErr result IsUndamaged }
+    ensures whole { (k : Key) (h : CarriesTable (D.content disk.new) k cold.old) → IfErr result IsColdUndamaged }
 {
     let mut number = stretch.to;
     while number > stretch.from {
@@ -78,7 +78,7 @@ fn read_older_at<D: Disk, P: Ledger, L: Ledger>(
 
     ensures fault { IsFaultOf (D.faults disk.old) (D.faults disk.new) result }
     ensures damage { IfErr result (IsDamageIn number (number + 1)) }
-    ensures whole { (k : Key) (h : CarriesTable (D.content disk.new) k cold.old) → IfErr result IsUndamaged }
+    ensures whole { (k : Key) (h : CarriesTable (D.content disk.new) k cold.old) → IfErr result IsColdUndamaged }
 {
     let entry = cold.cold_record(disk, number, loads)?;
     if let Some(payload) = older_matching(alloc, reader, query, number, entry, parses)? {
@@ -101,7 +101,7 @@ fn older_matching<P: Ledger>(
     ensures parses { parses.new ≡ parses.old + parses_of entry }
 
     ensures damage { IfErr result (IsReadingOf number) }
-    ensures whole { IsParsable entry → IfErr result IsUndamaged }
+    ensures whole { IsParsable entry → IfErr result IsColdUndamaged }
 {
     match entry {
         Entry::Void => Ok(None),
@@ -133,11 +133,12 @@ fn older_value<P: Ledger>(
     b: &[u8],
     parses: &mut Steps<P>,
 ) -> Result<bool, ColdRefusal>
-    ensures value { IfOk result (λ has. IsTrue has ↔ Gives (definition_of query.now.def) form b.now query.now.value) }
+    ensures value { IfOk result (λ has. IsTrue has
+        ↔ GivesValue (definition_of query.now.def) form b.now query.now.value) }
     ensures parses { parses.new ≡ parses.old + 1 }
 
     ensures damage { IfErr result (IsReadingOf number) }
-    ensures whole { IsTrue (is_record form b.now) → IfErr result IsUndamaged }
+    ensures whole { IsTrue (is_record form b.now) → IfErr result IsColdUndamaged }
 {
     match value_in(alloc, reader, query, form, b, parses) {
         Ok(has) => Ok(has),

@@ -7,7 +7,7 @@ ghost use Rattle.fish_rule.specs.Logs.{Extends};
 ghost use Rattle.fish_rule.specs.Passes.{IsPassOf, view};
 ghost use Rattle.fish_scan.specs.Parses.{HasParsed};
 ghost use Rattle.fish_scan.specs.within.Parses.{HasParsedPiece};
-ghost use Rattle.fish_scan.specs.within.Pieces.{AreReadable, IsReadable, full_numbers, full_of};
+ghost use Rattle.fish_scan.specs.within.Pieces.{AreReadable, IsReadable, full_numbers, full_size};
 ghost use Rattle.fish_scan.specs.within.Reach.{IsReached, first_in};
 ghost use Rattle.fish_scan.specs.within.Reading.{Adds};
 ghost use Rattle.fish_scan.specs.within.Work.{ArePiecesWork, IsPieceWork};
@@ -78,7 +78,7 @@ fn read_piece<P: Ledger, L: Ledger>(
         (piece_from piece.now) (piece_to piece.now) query.now.reach.opens rows.old rows.new) }
     ensures parses { OnOk result (HasParsedPiece (view pass.new) query.now.reach.opens piece.now parses.old
         parses.new) }
-    ensures few { parses.new ≤ parses.old + full_of piece.now }
+    ensures few { parses.new ≤ parses.old + full_size piece.now }
     ensures loads { OnOk result (IsPieceWork (view pass.old) (view pass.new) query.now.value query.now.reach.opens
         rows.new piece.now loads.old loads.new) }
 {

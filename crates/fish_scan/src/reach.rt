@@ -5,7 +5,7 @@ ghost use Rattle.fish_rule.specs.Logs.{KnowsMark};
 ghost use Rattle.fish_rule.specs.Passes.{IsPassOf, view};
 ghost use Rattle.fish_rule.specs.LoadSteps.{IsAlone};
 ghost use Rattle.fish_rule.specs.Views.{Among};
-ghost use Rattle.fish_scan.specs.within.Reach.{AreLooks, IsCut, IsReach, IsReached};
+ghost use Rattle.fish_scan.specs.within.Reach.{AreLooks, IsCutAt, IsReach, IsReached};
 ghost use Rattle.fish_walk.specs.Looks.{HasOpens, IsLookAt, with_look};
 ghost use Rattle.fish_walk.specs.Settling.{OnlySettles};
 ghost use Rattle.fish_walk.specs.within.Settling.{OnlyLooks};
@@ -71,7 +71,7 @@ fn cut_end(log: &Log, pass: &mut Pass, stop: u32, from: u32, end: u32) -> u32
     requires counted { end ≤ (view pass.old).learned.count }
     ensures pass { IsPassOf log.now pass.new }
     ensures only { OnlyLooks (view pass.old) (view pass.new) }
-    ensures cut { IsCut (view pass.new) stop from end result }
+    ensures cut { IsCutAt (view pass.new) stop from end result }
     ensures alone { IsAlone (view pass.old) → stop < from → KnowsMark (view pass.new) stop → result ≤ stop }
 {
     if from <= stop || end <= stop {

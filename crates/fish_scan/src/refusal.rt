@@ -52,9 +52,9 @@ impl From<AllocError> for ScanRefusal {
 
 impl From<ColdRefusal> for ScanRefusal {
     ghost use Rattle.std.specs.Prelude.{◌≡◌};
-    ghost use Rattle.fish_scan.specs.Refusals.{refusal_of};
+    ghost use Rattle.fish_scan.specs.Refusals.{scan_refusal_of};
 
-    ghost from_gives = { λ cold refusal. refusal ≡ refusal_of cold };
+    ghost from_gives = { λ cold refusal. refusal ≡ scan_refusal_of cold };
 
     fn from(refusal: ColdRefusal) -> Self {
         match refusal {

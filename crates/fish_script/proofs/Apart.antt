@@ -8,11 +8,11 @@ use Rattle.fish_lang.specs.Definition.{Definition, definition_of}
 use Rattle.fish_lang.specs.Language.{IsOutcome}
 use Rattle.fish_lang.specs.declared.parse.LangRefusal.{LangRefusal}
 use Rattle.fish_script.proofs.Standing.{stand_blocks}
-use Rattle.fish_script.specs.Lines.{lines}
-use Rattle.fish_script.specs.Positions.{AllStand, Fits, FitsLane, Stands, position_after, position_from, position_of}
+use Rattle.fish_script.specs.Lines.{script_lines}
+use Rattle.fish_script.specs.Positions.{AllStand, Fits, FitsLane, IsPlaced, position_after, position_from, position_of}
 use Rattle.fish_script.specs.Refusals.{AllSay, HasFault, IsFault, IsFeedTooMany, IsLaneTooMany, IsLate, IsLineFault}
-use Rattle.fish_script.specs.Refusals.{IsRefusal, IsScript, Says, StopsAt, StopsAtEnd}
-use Rattle.fish_script.specs.Script.{Reads, is_control, is_feed}
+use Rattle.fish_script.specs.Refusals.{IsRefusal, IsScript, Says, StopsAtLine, StopsPastLines}
+use Rattle.fish_script.specs.Script.{ReadsStatement, is_control, is_feed}
 use Rattle.fish_script.specs.ScriptLine.{script_line_of}
 use Rattle.fish_script.specs.Words.{is_skipped}
 use Rattle.fish_script.specs.declared.builder.Position.{Position}
@@ -87,7 +87,7 @@ pub one_outcome : (b : List ℕ) (r s : Result Definition LangRefusal) → IsOut
 one_outcome b r s x y = sym (outcome-only b r x) ∙ outcome-only b s y
 
 -- a definition that is read isn't refused
-pub no_fault : (w : StatementLine) (s : Statement) (why : LangRefusal) → Reads w s → HasFault w why → ⊥
+pub no_fault : (w : StatementLine) (s : Statement) (why : LangRefusal) → ReadsStatement w s → HasFault w why → ⊥
 no_fault (word.Register name source) s why reads fault =
     (let e = one_outcome source (Ok (definition_of reads.0)) (Err why) reads.2 fault in cc)
 no_fault (word.Deregister name) s why reads fault = fault
@@ -97,7 +97,8 @@ no_fault (word.Explain look) s why reads fault = fault
 no_fault word.Checkpoint s why reads fault = fault
 
 -- two statements of one statement_line are of one kind
-pub same_kind : (w : StatementLine) (s t : Statement) → Reads w s → Reads w t → (is_control s ≡ is_control t) × (is_feed s ≡ is_feed t)
+pub same_kind : (w : StatementLine) (s t : Statement) → ReadsStatement w s → ReadsStatement w t → (is_control s ≡ is_control t)
+    × (is_feed s ≡ is_feed t)
 same_kind (word.Register name source) s t x y = (ap is_control x.1 ∙ sym (ap is_control y.1), ap is_feed x.1 ∙ sym (ap is_feed y.1))
 same_kind (word.Deregister name) s t x y = (ap is_control (x ∙ sym y), ap is_feed (x ∙ sym y))
 same_kind (word.Ingest form header file) s t x y = (ap is_control (x ∙ sym y), ap is_feed (x ∙ sym y))
@@ -130,7 +131,7 @@ lane_alone (Inside lanes feeds) (said.Statement w) other past = past
 
 -- a line in order isn't refused
 mark_unrefused : (p : Position) (l : ScriptLine) (n : ℕ) (e : ScriptRefusal) → l ≢ said.Lane → ((w : StatementLine) → l ≢ said.Statement w)
-    → Stands p l → IsFault p l n e → ⊥
+    → IsPlaced p l → IsFault p l n e → ⊥
 mark_unrefused p (said.Statement w) n e other none h f = none w refl
 mark_unrefused p said.Lane n e other none h f = other refl
 mark_unrefused p said.Lanes n (refusal.Unexpected line) other none h f = h.0 f.1
@@ -151,7 +152,7 @@ mark_unrefused p said.End n (refusal.TooLong line) other none h f = f
 mark_unrefused p said.End n refusal.OutOfMemory other none h f = f
 
 -- nor is a `lane`
-lane_unrefused : (p : Position) (n : ℕ) (e : ScriptRefusal) → Stands p said.Lane → IsFault p said.Lane n e → ⊥
+lane_unrefused : (p : Position) (n : ℕ) (e : ScriptRefusal) → IsPlaced p said.Lane → IsFault p said.Lane n e → ⊥
 lane_unrefused p n (refusal.Unexpected line) h f = h.0 f.1
 lane_unrefused p n (refusal.TooManyLanes line) h f = no_lane_past p h.1 f.1
 lane_unrefused p n (refusal.Definition line why) h f = f
@@ -162,7 +163,7 @@ lane_unrefused p n (refusal.TooLong line) h f = f
 lane_unrefused p n refusal.OutOfMemory h f = f
 
 -- nor a statement
-statement_unrefused : (p : Position) (w : StatementLine) (n : ℕ) (e : ScriptRefusal) → Stands p (said.Statement w)
+statement_unrefused : (p : Position) (w : StatementLine) (n : ℕ) (e : ScriptRefusal) → IsPlaced p (said.Statement w)
     → IsFault p (said.Statement w) n e
     → ⊥
 statement_unrefused p w n (refusal.Unexpected line) h f = h.0 f.1
@@ -177,14 +178,14 @@ statement_unrefused p w n (refusal.TooLong line) h f = f
 statement_unrefused p w n refusal.OutOfMemory h f = f
 
 -- no line in order is refused
-stands_unrefused : (p : Position) (l : ScriptLine) (n : ℕ) (e : ScriptRefusal) → Stands p l → IsFault p l n e → ⊥
+stands_unrefused : (p : Position) (l : ScriptLine) (n : ℕ) (e : ScriptRefusal) → IsPlaced p l → IsFault p l n e → ⊥
 stands_unrefused p said.Lanes n e h f = mark_unrefused p said.Lanes n e (λ x. cc) (λ w x. cc) h f
 stands_unrefused p said.Lane n e h f = lane_unrefused p n e h f
 stands_unrefused p said.End n e h f = mark_unrefused p said.End n e (λ x. cc) (λ w x. cc) h f
 stands_unrefused p (said.Statement w) n e h f = statement_unrefused p w n e h f
 
 -- what is known of a refused line whose bytes are a text
-statement_line_fault : (p : Position) (b : List ℕ) (n : ℕ) (e : ScriptRefusal) (l : ScriptLine) → script_line_of b ≡ Some l → Stands p l
+statement_line_fault : (p : Position) (b : List ℕ) (n : ℕ) (e : ScriptRefusal) (l : ScriptLine) → script_line_of b ≡ Some l → IsPlaced p l
     → ((script_line_of b ≡ None) × (e ≡ refusal.Unexpected n)) ⊎ ((m : ScriptLine) × (script_line_of b ≡ Some m) × IsFault p m n e) → ⊥
 statement_line_fault p b n e l is h (inl f) = (let a = f.0 in cc)
 statement_line_fault p b n e l is h (inr f) =
@@ -226,17 +227,18 @@ no_stop_within before behind line ws ahead n e say stand front fault =
     (subst (λ (z : List ScriptLine). AllStand (position_of z) (s.own ++ s.rest)) same rest)) fault
 
 -- a text whose lines are all in order stops at none
-pub no_stop : (text : List ℕ) (e : ScriptRefusal) (ws : List ScriptLine) → AllSay (lines text) ws → AllStand Outside ws → StopsAt text e → ⊥
+pub no_stop : (text : List ℕ) (e : ScriptRefusal) (ws : List ScriptLine) → AllSay (script_lines text) ws → AllStand Outside ws
+    → StopsAtLine text e → ⊥
 no_stop text e ws say stand stop =
     no_stop_within stop.before stop.behind stop.line ws stop.ahead (suc (length stop.before)) e
     (subst (λ (z : List (List ℕ)). AllSay z ws) stop.splits say) stand stop.say stop.fault
 
 -- no script is refused for a line or its end
 no_script_stops : (text : List ℕ) (script : List Block) (e : ScriptRefusal) → IsScript text script
-    → StopsAt text e ⊎ StopsAtEnd text e → ⊥
+    → StopsAtLine text e ⊎ StopsPastLines text e → ⊥
 no_script_stops text script e h (inl stop) = no_stop text e h.ws h.say (stand_blocks h.ws script h.blocks).stand stop
 no_script_stops text script e h (inr end) =
-    let same : h.ws ≡ end.ws = all_say_once (lines text) h.ws end.ws h.say end.say in
+    let same : h.ws ≡ end.ws = all_say_once (script_lines text) h.ws end.ws h.say end.say in
     let out : position_of end.ws ≡ Outside =
     subst (λ (z : List ScriptLine). position_of z ≡ Outside) same (stand_blocks h.ws script h.blocks).position in
     let no : Outside ≡ Inside end.lanes end.feeds = sym out ∙ end.within in absurd cc

@@ -2,8 +2,8 @@
 use Rattle.std.proofs.Common.{◌≡◌, suc, ◌+◌, ◌≤◌, List, [], ◌∷◌, ◌++◌, refl, sym, ap, ◌∙◌, arith, length, append_assoc}
 use Rattle.std.specs.Prelude.{Bool, true, false, count_by}
 use Rattle.std.proofs.lemmas.List.{append-nil}
-use Rattle.fish_script.specs.Positions.{AllStand, Stands, position_after, position_from}
-use Rattle.fish_script.specs.Script.{AllFree, AreBlocks, AreFree, AreLanes, AreRead, IsBlock, IsRead, OthersFree}
+use Rattle.fish_script.specs.Positions.{AllStand, IsPlaced, position_after, position_from}
+use Rattle.fish_script.specs.Script.{AllFree, AreBlocks, AreFree, AreLaneLines, AreStatementsRead, IsBlock, IsLineRead, OthersFree}
 use Rattle.fish_script.specs.Script.{feeds_of, is_control, is_feed}
 use Rattle.fish_script.specs.declared.builder.Position.{Position}
 use Rattle.fish_script.specs.declared.script.Block.{Block}
@@ -18,22 +18,23 @@ place_push p [] w = refl
 place_push p (x ∷ ws) w = place_push (position_after p x) ws w
 
 -- all are in order with one line more that is
-pub stand_push : (p : Position) (ws : List ScriptLine) (w : ScriptLine) → AllStand p ws → Stands (position_from p ws) w
+pub stand_push : (p : Position) (ws : List ScriptLine) (w : ScriptLine) → AllStand p ws → IsPlaced (position_from p ws) w
     → AllStand p (ws ++ w ∷ [])
 stand_push p [] w h here = (here, tt)
 stand_push p (x ∷ ws) w h here = (h.0, stand_push (position_after p x) ws w h.1 here)
 
 -- one statement more
-pub read_push : (ws : List ScriptLine) (ss : List Statement) (w : ScriptLine) (s : Statement) → AreRead ws ss → IsRead w s
-    → AreRead (ws ++ w ∷ []) (ss ++ s ∷ [])
+pub read_push : (ws : List ScriptLine) (ss : List Statement) (w : ScriptLine) (s : Statement) → AreStatementsRead ws ss → IsLineRead w s
+    → AreStatementsRead (ws ++ w ∷ []) (ss ++ s ∷ [])
 read_push [] [] w s h here = (here, tt)
 read_push [] (t ∷ ss) w s h here = absurd h
 read_push (x ∷ ws) [] w s h here = absurd h
 read_push (x ∷ ws) (t ∷ ss) w s h here = (h.0, read_push ws ss w s h.1 here)
 
 -- one lane more
-pub lanes_push : (ws own : List ScriptLine) (lanes : List (List Statement)) (lane : List Statement) → AreLanes ws lanes → AreRead own lane
-    → AreLanes (ws ++ said.Lane ∷ own) (lanes ++ lane ∷ [])
+pub lanes_push : (ws own : List ScriptLine) (lanes : List (List Statement)) (lane : List Statement) → AreLaneLines ws lanes
+    → AreStatementsRead own lane
+    → AreLaneLines (ws ++ said.Lane ∷ own) (lanes ++ lane ∷ [])
 lanes_push ws own [] lane h here = (
   own,
   [],

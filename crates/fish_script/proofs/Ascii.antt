@@ -7,7 +7,8 @@ use Rattle.std.specs.Str.{IsAscii}
 use Rattle.std.proofs.lemmas.Bool.Decides.{nat_tests}
 use Rattle.std.proofs.lemmas.Str.{IsUtf8-from_ascii}
 use Rattle.fish_value.specs.Limits.{longest_name}
-use Rattle.fish_script.specs.ScriptLine.{is_bare_byte, is_bare_word, is_name, is_name_byte}
+use Rattle.fish_value.specs.BareWord.{is_bare_byte, is_bare_word}
+use Rattle.fish_script.specs.ScriptLine.{is_name, is_name_byte}
 
 -- what two tests say where both hold
 both : (a b : Bool) → (a && b) ≡ true → (a ≡ true) × (b ≡ true)

@@ -9,8 +9,8 @@ use Rattle.fish_script.proofs.Apart.{all_say_once, no_fault, no_stop, no_stop_wi
 use Rattle.fish_script.specs.Limits.{longest_script}
 use Rattle.fish_script.specs.Positions.{IsMisplaced, position_of}
 use Rattle.fish_script.specs.Refusals.{AllSay, HasFault, IsFault, IsLaneTooMany, IsLate, IsLineFault, IsRefusal}
-use Rattle.fish_script.specs.Refusals.{StopsAt, StopsAtEnd}
-use Rattle.fish_script.specs.Script.{Reads}
+use Rattle.fish_script.specs.Refusals.{StopsAtLine, StopsPastLines}
+use Rattle.fish_script.specs.Script.{ReadsStatement}
 use Rattle.fish_script.specs.ScriptLine.{script_line_of}
 use Rattle.fish_script.specs.declared.builder.Position.{Position}
 use Rattle.fish_script.specs.declared.builder.Position.TheVariants.{Outside, Inside}
@@ -29,9 +29,11 @@ data Cause (p : Position) (l : ScriptLine) (n : ℕ) (e : ScriptRefusal) : Type 
   misplaced : e ≡ refusal.Unexpected n → IsMisplaced p l → Cause p l n e
   no_definition : (w : StatementLine) (why : LangRefusal) → l ≡ said.Statement w → e ≡ refusal.Definition n why → ¬ IsMisplaced p l
       → HasFault w why → Cause p l n e
-  too_late : (w : StatementLine) (s : Statement) → l ≡ said.Statement w → e ≡ refusal.ControlInLane n → ¬ IsMisplaced p l → Reads w s
+  too_late : (w : StatementLine) (s : Statement) → l ≡ said.Statement w → e ≡ refusal.ControlInLane n → ¬ IsMisplaced p l
+      → ReadsStatement w s
       → IsLate p s → Cause p l n e
-  feed_past : (w : StatementLine) (s : Statement) → l ≡ said.Statement w → e ≡ refusal.TooManyFeeds n → ¬ IsMisplaced p l → Reads w s
+  feed_past : (w : StatementLine) (s : Statement) → l ≡ said.Statement w → e ≡ refusal.TooManyFeeds n → ¬ IsMisplaced p l
+      → ReadsStatement w s
       → ¬ IsLate p s → Cause p l n e
   lane_past : e ≡ refusal.TooManyLanes n → l ≡ said.Lane → ¬ IsMisplaced p l → Cause p l n e
 
@@ -70,13 +72,14 @@ same_statement_line : (l : ScriptLine) (w u : StatementLine) → l ≡ said.Stat
 same_statement_line l w u a b = let e : said.Statement w ≡ said.Statement u = sym a ∙ b in cc
 
 -- it is late for any statement that reads the same
-late_too : (p : Position) (w : StatementLine) (s t : Statement) → Reads w s → Reads w t → IsLate p s → IsLate p t
+late_too : (p : Position) (w : StatementLine) (s t : Statement) → ReadsStatement w s → ReadsStatement w t → IsLate p s → IsLate p t
 late_too Outside w s t x y late = late
 late_too (Inside lanes feeds) w s t x y late = (late.0, sym (same_kind w s t x y).0 ∙ late.1)
 
 -- the same statement_line, in other words
-reads_by : (l : ScriptLine) (w u : StatementLine) (s : Statement) → l ≡ said.Statement w → l ≡ said.Statement u → Reads u s → Reads w s
-reads_by l w u s a b h = subst (λ (x : StatementLine). Reads x s) (sym (same_statement_line l w u a b)) h
+reads_by : (l : ScriptLine) (w u : StatementLine) (s : Statement) → l ≡ said.Statement w → l ≡ said.Statement u → ReadsStatement u s
+    → ReadsStatement w s
+reads_by l w u s a b h = subst (λ (x : StatementLine). ReadsStatement x s) (sym (same_statement_line l w u a b)) h
 
 -- one line is refused for one cause
 cause_once : (p : Position) (l : ScriptLine) (n : ℕ) (d e : ScriptRefusal) → Cause p l n d → Cause p l n e → d ≡ e
@@ -173,14 +176,14 @@ as_far (x ∷ xs) (y ∷ ys) us vs a b e same =
     (λ i. h i ∷ r.0 i, r.1)
 
 -- no line before the first fault is refused
-not_before : (text : List ℕ) (d e : ScriptRefusal) (f : StopsAt text d) (g : StopsAt text e) → length f.before < length g.before → ⊥
+not_before : (text : List ℕ) (d e : ScriptRefusal) (f : StopsAtLine text d) (g : StopsAtLine text e) → length f.before < length g.before → ⊥
 not_before text d e f g less =
     let m = further f.before g.before f.behind g.behind f.line g.line (sym f.splits ∙ g.splits) less in
     no_stop_within f.before m.0 f.line g.ahead f.ahead (suc (length f.before)) d
     (subst (λ (z : List (List ℕ)). AllSay z g.ahead) m.1 g.say) g.stand f.say f.fault
 
 -- the first fault is one
-stop_once : (text : List ℕ) (d e : ScriptRefusal) → StopsAt text d → StopsAt text e → d ≡ e
+stop_once : (text : List ℕ) (d e : ScriptRefusal) → StopsAtLine text d → StopsAtLine text e → d ≡ e
 stop_once text d e f g = elim (dec_lt (length f.before) (length g.before)) [
   | yes less ↦ absurd (not_before text d e f g less)
   | no upto ↦ elim (dec_lt (length g.before) (length f.before)) [
@@ -203,7 +206,8 @@ stop_once text d e f g = elim (dec_lt (length f.before) (length g.before)) [
         (known (position_of g.ahead) g.line (suc (length g.before)) e g.fault)
 
 -- so is the stop of a text
-stops_once : (text : List ℕ) (d e : ScriptRefusal) → StopsAt text d ⊎ StopsAtEnd text d → StopsAt text e ⊎ StopsAtEnd text e → d ≡ e
+stops_once : (text : List ℕ) (d e : ScriptRefusal) → StopsAtLine text d ⊎ StopsPastLines text d
+    → StopsAtLine text e ⊎ StopsPastLines text e → d ≡ e
 stops_once text d e (inl f) (inl g) = stop_once text d e f g
 stops_once text d e (inl f) (inr g) = absurd (no_stop text d g.ws g.say g.stand f)
 stops_once text d e (inr f) (inl g) = absurd (no_stop text e f.ws f.say f.stand g)
@@ -212,7 +216,7 @@ stops_once text d e (inr f) (inr g) = f.fault ∙ sym g.fault
 -- what a refusal is, but that memory ran out
 due : (text : List ℕ) (e : ScriptRefusal) → IsRefusal text e → e ≢ refusal.OutOfMemory
     → ((longest_script < length text) × (e ≡ refusal.TooLong (length text)))
-    ⊎ ((length text ≤ longest_script) × (StopsAt text e ⊎ StopsAtEnd text e))
+    ⊎ ((length text ≤ longest_script) × (StopsAtLine text e ⊎ StopsPastLines text e))
 due text (refusal.TooLong n) r memory = inl (r.0, ap (λ (m : ℕ). refusal.TooLong m) r.1)
 due text (refusal.NotText n) r memory = inr (r.0, r.1)
 due text (refusal.Unexpected n) r memory = inr (r.0, r.1)

@@ -4,9 +4,9 @@ use Rattle.std.specs.Prelude.{Bool, true, false, Ok}
 use Rattle.fish_lang.specs.Definition.{definition_of}
 use Rattle.fish_script.proofs.Apart.{all_say_once, one_outcome}
 use Rattle.fish_script.specs.Laws.{IsAlike, IsBlockAlike, Pairs}
-use Rattle.fish_script.specs.Lines.{lines}
+use Rattle.fish_script.specs.Lines.{script_lines}
 use Rattle.fish_script.specs.Refusals.{IsScript}
-use Rattle.fish_script.specs.Script.{AreBlocks, AreLanes, AreRead, IsBlock, IsRead, Reads}
+use Rattle.fish_script.specs.Script.{AreBlocks, AreLaneLines, AreStatementsRead, IsBlock, IsLineRead, ReadsStatement}
 use Rattle.fish_script.specs.declared.script.Block.{Block}
 use Rattle.fish_script.specs.declared.script.Statement.{Statement}
 use Rattle.fish_script.specs.declared.script_line.StatementLine.{StatementLine}
@@ -17,7 +17,7 @@ use Rattle.fish_script.specs.declared.script_line.ScriptLine.TheVariants as said
 -- ---- statements
 
 -- two statements of one statement_line are alike
-reads_alike : (w : StatementLine) (s t : Statement) → Reads w s → Reads w t → IsAlike s t
+reads_alike : (w : StatementLine) (s t : Statement) → ReadsStatement w s → ReadsStatement w t → IsAlike s t
 reads_alike (word.Register name source) s t x y =
     subst (λ (z : Statement). IsAlike z t) (sym x.1) (
       y.0,
@@ -31,14 +31,14 @@ reads_alike (word.Explain look) s t x y = subst (λ (z : Statement). IsAlike z t
 reads_alike word.Checkpoint s t x y = subst (λ (z : Statement). IsAlike z t) (sym x) y
 
 -- and of one line
-line_alike : (l : ScriptLine) (s t : Statement) → IsRead l s → IsRead l t → IsAlike s t
+line_alike : (l : ScriptLine) (s t : Statement) → IsLineRead l s → IsLineRead l t → IsAlike s t
 line_alike said.Lanes s t x y = absurd x
 line_alike said.Lane s t x y = absurd x
 line_alike said.End s t x y = absurd x
 line_alike (said.Statement w) s t x y = reads_alike w s t x y
 
 -- the statements of lines are alike
-read_alike : (ws : List ScriptLine) (ss ts : List Statement) → AreRead ws ss → AreRead ws ts → Pairs IsAlike ss ts
+read_alike : (ws : List ScriptLine) (ss ts : List Statement) → AreStatementsRead ws ss → AreStatementsRead ws ts → Pairs IsAlike ss ts
 read_alike [] [] [] x y = tt
 read_alike [] [] (t ∷ ts) x y = absurd y
 read_alike [] (s ∷ ss) ts x y = absurd x
@@ -49,15 +49,16 @@ read_alike (w ∷ ws) (s ∷ ss) (t ∷ ts) x y = (line_alike w s t x.0 y.0, rea
 -- ---- lanes
 
 -- a line of a statement begins no lanes
-no_statement : (ws rest : List ScriptLine) (l : ScriptLine) (s : Statement) (lanes : List (List Statement)) → AreLanes ws lanes
-    → ws ≡ l ∷ rest → IsRead l s → ⊥
+no_statement : (ws rest : List ScriptLine) (l : ScriptLine) (s : Statement) (lanes : List (List Statement)) → AreLaneLines ws lanes
+    → ws ≡ l ∷ rest → IsLineRead l s → ⊥
 no_statement ws rest l s [] h e reads = (let no = sym h ∙ e in cc)
 no_statement ws rest l s (ss ∷ lanes) h e reads =
-    let first : said.Lane ≡ l = (let both = sym h.2 ∙ e in cc) in subst (λ (z : ScriptLine). IsRead z s) (sym first) reads
+    let first : said.Lane ≡ l = (let both = sym h.2 ∙ e in cc) in subst (λ (z : ScriptLine). IsLineRead z s) (sym first) reads
 
 -- statements end where the next lane begins
-cut_once : (own too others rest : List ScriptLine) (ss ts : List Statement) (lanes more : List (List Statement)) → AreRead own ss
-    → AreRead too ts → AreLanes others lanes → AreLanes rest more → own ++ others ≡ too ++ rest → (own ≡ too) × (others ≡ rest)
+cut_once : (own too others rest : List ScriptLine) (ss ts : List Statement) (lanes more : List (List Statement)) → AreStatementsRead own ss
+    → AreStatementsRead too ts → AreLaneLines others lanes → AreLaneLines rest more → own ++ others ≡ too ++ rest → (own ≡ too)
+    × (others ≡ rest)
 cut_once [] [] others rest ss ts lanes more x y u v e = (refl, e)
 cut_once [] (l ∷ too) others rest ss [] lanes more x y u v e = absurd y
 cut_once [] (l ∷ too) others rest ss (t ∷ ts) lanes more x y u v e =
@@ -74,7 +75,7 @@ cut_once (l ∷ own) (k ∷ too) others rest (s ∷ ss) (t ∷ ts) lanes more x 
     (λ i. first i ∷ r.0 i, r.1)
 
 -- the lanes of lines are alike
-lanes_alike : (ws : List ScriptLine) (lanes more : List (List Statement)) → AreLanes ws lanes → AreLanes ws more
+lanes_alike : (ws : List ScriptLine) (lanes more : List (List Statement)) → AreLaneLines ws lanes → AreLaneLines ws more
     → Pairs (Pairs IsAlike) lanes more
 lanes_alike ws [] [] x y = tt
 lanes_alike ws [] (ts ∷ more) x y = absurd (let no = sym x ∙ y.2 in cc)
@@ -83,8 +84,8 @@ lanes_alike ws (ss ∷ lanes) (ts ∷ more) x y =
     let whole : said.Lane ∷ (x.0 ++ x.1) ≡ said.Lane ∷ (y.0 ++ y.1) = sym x.2 ∙ y.2 in
     let behind : x.0 ++ x.1 ≡ y.0 ++ y.1 = cc in
     let r = cut_once x.0 y.0 x.1 y.1 ss ts lanes more x.3 y.3 x.4 y.4 behind in (
-      read_alike x.0 ss ts x.3 (subst (λ (z : List ScriptLine). AreRead z ts) (sym r.0) y.3),
-      lanes_alike x.1 lanes more x.4 (subst (λ (z : List ScriptLine). AreLanes z more) (sym r.1) y.4),
+      read_alike x.0 ss ts x.3 (subst (λ (z : List ScriptLine). AreStatementsRead z ts) (sym r.0) y.3),
+      lanes_alike x.1 lanes more x.4 (subst (λ (z : List ScriptLine). AreLaneLines z more) (sym r.1) y.4),
     )
 
 -- ---- blocks
@@ -99,14 +100,14 @@ no_end_append [] ys x y = y
 no_end_append (l ∷ xs) ys x y = (x.0, no_end_append xs ys x.1 y)
 
 -- statements are none
-statements_no_end : (ws : List ScriptLine) (ss : List Statement) → AreRead ws ss → HasNoEnd ws
+statements_no_end : (ws : List ScriptLine) (ss : List Statement) → AreStatementsRead ws ss → HasNoEnd ws
 statements_no_end [] ss h = tt
 statements_no_end (l ∷ ws) [] h = absurd h
 statements_no_end (l ∷ ws) (s ∷ ss) h =
-    (λ is. subst (λ (z : ScriptLine). IsRead z s) is h.0, statements_no_end ws ss h.1)
+    (λ is. subst (λ (z : ScriptLine). IsLineRead z s) is h.0, statements_no_end ws ss h.1)
 
 -- nor are lanes
-lanes_no_end : (ws : List ScriptLine) (lanes : List (List Statement)) → AreLanes ws lanes → HasNoEnd ws
+lanes_no_end : (ws : List ScriptLine) (lanes : List (List Statement)) → AreLaneLines ws lanes → HasNoEnd ws
 lanes_no_end ws [] h = subst (λ (z : List ScriptLine). HasNoEnd z) (sym h) tt
 lanes_no_end ws (ss ∷ lanes) h =
     subst (λ (z : List ScriptLine). HasNoEnd z) (sym h.2)
@@ -142,22 +143,22 @@ block_once own too others rest true true lanes more x y e =
     record {
       others_same = r.1;
       kind = refl;
-      alike = lanes_alike x.inside lanes more x.are (subst (λ (z : List ScriptLine). AreLanes z more) (sym r.0) y.are);
+      alike = lanes_alike x.inside lanes more x.are (subst (λ (z : List ScriptLine). AreLaneLines z more) (sym r.0) y.are);
     }
 block_once own too others rest true false lanes more x y e =
     let whole : said.Lanes ∷ ((x.inside ++ said.End ∷ []) ++ others) ≡ y.line ∷ rest =
     sym (ap (λ (z : List ScriptLine). z ++ others) x.lines) ∙ e ∙ ap (λ (z : List ScriptLine). z ++ rest) y.lines in
-    let first : said.Lanes ≡ y.line = cc in absurd (subst (λ (z : ScriptLine). IsRead z y.statement) (sym first) y.read)
+    let first : said.Lanes ≡ y.line = cc in absurd (subst (λ (z : ScriptLine). IsLineRead z y.statement) (sym first) y.read)
 block_once own too others rest false true lanes more x y e =
     let whole : x.line ∷ others ≡ said.Lanes ∷ ((y.inside ++ said.End ∷ []) ++ rest) =
     sym (ap (λ (z : List ScriptLine). z ++ others) x.lines) ∙ e ∙ ap (λ (z : List ScriptLine). z ++ rest) y.lines in
-    let first : x.line ≡ said.Lanes = cc in absurd (subst (λ (z : ScriptLine). IsRead z x.statement) first x.read)
+    let first : x.line ≡ said.Lanes = cc in absurd (subst (λ (z : ScriptLine). IsLineRead z x.statement) first x.read)
 block_once own too others rest false false lanes more x y e =
     let whole : x.line ∷ others ≡ y.line ∷ rest =
     sym (ap (λ (z : List ScriptLine). z ++ others) x.lines) ∙ e ∙ ap (λ (z : List ScriptLine). z ++ rest) y.lines in
     let first : x.line ≡ y.line = cc in
     let behind : others ≡ rest = cc in
-    let reads : IsRead x.line y.statement = subst (λ (z : ScriptLine). IsRead z y.statement) (sym first) y.read in
+    let reads : IsLineRead x.line y.statement = subst (λ (z : ScriptLine). IsLineRead z y.statement) (sym first) y.read in
     record {
       others_same = behind;
       kind = refl;
@@ -187,5 +188,5 @@ blocks_alike ws (b ∷ bs) (c ∷ cs) x y =
 -- a text is one script
 pub one_script : (text : List ℕ) (one other : List Block) → IsScript text one → IsScript text other → Pairs IsBlockAlike one other
 one_script text one other x y =
-    let same : y.ws ≡ x.ws = all_say_once (lines text) y.ws x.ws y.say x.say in
+    let same : y.ws ≡ x.ws = all_say_once (script_lines text) y.ws x.ws y.say x.say in
     blocks_alike x.ws one other x.blocks (subst (λ (z : List ScriptLine). AreBlocks z other) same y.blocks)

@@ -5,7 +5,7 @@ use Rattle.std.specs.Prelude.{if◌then◌else◌}
 use Rattle.std.specs.List.{slice_split, onto_first}
 use Rattle.std.specs.Str.Lines.{strip_carriage_return}
 use Rattle.fish_json.specs.Lines.{is_line_end}
-use Rattle.fish_script.specs.Lines.{lines, lines_of}
+use Rattle.fish_script.specs.Lines.{script_lines, script_lines_of}
 
 -- parts with at least one among them
 record Some_parts (parts : List (List ℕ)) : Type 0 where
@@ -35,23 +35,23 @@ some_parts [] = record { first = []; more = []; are = refl }
 some_parts (c ∷ x) = step c x (is_line_end c) refl (some_parts x)
 
 cut_lines : (part : List ℕ) (parts : List (List ℕ)) → Some_parts parts
-    → lines_of (part ∷ parts) ≡ strip_carriage_return part ∷ lines_of parts
+    → script_lines_of (part ∷ parts) ≡ strip_carriage_return part ∷ script_lines_of parts
 cut_lines [] parts p = rw p.are
 cut_lines (c ∷ part) parts p = rw p.are
 
 -- the lines of a text that is cut at its first LF
 pub lines_cut : (b part behind : List ℕ) → slice_split is_line_end b ≡ part ∷ slice_split is_line_end behind
-    → lines b ≡ strip_carriage_return part ∷ lines behind
-unfolding lines
-lines_cut b part behind h = ap lines_of h ∙ cut_lines part (slice_split is_line_end behind) (some_parts behind)
+    → script_lines b ≡ strip_carriage_return part ∷ script_lines behind
+unfolding script_lines
+lines_cut b part behind h = ap script_lines_of h ∙ cut_lines part (slice_split is_line_end behind) (some_parts behind)
 
 -- no bytes have no line
-pub lines_none : lines [] ≡ []
-unfolding lines
+pub lines_none : script_lines [] ≡ []
+unfolding script_lines
 lines_none = refl
 
 -- a text without an LF is one line, unless it is empty
-pub lines_last : (b : List ℕ) → 0 < length b → slice_split is_line_end b ≡ b ∷ [] → lines b ≡ b ∷ []
-unfolding lines
+pub lines_last : (b : List ℕ) → 0 < length b → slice_split is_line_end b ≡ b ∷ [] → script_lines b ≡ b ∷ []
+unfolding script_lines
 lines_last [] some h = absurd (omega arith)
-lines_last (c ∷ b) some h = ap lines_of h
+lines_last (c ∷ b) some h = ap script_lines_of h

@@ -4,9 +4,9 @@ use Rattle.std.proofs.Common.{length, append_assoc, length-append}
 use Rattle.std.specs.Prelude.{Result, Ok, Err, IfErr, OnOk}
 use Rattle.std.proofs.lemmas.List.{append-nil}
 use Rattle.fish_script.proofs.Parts.{lines_none}
-use Rattle.fish_script.specs.within.Building.{IsInside, IsSoFar, IsWritten, TakesLine}
+use Rattle.fish_script.specs.within.Building.{IsInside, IsSoFar, IsScriptWritten, TakesScriptLine}
 use Rattle.fish_script.specs.Limits.{longest_script}
-use Rattle.fish_script.specs.Lines.{lines}
+use Rattle.fish_script.specs.Lines.{script_lines}
 use Rattle.fish_script.specs.Refusals.{AllSay, IsRefusal, IsScript, Says}
 use Rattle.fish_script.specs.declared.builder.ScriptBuilder.{ScriptBuilder}
 use Rattle.fish_script.specs.declared.builder.Position.{Position}
@@ -28,12 +28,12 @@ say_push (a ∷ bs) ws own b h here = (
 
 -- one line more is read
 pub more_read : (text rest line behind : List ℕ) (number : ℕ) (old new : ScriptBuilder) → IsSoFar text rest number old
-    → lines rest ≡ line ∷ lines behind → TakesLine line old new → IsSoFar text behind (number + 1) new
+    → script_lines rest ≡ line ∷ script_lines behind → TakesScriptLine line old new → IsSoFar text behind (number + 1) new
 more_read text rest line behind number old new h split takes =
     let t = takes h.ws h.builder in
     record {
       before = h.before ++ line ∷ [];
-      splits = h.splits ∙ ap (λ (z : List (List ℕ)). h.before ++ z) split ∙ sym (append_assoc h.before (line ∷ []) (lines behind));
+      splits = h.splits ∙ ap (λ (z : List (List ℕ)). h.before ++ z) split ∙ sym (append_assoc h.before (line ∷ []) (script_lines behind));
       count = omega (arith, length-append h.before (line ∷ []), h.count);
       ws = h.ws ++ t.0;
       say = say_push h.before h.ws t.0 line h.say t.1;
@@ -42,7 +42,7 @@ more_read text rest line behind number old new h split takes =
 
 -- all is read
 all_lines : (text rest : List ℕ) (number : ℕ) (d : ScriptBuilder) (h : IsSoFar text rest number d) → length rest ≡ 0
-    → lines text ≡ h.before
+    → script_lines text ≡ h.before
 all_lines text [] number d h none =
     h.splits ∙ ap (λ (z : List (List ℕ)). h.before ++ z) lines_none ∙ append-nil h.before
 all_lines text (c ∷ rest) number d h none = absurd (omega arith)
@@ -54,7 +54,7 @@ script_read text rest number d size h none outside = record {
   size = size;
   ws = h.ws;
   say = subst (λ (z : List (List ℕ)). AllSay z h.ws) (sym (all_lines text rest number d h none)) h.say;
-  blocks = (subst (λ (p : Position). IsWritten h.ws p d.blocks d.lanes d.lane) outside h.builder.written).0;
+  blocks = (subst (λ (p : Position). IsScriptWritten h.ws p d.blocks d.lanes d.lane) outside h.builder.written).0;
 }
 
 -- and else refused
@@ -74,7 +74,7 @@ end_refused text rest number d size h none inside = at d.position refl
         feeds = feeds;
         within = h.builder.position ∙ is;
         fault =
-            let count : number + 1 ≡ suc (length (lines text)) =
+            let count : number + 1 ≡ suc (length (script_lines text)) =
             omega (arith, h.count, ap (λ (z : List (List ℕ)). length z) (all_lines text rest number d h none)) in
             ap (λ (n : ℕ). refusal.Unexpected n) count;
       }),

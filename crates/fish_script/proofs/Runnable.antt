@@ -13,11 +13,12 @@ use Rattle.fish_lang.specs.Token.{is_blank}
 use Rattle.fish_lang.proofs.TokenLemmas.{both}
 use Rattle.fish_value.specs.declared.field.Form.TheVariants as form
 use Rattle.fish_value.specs.Limits.{longest_name}
-use Rattle.fish_script.specs.Lines.{lines}
+use Rattle.fish_script.specs.Lines.{script_lines}
 use Rattle.fish_script.specs.Refusals.{AllSay, IsScript, Says}
 use Rattle.fish_script.specs.Runnable.{AreRunnable, CanRun, IsRunnable, IsRunnableBlock}
-use Rattle.fish_script.specs.Script.{AllFree, AreBlocks, AreFree, AreLanes, AreRead, IsBlock, IsRead, OthersFree, Reads}
-use Rattle.fish_script.specs.ScriptLine.{csv_of, deregister_of, file_of, ingest_of, is_name, is_name_byte, json_of, look_of, mark}
+use Rattle.fish_script.specs.Script.{AllFree, AreBlocks, AreFree, AreLaneLines, AreStatementsRead, IsBlock, IsLineRead, OthersFree}
+use Rattle.fish_script.specs.Script.{ReadsStatement}
+use Rattle.fish_script.specs.ScriptLine.{csv_of, deregister_of, file_word, ingest_of, is_name, is_name_byte, json_of, look_of, mark}
 use Rattle.fish_script.specs.ScriptLine.{mark_or_statement, question_of, register_of, script_line_of, statement_line_of}
 use Rattle.fish_script.specs.Words.{unblank, word_of, words_behind}
 use Rattle.fish_script.specs.declared.script.Block.{Block}
@@ -92,18 +93,18 @@ json_named : (b : List ℕ) → MayBeNamed (json_of b)
 unfolding json_of
 json_named b =
     cond_both (list_all is_blank (words_behind b))
-    (option_map (λ (f : List ℕ). word.Ingest form.Json false f) (file_of (word_of b))) None MayBeNamed
-    (λ h. made_named (λ (f : List ℕ). word.Ingest form.Json false f) (λ x. tt) (file_of (word_of b))) (λ h. tt)
+    (option_map (λ (f : List ℕ). word.Ingest form.Json false f) (file_word (word_of b))) None MayBeNamed
+    (λ h. made_named (λ (f : List ℕ). word.Ingest form.Json false f) (λ x. tt) (file_word (word_of b))) (λ h. tt)
 
 csv_named : (b : List ℕ) → MayBeNamed (csv_of b)
 unfolding csv_of
 csv_named b =
     cond_both (list_all is_blank (words_behind b))
-    (option_map (λ (f : List ℕ). word.Ingest form.Csv false f) (file_of (word_of b))) _ MayBeNamed
-    (λ h. made_named (λ (f : List ℕ). word.Ingest form.Csv false f) (λ x. tt) (file_of (word_of b)))
+    (option_map (λ (f : List ℕ). word.Ingest form.Csv false f) (file_word (word_of b))) _ MayBeNamed
+    (λ h. made_named (λ (f : List ℕ). word.Ingest form.Csv false f) (λ x. tt) (file_word (word_of b)))
     (λ h. cond_both (bytes_eq (word_of (words_behind b)) (codes "header") && list_all is_blank (words_behind (words_behind b)))
-    (option_map (λ (f : List ℕ). word.Ingest form.Csv true f) (file_of (word_of b))) None MayBeNamed
-    (λ h. made_named (λ (f : List ℕ). word.Ingest form.Csv true f) (λ x. tt) (file_of (word_of b))) (λ h. tt))
+    (option_map (λ (f : List ℕ). word.Ingest form.Csv true f) (file_word (word_of b))) None MayBeNamed
+    (λ h. made_named (λ (f : List ℕ). word.Ingest form.Csv true f) (λ x. tt) (file_word (word_of b))) (λ h. tt))
 
 ingest_named : (b : List ℕ) → MayBeNamed (ingest_of b)
 unfolding ingest_of
@@ -192,7 +193,7 @@ lines_named (b ∷ bs) ws h =
 -- ---- statements
 
 -- what is worded with a name can be run
-reads_run : (w : StatementLine) (s : Statement) → IsNamed w → Reads w s → IsRunnable s
+reads_run : (w : StatementLine) (s : Statement) → IsNamed w → ReadsStatement w s → IsRunnable s
 reads_run (word.Register name source) s named h =
     let size = name_size name named in subst IsRunnable (sym h.1) (size.0, size.1, (source, h.2))
 reads_run (word.Deregister name) s named h = subst IsRunnable (sym h) tt
@@ -202,14 +203,14 @@ reads_run (word.Explain look) s named h = subst IsRunnable (sym h) tt
 reads_run word.Checkpoint s named h = subst IsRunnable (sym h) tt
 
 -- and so a line
-line_runs : (l : ScriptLine) (s : Statement) → SaysNamed l → IsRead l s → IsRunnable s
+line_runs : (l : ScriptLine) (s : Statement) → SaysNamed l → IsLineRead l s → IsRunnable s
 line_runs said.Lanes s named h = absurd h
 line_runs said.Lane s named h = absurd h
 line_runs said.End s named h = absurd h
 line_runs (said.Statement w) s named h = reads_run w s named h
 
 -- and those of a lane
-lane_runs : (ws : List ScriptLine) (ss : List Statement) → AllNamed ws → AreRead ws ss → AreRunnable ss
+lane_runs : (ws : List ScriptLine) (ss : List Statement) → AllNamed ws → AreStatementsRead ws ss → AreRunnable ss
 lane_runs ws [] named h i s there = absurd cc
 lane_runs [] (t ∷ ss) named h i s there = absurd h
 lane_runs (l ∷ ws) (t ∷ ss) named h zero s there = subst IsRunnable (same_Some t s there) (line_runs l t named.0 h.0)
@@ -218,7 +219,7 @@ lane_runs (l ∷ ws) (t ∷ ss) named h (suc i) s there = lane_runs ws ss named.
 -- ---- lanes
 
 -- those of each lane
-lanes_run : (ws : List ScriptLine) (lanes : List (List Statement)) → AllNamed ws → AreLanes ws lanes
+lanes_run : (ws : List ScriptLine) (lanes : List (List Statement)) → AllNamed ws → AreLaneLines ws lanes
     → (i : ℕ) (ss : List Statement) → slice_get lanes i ≡ Some ss → AreRunnable ss
 lanes_run ws [] named h i ss there = absurd cc
 lanes_run ws (ts ∷ lanes) named h zero ss there =
@@ -291,4 +292,4 @@ blocks_run ws (c ∷ bs) named h (suc i) b there =
 
 -- what a script is made of can be run
 pub script_can_run : (text : List ℕ) (script : List Block) → IsScript text script → CanRun script
-script_can_run text script h = blocks_run h.ws script (lines_named (lines text) h.ws h.say) h.blocks
+script_can_run text script h = blocks_run h.ws script (lines_named (script_lines text) h.ws h.say) h.blocks

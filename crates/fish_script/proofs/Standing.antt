@@ -5,8 +5,8 @@ use Rattle.std.specs.Prelude.{Bool, true, false, count_by, if◌then◌else◌}
 use Rattle.std.proofs.lemmas.List.Sums.{sum_by-cons}
 use Rattle.fish_script.proofs.Writing.{feed_read}
 use Rattle.fish_script.specs.Limits.{most_feeds, most_lanes}
-use Rattle.fish_script.specs.Positions.{AllStand, Stands, position_after, position_from}
-use Rattle.fish_script.specs.Script.{AllFree, AreBlocks, AreFree, AreLanes, AreRead, IsBlock, IsRead, OthersFree}
+use Rattle.fish_script.specs.Positions.{AllStand, IsPlaced, position_after, position_from}
+use Rattle.fish_script.specs.Script.{AllFree, AreBlocks, AreFree, AreLaneLines, AreStatementsRead, IsBlock, IsLineRead, OthersFree}
 use Rattle.fish_script.specs.Script.{feeds_of, is_control, is_feed}
 use Rattle.fish_script.specs.declared.builder.Position.{Position}
 use Rattle.fish_script.specs.declared.builder.Position.TheVariants.{Outside, Inside}
@@ -25,7 +25,7 @@ pub leads_none : (p : Position) → Leads p [] p
 leads_none p = record { stand = tt; position = refl }
 
 -- one line more in front
-pub leads_line : (p q r : Position) (l : ScriptLine) (ws : List ScriptLine) → Stands p l → position_after p l ≡ q → Leads q ws r
+pub leads_line : (p q r : Position) (l : ScriptLine) (ws : List ScriptLine) → IsPlaced p l → position_after p l ≡ q → Leads q ws r
     → Leads p (l ∷ ws) r
 leads_line p q r l ws here e h = record {
   stand = (here, subst (λ (z : Position). AllStand z ws) (sym e) h.stand);
@@ -40,7 +40,7 @@ leads_append p q r (x ∷ xs) ys h k =
     (leads_append (position_after p x) q r xs ys (record { stand = h.stand.1; position = h.position }) k)
 
 -- the statements of a lane: those of control in the first lane alone
-stand_statements : (ws : List ScriptLine) (ss : List Statement) (k f : ℕ) → AreRead ws ss → 1 ≤ k → (k ≤ 1) ⊎ AreFree ss
+stand_statements : (ws : List ScriptLine) (ss : List Statement) (k f : ℕ) → AreStatementsRead ws ss → 1 ≤ k → (k ≤ 1) ⊎ AreFree ss
     → f + count_by is_feed ss ≤ most_feeds → Leads (Inside k f) ws (Inside k (f + count_by is_feed ss))
 stand_statements [] [] k f h some free few =
     let e : f ≡ f + 0 = omega arith in subst (λ (n : ℕ). Leads (Inside k f) [] (Inside k n)) e (leads_none (Inside k f))
@@ -85,7 +85,7 @@ stand_statements (said.Statement w ∷ ws) (s ∷ ss) k f h some free few =
         omega (arith, few)
 
 -- the lanes of a block, after so many
-stand_lanes : (ws : List ScriptLine) (lanes : List (List Statement)) (k f : ℕ) → AreLanes ws lanes → k + length lanes ≤ most_lanes
+stand_lanes : (ws : List ScriptLine) (lanes : List (List Statement)) (k f : ℕ) → AreLaneLines ws lanes → k + length lanes ≤ most_lanes
     → f + feeds_of lanes ≤ most_feeds → ((k ≡ 0) × OthersFree lanes) ⊎ AllFree lanes
     → Leads (Inside k f) ws (Inside (k + length lanes) (f + feeds_of lanes))
 stand_lanes ws [] k f h few few_feeds free =
@@ -128,7 +128,7 @@ stand_block own true lanes h =
 stand_block own false lanes h =
     subst (λ (z : List ScriptLine). Leads Outside z Outside) (sym h.lines) (alone h.line h.read)
   where
-    alone : (l : ScriptLine) → IsRead l h.statement → Leads Outside (l ∷ []) Outside
+    alone : (l : ScriptLine) → IsLineRead l h.statement → Leads Outside (l ∷ []) Outside
     alone said.Lanes reads = absurd reads
     alone said.Lane reads = absurd reads
     alone said.End reads = absurd reads

@@ -5,10 +5,10 @@ use Rattle.std.specs.Prelude.{Bool, true, false, count_by, if◌then◌else◌}
 use Rattle.std.proofs.lemmas.List.Sums.{sum_by_push}
 use Rattle.fish_script.proofs.Appending.{blocks_push, feeds_push, lanes_push, others_begin, others_push}
 use Rattle.fish_script.proofs.Appending.{read_push}
-use Rattle.fish_script.specs.within.Building.{IsBegun, IsWritten}
+use Rattle.fish_script.specs.within.Building.{IsBegun, IsScriptWritten}
 use Rattle.fish_script.specs.Limits.{most_feeds, most_lanes}
 use Rattle.fish_script.specs.Positions.{Fits, position_after, with_feed}
-use Rattle.fish_script.specs.Script.{AreBlocks, AreLanes, Reads, feeds_of, is_feed}
+use Rattle.fish_script.specs.Script.{AreBlocks, AreLaneLines, ReadsStatement, feeds_of, is_feed}
 use Rattle.fish_script.specs.declared.builder.Position.TheVariants.{Outside, Inside}
 use Rattle.fish_script.specs.declared.script.Block.{Block}
 use Rattle.fish_script.specs.declared.script.Statement.{Statement}
@@ -19,7 +19,7 @@ use Rattle.fish_script.specs.declared.script_line.ScriptLine.TheVariants as said
 
 -- `lanes`
 pub written_lanes : (ws : List ScriptLine) (blocks : List Block) (lanes : List (List Statement)) (lane : List Statement)
-    → IsWritten ws Outside blocks lanes lane → IsWritten (ws ++ said.Lanes ∷ []) (Inside 0 0) blocks lanes lane
+    → IsScriptWritten ws Outside blocks lanes lane → IsScriptWritten (ws ++ said.Lanes ∷ []) (Inside 0 0) blocks lanes lane
 written_lanes ws blocks lanes lane h = (ws, [], refl, h.0, (refl, refl, h.1, h.2))
 
 -- one line more inside of a block
@@ -44,7 +44,7 @@ first_lane = record {
 
 -- the first `lane`
 pub written_first : (ws : List ScriptLine) (feeds : ℕ) (blocks : List Block) (lanes : List (List Statement)) (lane : List Statement)
-    → IsWritten ws (Inside 0 feeds) blocks lanes lane → IsWritten (ws ++ said.Lane ∷ []) (Inside 1 feeds) blocks lanes lane
+    → IsScriptWritten ws (Inside 0 feeds) blocks lanes lane → IsScriptWritten (ws ++ said.Lane ∷ []) (Inside 1 feeds) blocks lanes lane
 written_first ws feeds blocks lanes lane h = (
   h.0,
   h.1 ++ said.Lane ∷ [],
@@ -58,8 +58,8 @@ written_first ws feeds blocks lanes lane h = (
 
 -- a later `lane`
 pub written_next : (ws : List ScriptLine) (more feeds : ℕ) (blocks : List Block) (lanes : List (List Statement)) (lane : List Statement)
-    → IsWritten ws (Inside (suc more) feeds) blocks lanes lane → suc more < most_lanes
-    → IsWritten (ws ++ said.Lane ∷ []) (Inside (suc (suc more)) feeds) blocks (lanes ++ lane ∷ []) []
+    → IsScriptWritten ws (Inside (suc more) feeds) blocks lanes lane → suc more < most_lanes
+    → IsScriptWritten (ws ++ said.Lane ∷ []) (Inside (suc (suc more)) feeds) blocks (lanes ++ lane ∷ []) []
 written_next ws more feeds blocks lanes lane h room =
     let b : IsBegun h.1 more feeds lanes lane = h.4 in (
       h.0,
@@ -70,7 +70,7 @@ written_next ws more feeds blocks lanes lane h room =
         ended = h.1;
         own = [];
         lines = refl;
-        are = subst (λ (z : List ScriptLine). AreLanes z (lanes ++ lane ∷ [])) (sym b.lines)
+        are = subst (λ (z : List ScriptLine). AreLaneLines z (lanes ++ lane ∷ [])) (sym b.lines)
             (lanes_push b.ended b.own lanes lane b.are b.read);
         read = tt;
         count = omega (arith, length-append lanes (lane ∷ []), b.count);
@@ -83,7 +83,7 @@ written_next ws more feeds blocks lanes lane h room =
 
 -- `end`
 pub written_end : (ws : List ScriptLine) (more feeds : ℕ) (blocks : List Block) (lanes : List (List Statement)) (lane : List Statement)
-    → IsWritten ws (Inside (suc more) feeds) blocks lanes lane
+    → IsScriptWritten ws (Inside (suc more) feeds) blocks lanes lane
     → AreBlocks (ws ++ said.End ∷ []) (blocks ++ record { several = true; lanes = lanes ++ lane ∷ [] } ∷ [])
 written_end ws more feeds blocks lanes lane h =
     let b : IsBegun h.1 more feeds lanes lane = h.4 in
@@ -92,7 +92,7 @@ written_end ws more feeds blocks lanes lane h =
     (blocks_push h.0 (said.Lanes ∷ (h.1 ++ said.End ∷ [])) blocks (record { several = true; lanes = lanes ++ lane ∷ [] }) h.3 (record {
       inside = h.1;
       lines = refl;
-      are = subst (λ (z : List ScriptLine). AreLanes z (lanes ++ lane ∷ [])) (sym b.lines)
+      are = subst (λ (z : List ScriptLine). AreLaneLines z (lanes ++ lane ∷ [])) (sym b.lines)
           (lanes_push b.ended b.own lanes lane b.are b.read);
       some = omega (arith, length-append lanes (lane ∷ []));
       few = omega (arith, length-append lanes (lane ∷ []), b.count, b.few);
@@ -101,7 +101,8 @@ written_end ws more feeds blocks lanes lane h =
     }))
 
 -- a statement by itself
-pub written_alone : (ws : List ScriptLine) (blocks : List Block) (w : StatementLine) (s : Statement) → AreBlocks ws blocks → Reads w s
+pub written_alone : (ws : List ScriptLine) (blocks : List Block) (w : StatementLine) (s : Statement) → AreBlocks ws blocks
+    → ReadsStatement w s
     → AreBlocks (ws ++ said.Statement w ∷ []) (blocks ++ record { several = false; lanes = (s ∷ []) ∷ [] } ∷ [])
 written_alone ws blocks w s h reads =
     blocks_push ws (said.Statement w ∷ []) blocks (record { several = false; lanes = (s ∷ []) ∷ [] }) h (record {
@@ -118,9 +119,9 @@ files_push lane s = sum_by_push (λ (t : Statement). cond (is_feed t) 1 0) lane 
 
 -- a statement in a lane
 pub written_statement : (ws : List ScriptLine) (begun feeds : ℕ) (blocks : List Block) (lanes : List (List Statement))
-    (lane : List Statement) (w : StatementLine) (s : Statement) → IsWritten ws (Inside begun feeds) blocks lanes lane → 1 ≤ begun
-    → Reads w s → Fits (Inside begun feeds) s
-    → IsWritten (ws ++ said.Statement w ∷ []) (Inside begun (if is_feed s then feeds + 1 else feeds)) blocks lanes (lane ++ s ∷ [])
+    (lane : List Statement) (w : StatementLine) (s : Statement) → IsScriptWritten ws (Inside begun feeds) blocks lanes lane → 1 ≤ begun
+    → ReadsStatement w s → Fits (Inside begun feeds) s
+    → IsScriptWritten (ws ++ said.Statement w ∷ []) (Inside begun (if is_feed s then feeds + 1 else feeds)) blocks lanes (lane ++ s ∷ [])
 written_statement ws zero feeds blocks lanes lane w s h some reads fits = absurd (omega arith)
 written_statement ws (suc more) feeds blocks lanes lane w s h some reads fits =
     let b : IsBegun h.1 more feeds lanes lane = h.4 in (
@@ -160,7 +161,8 @@ written_statement ws (suc more) feeds blocks lanes lane w s h some reads fits =
     few_feeds false is = rw is h.4.few_feeds
 
 -- a statement stores a file where its statement_line does
-pub feed_read : (feeds : ℕ) (w : StatementLine) (s : Statement) → Reads w s → (if is_feed s then feeds + 1 else feeds) ≡ with_feed w feeds
+pub feed_read : (feeds : ℕ) (w : StatementLine) (s : Statement) → ReadsStatement w s → (if is_feed s then feeds + 1 else feeds)
+    ≡ with_feed w feeds
 feed_read feeds (word.Register name source) s reads = let e : is_feed s ≡ false = ap is_feed reads.1 in rw e
 feed_read feeds (word.Deregister name) s reads = let e : is_feed s ≡ false = ap is_feed reads in rw e
 feed_read feeds (word.Ingest form header file) s reads = let e : is_feed s ≡ true = ap is_feed reads in rw e
@@ -169,6 +171,6 @@ feed_read feeds (word.Explain look) s reads = let e : is_feed s ≡ false = ap i
 feed_read feeds word.Checkpoint s reads = let e : is_feed s ≡ false = ap is_feed reads in rw e
 
 -- where the line after a statement stands
-pub place_statement : (begun feeds : ℕ) (w : StatementLine) (s : Statement) → Reads w s
+pub place_statement : (begun feeds : ℕ) (w : StatementLine) (s : Statement) → ReadsStatement w s
     → Inside begun (if is_feed s then feeds + 1 else feeds) ≡ position_after (Inside begun feeds) (said.Statement w)
 place_statement begun feeds w s reads = ap (λ (n : ℕ). Inside begun n) (feed_read feeds w s reads)

@@ -29,8 +29,8 @@ IsAlike (does.Scan name value from to by) t = t ≡ does.Scan name value from to
 IsAlike (does.Explain name value from to by) t = t ≡ does.Explain name value from to by
 IsAlike does.Checkpoint t = t ≡ does.Checkpoint
 
--- the lists are as long, and each two elements at one position are so to each other
-abbrev pub Pairs : {A : Type 0} → (A → A → Type 0) → List A → List A → Type 0
+-- the two lists are as long, and R holds of each two elements at one position
+abbrev pub Pairs : {A B : Type 0} → (A → B → Type 0) → List A → List B → Type 0
 Pairs R [] [] = Unit {0}
 Pairs R [] (y ∷ ys) = ⊥
 Pairs R (x ∷ xs) [] = ⊥

@@ -6,12 +6,12 @@ use Rattle.fish_json.specs.Lines.{is_line_end}
 
 -- the lines of the parts round the LFs: one CR before an LF is dropped, and what follows the last LF is a
 -- line where it isn't empty
-abbrev pub lines_of : List (List ℕ) → List (List ℕ)
-lines_of [] = []
-lines_of ([] ∷ []) = []
-lines_of ((c ∷ rest) ∷ []) = (c ∷ rest) ∷ []
-lines_of (part ∷ next ∷ parts) = strip_carriage_return part ∷ lines_of (next ∷ parts)
+abbrev pub script_lines_of : List (List ℕ) → List (List ℕ)
+script_lines_of [] = []
+script_lines_of ([] ∷ []) = []
+script_lines_of ((c ∷ rest) ∷ []) = (c ∷ rest) ∷ []
+script_lines_of (part ∷ next ∷ parts) = strip_carriage_return part ∷ script_lines_of (next ∷ parts)
 
 -- the lines of a text
-unfoldable pub lines : List ℕ → List (List ℕ)
-lines b = lines_of (slice_split is_line_end b)
+unfoldable pub script_lines : List ℕ → List (List ℕ)
+script_lines b = script_lines_of (slice_split is_line_end b)

@@ -1,7 +1,7 @@
 -- Where a line stands, by what the lines before it say, and what may stand there.
 use Rattle.std.specs.Prelude.{◌≡◌, ℕ, ◌+◌, ◌<◌, ◌≤◌, List, [], ◌∷◌, true}
 use Rattle.fish_script.specs.Limits.{most_feeds, most_lanes}
-use Rattle.fish_script.specs.Script.{Reads, is_control, is_feed}
+use Rattle.fish_script.specs.Script.{ReadsStatement, is_control, is_feed}
 use Rattle.fish_script.specs.declared.builder.Position.{Position}
 use Rattle.fish_script.specs.declared.builder.Position.TheVariants.{Outside, Inside}
 use Rattle.fish_script.specs.declared.script.Statement.{Statement}
@@ -60,13 +60,13 @@ abbrev pub IsInOrder : Position → ScriptLine → Type 0
 IsInOrder p said.Lanes = Unit {0}
 IsInOrder p said.End = Unit {0}
 IsInOrder p said.Lane = FitsLane p
-IsInOrder p (said.Statement w) = (s : Statement) × Reads w s × Fits p s
+IsInOrder p (said.Statement w) = (s : Statement) × ReadsStatement w s × Fits p s
 
 -- the line is in order there
-abbrev pub Stands : Position → ScriptLine → Type 0
-Stands p l = (¬ IsMisplaced p l) × IsInOrder p l
+abbrev pub IsPlaced : Position → ScriptLine → Type 0
+IsPlaced p l = (¬ IsMisplaced p l) × IsInOrder p l
 
 -- each of the lines is in order
 abbrev pub AllStand : Position → List ScriptLine → Type 0
 AllStand p [] = Unit {0}
-AllStand p (w ∷ ws) = Stands p w × AllStand (position_after p w) ws
+AllStand p (w ∷ ws) = IsPlaced p w × AllStand (position_after p w) ws

@@ -4,9 +4,9 @@ use Rattle.std.specs.Prelude.{length}
 use Rattle.fish_lang.specs.Language.{IsOutcome}
 use Rattle.fish_lang.specs.declared.parse.LangRefusal.{LangRefusal}
 use Rattle.fish_script.specs.Limits.{longest_script, most_feeds, most_lanes}
-use Rattle.fish_script.specs.Lines.{lines}
+use Rattle.fish_script.specs.Lines.{script_lines}
 use Rattle.fish_script.specs.Positions.{AllStand, IsMisplaced, position_of}
-use Rattle.fish_script.specs.Script.{AreBlocks, Reads, is_control, is_feed}
+use Rattle.fish_script.specs.Script.{AreBlocks, ReadsStatement, is_control, is_feed}
 use Rattle.fish_script.specs.ScriptLine.{script_line_of}
 use Rattle.fish_script.specs.Words.{is_skipped}
 use Rattle.fish_script.specs.declared.builder.Position.{Position}
@@ -61,9 +61,10 @@ IsFault p l n (refusal.Unexpected line) = (line ≡ n) × IsMisplaced p l
 IsFault p (said.Statement w) n (refusal.Definition line why) =
     (line ≡ n) × (¬ IsMisplaced p (said.Statement w)) × HasFault w why
 IsFault p (said.Statement w) n (refusal.ControlInLane line) =
-    (line ≡ n) × (¬ IsMisplaced p (said.Statement w)) × (s : Statement) × Reads w s × IsLate p s
+    (line ≡ n) × (¬ IsMisplaced p (said.Statement w)) × (s : Statement) × ReadsStatement w s × IsLate p s
 IsFault p (said.Statement w) n (refusal.TooManyFeeds line) =
-    (line ≡ n) × (¬ IsMisplaced p (said.Statement w)) × (s : Statement) × Reads w s × (¬ IsLate p s) × IsFeedTooMany p s
+    (line ≡ n) × (¬ IsMisplaced p (said.Statement w)) × (s : Statement) × ReadsStatement w s × (¬ IsLate p s)
+    × IsFeedTooMany p s
 IsFault p l n (refusal.TooManyLanes line) = (line ≡ n) × IsLaneTooMany p l
 IsFault p l n e = ⊥
 
@@ -77,11 +78,11 @@ IsLineFault p b n e = (is_skipped b ≡ false) × IsUtf8 b
 -- ---- the whole text
 
 -- the first line that is refused is refused for this
-pub record StopsAt (text : List ℕ) (e : ScriptRefusal) : Type 0 where
+pub record StopsAtLine (text : List ℕ) (e : ScriptRefusal) : Type 0 where
   pub before : List (List ℕ)
   pub line : List ℕ
   pub behind : List (List ℕ)
-  pub splits : lines text ≡ before ++ line ∷ behind
+  pub splits : script_lines text ≡ before ++ line ∷ behind
   -- what the lines before it say
   pub ahead : List ScriptLine
   pub say : AllSay before ahead
@@ -89,24 +90,24 @@ pub record StopsAt (text : List ℕ) (e : ScriptRefusal) : Type 0 where
   pub fault : IsLineFault (position_of ahead) line (suc (length before)) e
 
 -- each line is in order, and the text ends within a block
-pub record StopsAtEnd (text : List ℕ) (e : ScriptRefusal) : Type 0 where
+pub record StopsPastLines (text : List ℕ) (e : ScriptRefusal) : Type 0 where
   pub ws : List ScriptLine
-  pub say : AllSay (lines text) ws
+  pub say : AllSay (script_lines text) ws
   pub stand : AllStand Outside ws
   pub lanes : ℕ
   pub feeds : ℕ
   pub within : position_of ws ≡ Inside lanes feeds
-  pub fault : e ≡ refusal.Unexpected (suc (length (lines text)))
+  pub fault : e ≡ refusal.Unexpected (suc (length (script_lines text)))
 
 -- the text is this script
 pub record IsScript (text : List ℕ) (script : List Block) : Type 0 where
   pub size : length text ≤ longest_script
   pub ws : List ScriptLine
-  pub say : AllSay (lines text) ws
+  pub say : AllSay (script_lines text) ws
   pub blocks : AreBlocks ws script
 
 -- the text is refused for this; memory may run out at any text
 abbrev pub IsRefusal : List ℕ → ScriptRefusal → Type 0
 IsRefusal text refusal.OutOfMemory = Unit {0}
 IsRefusal text (refusal.TooLong n) = (longest_script < length text) × (n ≡ length text)
-IsRefusal text e = (length text ≤ longest_script) × (StopsAt text e ⊎ StopsAtEnd text e)
+IsRefusal text e = (length text ≤ longest_script) × (StopsAtLine text e ⊎ StopsPastLines text e)

@@ -13,26 +13,26 @@ use Rattle.fish_script.specs.declared.script_line.ScriptLine.{ScriptLine}
 use Rattle.fish_script.specs.declared.script_line.ScriptLine.TheVariants as said
 
 -- the statement is the worded one, with its definition read
-abbrev pub Reads : StatementLine → Statement → Type 0
-Reads (word.Register name source) s =
+abbrev pub ReadsStatement : StatementLine → Statement → Type 0
+ReadsStatement (word.Register name source) s =
     (def : Def) × (s ≡ does.Register name def) × IsAccepted source (definition_of def)
-Reads (word.Deregister name) s = s ≡ does.Deregister name
-Reads (word.Ingest form header file) s = s ≡ does.Ingest form header file
-Reads (word.Scan l) s = s ≡ does.Scan l.name l.value l.range.from l.range.to l.range.by
-Reads (word.Explain l) s = s ≡ does.Explain l.name l.value l.range.from l.range.to l.range.by
-Reads word.Checkpoint s = s ≡ does.Checkpoint
+ReadsStatement (word.Deregister name) s = s ≡ does.Deregister name
+ReadsStatement (word.Ingest form header file) s = s ≡ does.Ingest form header file
+ReadsStatement (word.Scan l) s = s ≡ does.Scan l.name l.value l.range.from l.range.to l.range.by
+ReadsStatement (word.Explain l) s = s ≡ does.Explain l.name l.value l.range.from l.range.to l.range.by
+ReadsStatement word.Checkpoint s = s ≡ does.Checkpoint
 
 -- the statement is that of the line
-abbrev pub IsRead : ScriptLine → Statement → Type 0
-IsRead (said.Statement w) s = Reads w s
-IsRead l s = ⊥
+abbrev pub IsLineRead : ScriptLine → Statement → Type 0
+IsLineRead (said.Statement w) s = ReadsStatement w s
+IsLineRead l s = ⊥
 
 -- the statements are what the lines say, one a line
-abbrev pub AreRead : List ScriptLine → List Statement → Type 0
-AreRead [] [] = Unit {0}
-AreRead [] (s ∷ ss) = ⊥
-AreRead (w ∷ ws) [] = ⊥
-AreRead (w ∷ ws) (s ∷ ss) = IsRead w s × AreRead ws ss
+abbrev pub AreStatementsRead : List ScriptLine → List Statement → Type 0
+AreStatementsRead [] [] = Unit {0}
+AreStatementsRead [] (s ∷ ss) = ⊥
+AreStatementsRead (w ∷ ws) [] = ⊥
+AreStatementsRead (w ∷ ws) (s ∷ ss) = IsLineRead w s × AreStatementsRead ws ss
 
 -- it stores the records of a file
 abbrev pub is_feed : Statement → Bool
@@ -73,17 +73,17 @@ feeds_of [] = 0
 feeds_of (ss ∷ lanes) = count_by is_feed ss + feeds_of lanes
 
 -- the lines are those of the lanes: for each one `lane`, and its statements after it
-abbrev pub AreLanes : List ScriptLine → List (List Statement) → Type 0
-AreLanes ws [] = ws ≡ []
-AreLanes ws (ss ∷ lanes) =
+abbrev pub AreLaneLines : List ScriptLine → List (List Statement) → Type 0
+AreLaneLines ws [] = ws ≡ []
+AreLaneLines ws (ss ∷ lanes) =
     (own : List ScriptLine) × (others : List ScriptLine) × (ws ≡ said.Lane ∷ (own ++ others))
-    × AreRead own ss × AreLanes others lanes
+    × AreStatementsRead own ss × AreLaneLines others lanes
 
 -- the lines are `lanes`, those of the lanes, and `end`
 pub record IsSeveral (ws : List ScriptLine) (lanes : List (List Statement)) : Type 0 where
   pub inside : List ScriptLine
   pub lines : ws ≡ said.Lanes ∷ (inside ++ said.End ∷ [])
-  pub are : AreLanes inside lanes
+  pub are : AreLaneLines inside lanes
   -- there is one at least, and at most 16
   pub some : 1 ≤ length lanes
   pub few : length lanes ≤ most_lanes
@@ -92,17 +92,17 @@ pub record IsSeveral (ws : List ScriptLine) (lanes : List (List Statement)) : Ty
   pub free : OthersFree lanes
 
 -- the line is one statement by itself
-pub record IsAlone (ws : List ScriptLine) (lanes : List (List Statement)) : Type 0 where
+pub record IsLoneStatement (ws : List ScriptLine) (lanes : List (List Statement)) : Type 0 where
   pub line : ScriptLine
   pub statement : Statement
   pub lines : ws ≡ line ∷ []
-  pub read : IsRead line statement
+  pub read : IsLineRead line statement
   pub one : lanes ≡ (statement ∷ []) ∷ []
 
 -- the lines are those of a block
 abbrev pub IsBlock : List ScriptLine → Bool → List (List Statement) → Type 0
 IsBlock ws true lanes = IsSeveral ws lanes
-IsBlock ws false lanes = IsAlone ws lanes
+IsBlock ws false lanes = IsLoneStatement ws lanes
 
 -- the lines are those of the blocks, one after the other
 abbrev pub AreBlocks : List ScriptLine → List Block → Type 0

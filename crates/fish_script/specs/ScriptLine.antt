@@ -6,6 +6,7 @@ use Rattle.std.specs.List.{list_all}
 use Rattle.std.specs.Str.{bytes_eq}
 use Rattle.serde_json.specs.Find.{as_str}
 use Rattle.fish_lang.specs.Token.{is_blank}
+use Rattle.fish_value.specs.BareWord.{is_bare_word}
 use Rattle.fish_value.specs.Json.{reading}
 use Rattle.fish_value.specs.Number.{int_of}
 use Rattle.fish_value.specs.ValueText.{is_quoted, value_text}
@@ -35,21 +36,13 @@ is_name w =
     nat_lt 0 (length w) && nat_le (length w) longest_name && list_all is_name_byte w
     && not (is_ascii_digit (slice_index w 0))
 
--- a byte that can stand in a bare word: graphic ASCII but the quotation mark and the number sign
-abbrev pub is_bare_byte : ℕ → Bool
-is_bare_byte c = nat_le 0x21 c && nat_le c 0x7e && not (c == 34) && not (c == 35)
-
--- a file's name as a bare word
-abbrev pub is_bare_word : List ℕ → Bool
-is_bare_word w = nat_lt 0 (length w) && list_all is_bare_byte w
-
 -- a text that isn't empty
 abbrev pub filled : List ℕ → Option (List ℕ)
 filled s = if nat_lt 0 (length s) then Some s else None
 
 -- the file that a word names: a bare word, or a JSON string that isn't empty
-unfoldable pub file_of : List ℕ → Option (List ℕ)
-file_of w =
+unfoldable pub file_word : List ℕ → Option (List ℕ)
+file_word w =
     if is_bare_word w then Some w else (
     if is_quoted w then option_and_then filled (option_and_then as_str (reading w)) else None)
 
@@ -119,15 +112,15 @@ deregister_of b =
 unfoldable pub json_of : List ℕ → Option StatementLine
 json_of b =
     if list_all is_blank (words_behind b)
-    then option_map (λ (f : List ℕ). does.Ingest form.Json false f) (file_of (word_of b)) else None
+    then option_map (λ (f : List ℕ). does.Ingest form.Json false f) (file_word (word_of b)) else None
 
 -- `FILE [header]`
 unfoldable pub csv_of : List ℕ → Option StatementLine
 csv_of b =
     if list_all is_blank (words_behind b)
-    then option_map (λ (f : List ℕ). does.Ingest form.Csv false f) (file_of (word_of b)) else (
+    then option_map (λ (f : List ℕ). does.Ingest form.Csv false f) (file_word (word_of b)) else (
     if bytes_eq (word_of (words_behind b)) (codes "header") && list_all is_blank (words_behind (words_behind b))
-    then option_map (λ (f : List ℕ). does.Ingest form.Csv true f) (file_of (word_of b)) else None)
+    then option_map (λ (f : List ℕ). does.Ingest form.Csv true f) (file_word (word_of b)) else None)
 
 -- `json FILE` or `csv FILE [header]`
 unfoldable pub ingest_of : List ℕ → Option StatementLine

@@ -17,16 +17,16 @@ abbrev pub is_skipped : List ℕ → Bool
 is_skipped b = is_comment (unblank b)
 
 -- how many bytes stand before the next blank
-abbrev pub run_length : List ℕ → ℕ
-run_length [] = 0
-run_length (c ∷ b) = if is_blank c then 0 else suc (run_length b)
+abbrev pub word_length : List ℕ → ℕ
+word_length [] = 0
+word_length (c ∷ b) = if is_blank c then 0 else suc (word_length b)
 
 -- how many bytes the word at the front has: up to the next blank, or to the next one after the string that begins
 -- there
 unfoldable pub word_size : List ℕ → ℕ
 word_size [] = 0
 word_size (c ∷ b) =
-    if c == 34 then suc (string_length false b + run_length (drop (string_length false b) b)) else run_length (c ∷ b)
+    if c == 34 then suc (string_length false b + word_length (drop (string_length false b) b)) else word_length (c ∷ b)
 
 -- the first word of a line, or no bytes where there is none
 unfoldable pub word_of : List ℕ → List ℕ

@@ -2,10 +2,10 @@
 //! for it.
 
 ghost use Rattle.std.specs.Prelude.{◌≡◌, ◌↔◌, ◌<◌, ◌++◌, ◌∷◌, [], IfErr, IfOk, IsTrue, MatchOption, OnOk, true, false};
-ghost use Rattle.fish_script.specs.within.Building.{IsInFront, IsInside, IsNoDefinition, IsPast, UnlessMemory};
+ghost use Rattle.fish_script.specs.within.Building.{IsInFront, IsInside, IsNoDefinition, IsPast, UnlessOutOfMemory};
 ghost use Rattle.fish_script.specs.Limits.{most_lanes};
 ghost use Rattle.fish_script.specs.Positions.{Fits};
-ghost use Rattle.fish_script.specs.Script.{Reads, is_control, is_feed};
+ghost use Rattle.fish_script.specs.Script.{ReadsStatement, is_control, is_feed};
 ghost use Rattle.fish_script.specs.declared.script_line.StatementLine.TheVariants as word;
 
 use crate::refusal::ScriptRefusal;
@@ -44,7 +44,7 @@ pub struct ScriptBuilder {
 }
 
 impl ScriptBuilder {
-    ghost use Rattle.fish_script.specs.within.Building.{HasBuilt, Pushes, Takes, TakesLine};
+    ghost use Rattle.fish_script.specs.within.Building.{HasBuilt, Pushes, Takes, TakesScriptLine};
     ghost use Rattle.fish_script.specs.Refusals.{IsFault, IsLineFault};
     ghost use Rattle.fish_script.specs.declared.builder.Position.TheVariants.{Inside, Outside};
     ghost use Rattle.fish_script.specs.declared.script_line.ScriptLine.TheVariants as said;
@@ -64,8 +64,8 @@ impl ScriptBuilder {
 
     /// Takes the line with a number.
     pub fn take_line(&mut self, number: u64, line: &[u8]) -> Result<(), ScriptRefusal>
-        ensures taken { OnOk result (TakesLine line.now self.old self.new) }
-        ensures refused { IfErr result (UnlessMemory (IsLineFault self.old.position line.now number)) }
+        ensures taken { OnOk result (TakesScriptLine line.now self.old self.new) }
+        ensures refused { IfErr result (UnlessOutOfMemory (IsLineFault self.old.position line.now number)) }
     {
         if is_skipped(line) {
             return Ok(());
@@ -82,7 +82,7 @@ impl ScriptBuilder {
     /// Takes what the line says.
     fn take(&mut self, number: u64, said: ScriptLine) -> Result<(), ScriptRefusal>
         ensures taken { OnOk result (Takes said self.old self.new) }
-        ensures refused { IfErr result (UnlessMemory (IsFault self.old.position said number)) }
+        ensures refused { IfErr result (UnlessOutOfMemory (IsFault self.old.position said number)) }
     {
         match said {
             ScriptLine::Lanes => self.open_block(number),
@@ -95,7 +95,7 @@ impl ScriptBuilder {
     /// `lanes`
     fn open_block(&mut self, number: u64) -> Result<(), ScriptRefusal>
         ensures taken { OnOk result (Takes said.Lanes self.old self.new) }
-        ensures refused { IfErr result (UnlessMemory (IsFault self.old.position said.Lanes number)) }
+        ensures refused { IfErr result (UnlessOutOfMemory (IsFault self.old.position said.Lanes number)) }
     {
         match self.position {
             Position::Outside => {
@@ -109,7 +109,7 @@ impl ScriptBuilder {
     /// `lane`
     fn begin_lane(&mut self, number: u64) -> Result<(), ScriptRefusal>
         ensures taken { OnOk result (Takes said.Lane self.old self.new) }
-        ensures refused { IfErr result (UnlessMemory (IsFault self.old.position said.Lane number)) }
+        ensures refused { IfErr result (UnlessOutOfMemory (IsFault self.old.position said.Lane number)) }
     {
         let Position::Inside { lanes, feeds } = self.position else {
             return Err(ScriptRefusal::Unexpected { line: number });
@@ -141,7 +141,7 @@ impl ScriptBuilder {
     /// `end`
     fn end_block(&mut self, number: u64) -> Result<(), ScriptRefusal>
         ensures taken { OnOk result (Takes said.End self.old self.new) }
-        ensures refused { IfErr result (UnlessMemory (IsFault self.old.position said.End number)) }
+        ensures refused { IfErr result (UnlessOutOfMemory (IsFault self.old.position said.End number)) }
     {
         match self.position {
             Position::Inside { lanes, .. } if lanes > 0 => Ok(self.close_block()?),
@@ -185,7 +185,7 @@ impl ScriptBuilder {
     ) -> Result<(), ScriptRefusal>
         ensures taken { OnOk result (Takes (said.Statement statement_line) self.old self.new) }
         ensures refused { IfErr result
-            (UnlessMemory (IsFault self.old.position (said.Statement statement_line) number)) }
+            (UnlessOutOfMemory (IsFault self.old.position (said.Statement statement_line) number)) }
     {
         if is_in_front(self.position) {
             drop(statement_line);
@@ -308,8 +308,8 @@ fn read_statement(
     number: u64,
     statement_line: StatementLine,
 ) -> Result<Statement, ScriptRefusal>
-    ensures read { IfOk result (Reads statement_line) }
-    ensures refused { IfErr result (UnlessMemory (IsNoDefinition statement_line number)) }
+    ensures read { IfOk result (ReadsStatement statement_line) }
+    ensures refused { IfErr result (UnlessOutOfMemory (IsNoDefinition statement_line number)) }
 {
     match statement_line {
         StatementLine::Register { name, source } => read_register(alloc, number, name, source),
@@ -332,8 +332,8 @@ fn read_register(
     name: Text,
     source: Bytes,
 ) -> Result<Statement, ScriptRefusal>
-    ensures read { IfOk result (Reads (word.Register name source)) }
-    ensures refused { IfErr result (UnlessMemory (IsNoDefinition (word.Register name source) number)) }
+    ensures read { IfOk result (ReadsStatement (word.Register name source)) }
+    ensures refused { IfErr result (UnlessOutOfMemory (IsNoDefinition (word.Register name source) number)) }
 {
     match parse_def(alloc, source.as_bytes()) {
         Ok(def) => Ok(Statement::Register { name, def }),
@@ -346,7 +346,7 @@ fn read_register(
 }
 
 fn scan(look: Look) -> Statement
-    ensures { Reads (word.Scan look) result }
+    ensures { ReadsStatement (word.Scan look) result }
 {
     let Look { name, value, range } = look;
     let Range { from, to, by } = range;
@@ -360,7 +360,7 @@ fn scan(look: Look) -> Statement
 }
 
 fn explain(look: Look) -> Statement
-    ensures { Reads (word.Explain look) result }
+    ensures { ReadsStatement (word.Explain look) result }
 {
     let Look { name, value, range } = look;
     let Range { from, to, by } = range;

@@ -2,16 +2,17 @@
 
 ghost use Rattle.std.specs.Prelude.{◌≡◌, true, IfOk};
 ghost use Rattle.std.specs.List.{list_all};
+ghost use Rattle.fish_value.specs.BareWord.{is_bare_word};
 ghost use Rattle.fish_value.specs.ValueText.{is_quoted};
-ghost use Rattle.fish_script.specs.ScriptLine.{file_of, is_bare_byte, is_bare_word, is_name, is_name_byte};
+ghost use Rattle.fish_script.specs.ScriptLine.{file_word, is_name, is_name_byte};
 
-use fish_value::{MAX_NAME, Text, read_json};
+use fish_value::{MAX_NAME, Text, is_bare_word, read_json};
 use std::alloc::{AllocError, Global};
 
 /// The file that a word names: a bare word, or a JSON string that isn't empty.
-#[tactic(auto, unfolding(crate::specs::ScriptLine::file_of))]
+#[tactic(auto, unfolding(crate::specs::ScriptLine::file_word))]
 pub(crate) fn read_file(alloc: Global, word: &[u8]) -> Result<Option<Text>, AllocError>
-    ensures { IfOk result (λ file. file ≡ file_of word.now) }
+    ensures { IfOk result (λ file. file ≡ file_word word.now) }
 {
     if is_bare_word(word) {
         return Ok(Some(bare_text(alloc, word)?));
@@ -56,25 +57,6 @@ fn is_name_byte(c: u8) -> bool
     ensures { result ≡ is_name_byte c }
 {
     c.is_ascii_alphanumeric() || c == b'_'
-}
-
-/// Whether a word can name a file as it stands: graphic ASCII but `"` and `#`.
-fn is_bare_word(w: &[u8]) -> bool
-    ensures { result ≡ is_bare_word w.now }
-{
-    !w.is_empty() && has_bare_bytes(w)
-}
-
-fn has_bare_bytes(w: &[u8]) -> bool
-    ensures { result ≡ list_all is_bare_byte w.now }
-{
-    w.iter().all(|c| is_bare_byte(*c))
-}
-
-fn is_bare_byte(c: u8) -> bool
-    ensures { result ≡ is_bare_byte c }
-{
-    0x21 <= c && c <= 0x7e && c != b'"' && c != b'#'
 }
 
 /// The text of a name.

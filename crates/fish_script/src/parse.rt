@@ -2,7 +2,7 @@
 
 ghost use Rattle.std.specs.Prelude.{◌≤◌, length, IfErr, IfOk, OnOk, []};
 ghost use Rattle.fish_script.specs.Limits.{longest_script};
-ghost use Rattle.fish_script.specs.within.Building.{HasBuilt, IsSoFar, UnlessMemory};
+ghost use Rattle.fish_script.specs.within.Building.{HasBuilt, IsSoFar, UnlessOutOfMemory};
 ghost use Rattle.fish_script.specs.Refusals.{IsRefusal, IsScript};
 
 use crate::builder::ScriptBuilder;

@@ -4,7 +4,7 @@
 ghost use Rattle.std.specs.Prelude.{◌≡◌, ◌≤◌, false, length, drop};
 ghost use Rattle.std.specs.List.{list_all};
 ghost use Rattle.fish_lang.specs.Token.{is_blank, string_length};
-ghost use Rattle.fish_script.specs.Words.{is_comment, is_skipped, run_length, unblank, word_of, word_size};
+ghost use Rattle.fish_script.specs.Words.{is_comment, is_skipped, word_length, unblank, word_of, word_size};
 ghost use Rattle.fish_script.specs.Words.{words_behind};
 
 /// The first word of a line, and what follows it. The word is empty where there is none.
@@ -87,7 +87,7 @@ fn word_size(b: &[u8]) -> usize
 
 /// How many bytes stand before the next blank.
 fn run(b: &[u8]) -> usize
-    ensures value { result ≡ run_length b.now }
+    ensures value { result ≡ word_length b.now }
     ensures bound { result ≤ length b.now }
 {
     for (i, c) in b.iter().enumerate() {

@@ -8,14 +8,14 @@ use Rattle.std.proofs.lemmas.Grind.{common_steps}
 use Rattle.std.proofs.lemmas.List.{length-append, reverse-reverse}
 use Rattle.std.proofs.lemmas.List.Elements.{filter_map-append}
 use Rattle.fish_lang.specs.Definition.{Definition}
-use Rattle.fish_lines.specs.File.{accepted, refused}
+use Rattle.fish_value.specs.Outcomes.{accepted, refused}
 use Rattle.fish_psf.specs.Records.{evaluation}
-use Rattle.fish_psf.specs.Select.{row_of, select, stored}
+use Rattle.fish_psf.specs.Select.{selected_row, select, stored}
 use Rattle.fish_report.specs.declared.item.Item.TheVariants as item
 use Rattle.fish_value.specs.declared.field.Form.{Form}
 use Rattle.fish_value.specs.declared.row.Row.{Row}
 use Rattle.fish_value.specs.declared.value.Value.{Value}
-use Rattle.fish_select.specs.Selection.{HasFound, log_of, rows_of, selection_of}
+use Rattle.fish_select.specs.Selection.{HasFoundRows, log_of, selection_rows, selection_of}
 use Rattle.fish_select.specs.within.Selection.{is_selected}
 use Rattle.fish_select.specs.within.Found.{kept_if, nothing, rows_with, with_outcome, with_outcomes}
 use Rattle.fish_select.specs.declared.found.Found.{Found}
@@ -77,24 +77,24 @@ Adds-outcomes test t (o ∷ os) =
 
 -- ---- the selection of the payloads as a log
 
-row_of-at : (def : Definition) (v : Value) (form : Form) (n end : ℕ) (payload : List ℕ) → n < end
-    → row_of (evaluation def) v 0 end [] (n, stored 1 form payload) ≡ row_at (is_selected def v form) (n, payload)
-row_of-at def v form n end payload below =
+selected_row-at : (def : Definition) (v : Value) (form : Form) (n end : ℕ) (payload : List ℕ) → n < end
+    → selected_row (evaluation def) v 0 end [] (n, stored 1 form payload) ≡ row_at (is_selected def v form) (n, payload)
+selected_row-at def v form n end payload below =
     (let low : nat_le 0 n ≡ true = grind (arith, nat_tests) in
     let high : nat_lt n end ≡ true = grind (arith, nat_tests) in rw (low, high))
 
-rows_of-log : (def : Definition) (v : Value) (form : Form) (n end : ℕ) (payloads : List (List ℕ))
+selection_rows-log : (def : Definition) (v : Value) (form : Form) (n end : ℕ) (payloads : List (List ℕ))
     → n + length payloads ≤ end
-    → filter_map (row_of (evaluation def) v 0 end []) (enumerate_from n (log_of form payloads))
+    → filter_map (selected_row (evaluation def) v 0 end []) (enumerate_from n (log_of form payloads))
     ≡ filter_map (row_at (is_selected def v form)) (enumerate_from n payloads)
-rows_of-log def v form n end [] within = refl
-rows_of-log def v form n end (payload ∷ payloads) within =
-    rw (row_of-at def v form n end payload (omega arith), rows_of-log def v form (n + 1) end payloads (omega arith))
+selection_rows-log def v form n end [] within = refl
+selection_rows-log def v form n end (payload ∷ payloads) within =
+    rw (selected_row-at def v form n end payload (omega arith), selection_rows-log def v form (n + 1) end payloads (omega arith))
 
-rows_of-is : (def : Definition) (v : Value) (form : Form) (payloads : List (List ℕ))
-    → reverse (filter_map (row_at (is_selected def v form)) (enumerate_from 0 payloads)) ≡ rows_of def v form payloads
-unfolding rows_of select
-rows_of-is def v form payloads = sym (ap reverse (rows_of-log def v form 0 (length payloads) payloads (omega arith)))
+selection_rows-is : (def : Definition) (v : Value) (form : Form) (payloads : List (List ℕ))
+    → reverse (filter_map (row_at (is_selected def v form)) (enumerate_from 0 payloads)) ≡ selection_rows def v form payloads
+unfolding selection_rows select
+selection_rows-is def v form payloads = sym (ap reverse (selection_rows-log def v form 0 (length payloads) payloads (omega arith)))
 
 -- ---- what was found
 
@@ -127,23 +127,23 @@ module _ (def : Definition) (v : Value) (form : Form) where
       ∙ filter_map-append (row_at test) (enumerate_from 0 xs) (enumerate_from (length xs) ys)
 
   -- the rows in the order in which they were found
-  rows_found : (os : List (Option (List ℕ))) (t : Found) → HasFound def v form os t → t.rows ≡ found_in 0 (accepted os)
+  rows_found : (os : List (Option (List ℕ))) (t : Found) → HasFoundRows def v form os t → t.rows ≡ found_in 0 (accepted os)
   rows_found os t h = sym (reverse-reverse t.rows)
-      ∙ ap reverse (h.rows ∙ sym (rows_of-is def v form (accepted os)))
+      ∙ ap reverse (h.rows ∙ sym (selection_rows-is def v form (accepted os)))
       ∙ reverse-reverse (found_in 0 (accepted os))
 
   -- nothing was found in nothing
-  pub found_nothing : HasFound def v form [] nothing
-  found_nothing = record { rows = rows_of-is def v form []; count = refl; refused = refl }
+  pub found_nothing : HasFoundRows def v form [] nothing
+  found_nothing = record { rows = selection_rows-is def v form []; count = refl; refused = refl }
 
   -- what more lines or rows add
-  pub found_more : (os more : List (Option (List ℕ))) (t u : Found) → HasFound def v form os t
-      → u ≡ with_outcomes (is_selected def v form) t more → HasFound def v form (os ++ more) u
+  pub found_more : (os more : List (Option (List ℕ))) (t u : Found) → HasFoundRows def v form os t
+      → u ≡ with_outcomes (is_selected def v form) t more → HasFoundRows def v form (os ++ more) u
   found_more os more t u h is = record {
     rows = ap reverse (all.rows
         ∙ (λ i. rows_found os t h i ++ filter_map (row_at test) (enumerate_from (h.count i) (accepted more)))
         ∙ sym (found_append (accepted os) (accepted more)) ∙ ap (found_in 0) (sym both))
-        ∙ rows_of-is def v form (accepted (os ++ more));
+        ∙ selection_rows-is def v form (accepted (os ++ more));
     count = omega (all.count, h.count, ap length both, length-append (accepted os) (accepted more), arith);
     refused = omega (all.none, h.refused, refused_append os more, arith);
   }
@@ -155,7 +155,7 @@ module _ (def : Definition) (v : Value) (form : Form) where
       both = filter_map-append (λ o. o) os more
 
   -- what was found in all lines or rows is the selection of the file
-  pub found_all : (os : List (Option (List ℕ))) (t : Found) → HasFound def v form os t
+  pub found_all : (os : List (Option (List ℕ))) (t : Found) → HasFoundRows def v form os t
       → item.Select (reverse t.rows) t.count t.refused ≡ selection_of def v form os
   unfolding selection_of
   found_all os t h = (λ i. item.Select (h.rows i) (h.count i) (h.refused i))

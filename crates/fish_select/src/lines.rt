@@ -1,10 +1,10 @@
 //! What the lines of a file in JSON Lines give.
 
 ghost use Rattle.std.specs.Prelude.{◌≡◌, ◌+◌, ◌<◌, ◌≤◌, ◌^◌, ◌∷◌, [], length, map, IfOk, IsErrOf, IsUtf8, OnOk};
-ghost use Rattle.fish_json.specs.Lines.{payload_of};
+ghost use Rattle.fish_json.specs.Lines.{payload_of_line};
 ghost use Rattle.fish_lang.specs.Definition.{definition_of};
-ghost use Rattle.fish_lines.specs.File.{accepted};
-ghost use Rattle.fish_lines.specs.Left.{left};
+ghost use Rattle.fish_value.specs.Outcomes.{accepted};
+ghost use Rattle.fish_lines.specs.Left.{lines_left};
 ghost use Rattle.fish_psf.specs.Eval.{values};
 ghost use Rattle.fish_psf.specs.Select.{has_value};
 ghost use Rattle.fish_select.specs.Selection.{most_records};
@@ -33,11 +33,11 @@ pub(crate) fn add_lines(
     requires { found.old.count + found.old.refused + length lines.old.rest.now < 2 ^ 63 }
     ensures added { OnOk result (found.new
         ≡ with_outcomes (is_selected (definition_of def.now) value.now Json) found.old
-        (map payload_of (left lines.old))) }
+        (map payload_of_line (lines_left lines.old))) }
     ensures rises { OnOk result (found.new.count + found.new.refused
         ≤ found.old.count + found.old.refused + length lines.old.rest.now) }
     ensures many { IsErrOf result TooMany
-        → most_records < found.old.count + length (accepted (map payload_of (left lines.old))) }
+        → most_records < found.old.count + length (accepted (map payload_of_line (lines_left lines.old))) }
 {
     let mut reader = JsonReader::new(alloc);
     while let Some(line) = lines.next_line() {
@@ -58,11 +58,11 @@ fn add_line(
 ) -> Result<(), SelectRefusal>
     requires { found.old.count + found.old.refused < 2 ^ 63 }
     ensures counted { OnOk result (found.new
-        ≡ with_outcome (is_selected (definition_of def.now) value.now Json) found.old (payload_of line.now)) }
+        ≡ with_outcome (is_selected (definition_of def.now) value.now Json) found.old (payload_of_line line.now)) }
     ensures rises { OnOk result
         (found.new.count + found.new.refused ≡ found.old.count + found.old.refused + 1) }
     ensures many { IsErrOf result TooMany
-        → most_records < found.old.count + length (accepted (payload_of line.now ∷ [])) }
+        → most_records < found.old.count + length (accepted (payload_of_line line.now ∷ [])) }
 {
     match reader.read(alloc, line) {
         Ok(parsed) => {

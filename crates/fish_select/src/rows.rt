@@ -1,10 +1,10 @@
 //! What the rows of a file in CSV give.
 
 ghost use Rattle.std.specs.Prelude.{◌≡◌, ◌+◌, ◌<◌, ◌≤◌, ◌^◌, length, IfOk, IsErrOf, IsSome, OnOk, Some};
-ghost use Rattle.fish_csv.specs.Left.{left};
+ghost use Rattle.fish_csv.specs.Left.{rows_left};
 ghost use Rattle.fish_csv.specs.Reading.{row_of};
 ghost use Rattle.fish_lang.specs.Definition.{definition_of};
-ghost use Rattle.fish_lines.specs.File.{accepted};
+ghost use Rattle.fish_value.specs.Outcomes.{accepted};
 ghost use Rattle.fish_select.specs.Selection.{most_records};
 ghost use Rattle.fish_select.specs.declared.found.SelectRefusal.TheVariants.{TooMany};
 ghost use Rattle.fish_select.specs.within.Found.{kept_if, with_outcome, with_outcomes};
@@ -28,11 +28,11 @@ pub(crate) fn add_rows(
 ) -> Result<(), SelectRefusal>
     requires { found.old.count + found.old.refused + length rows.old.rest.now < 2 ^ 63 }
     ensures added { OnOk result (found.new
-        ≡ with_outcomes (is_selected (definition_of def.now) value.now Csv) found.old (left rows.old)) }
+        ≡ with_outcomes (is_selected (definition_of def.now) value.now Csv) found.old (rows_left rows.old)) }
     ensures rises { OnOk result (found.new.count + found.new.refused
         ≤ found.old.count + found.old.refused + length rows.old.rest.now) }
     ensures many { IsErrOf result TooMany
-        → most_records < found.old.count + length (accepted (left rows.old)) }
+        → most_records < found.old.count + length (accepted (rows_left rows.old)) }
 {
     let mut reader = CsvReader::new(alloc);
     while let Some(row) = rows.next_row(alloc)? {

@@ -2,13 +2,13 @@
 
 ghost use Rattle.std.specs.Prelude.{◌≡◌, ◌+◌, ◌++◌, ◌<◌, ◌≤◌, ◌^◌, ℕ, List, Option, [], length, map};
 ghost use Rattle.std.specs.Prelude.{IfErr, IfOk, IsErrOf, OnOk};
-ghost use Rattle.fish_csv.specs.Left.{left as rows_left};
-ghost use Rattle.fish_json.specs.Lines.{payload_of};
+ghost use Rattle.fish_csv.specs.Left.{rows_left};
+ghost use Rattle.fish_json.specs.Lines.{payload_of_line};
 ghost use Rattle.fish_lang.specs.Definition.{Definition, definition_of};
-ghost use Rattle.fish_lines.specs.File.{accepted};
-ghost use Rattle.fish_lines.specs.Left.{left};
+ghost use Rattle.fish_value.specs.Outcomes.{accepted};
+ghost use Rattle.fish_lines.specs.Left.{lines_left};
 ghost use Rattle.fish_lines.specs.Resuming.{outcomes_from};
-ghost use Rattle.fish_select.specs.Selection.{HasFound, most_records, selection_of};
+ghost use Rattle.fish_select.specs.Selection.{HasFoundRows, most_records, selection_of};
 ghost use Rattle.fish_select.specs.declared.found.SelectRefusal.TheVariants.{OutOfMemory, TooMany};
 ghost use Rattle.fish_value.specs.Limits.{longest_file};
 ghost use Rattle.fish_value.specs.declared.field.Form.{Form as Forms};
@@ -38,7 +38,7 @@ pub struct Query<'q> {
 
 /// Nothing of a file was read. Takes no memory.
 pub fn begin_select(alloc: Global) -> Found
-    ensures empty { (def : Definition) (v : Values) (form : Forms) → HasFound def v form [] result }
+    ensures empty { (def : Definition) (v : Values) (form : Forms) → HasFoundRows def v form [] result }
     ensures none { result.count + result.refused ≡ 0 }
 {
     Found::nothing(alloc)
@@ -56,8 +56,8 @@ pub fn select_part(
     requires short { query.now.form ≡ Csv → length part.now ≤ longest_file }
     requires room { found.old.count + found.old.refused + length part.now < 2 ^ 63 }
     ensures found { OnOk result ((os : List (Option (List ℕ)))
-        → HasFound (definition_of query.now.def.now) query.now.value.now query.now.form os found.old
-        → HasFound (definition_of query.now.def.now) query.now.value.now query.now.form
+        → HasFoundRows (definition_of query.now.def.now) query.now.value.now query.now.form os found.old
+        → HasFoundRows (definition_of query.now.def.now) query.now.value.now query.now.form
         (os ++ outcomes_from query.now.form begin part.now) found.new) }
     ensures rises { OnOk result (found.new.count + found.new.refused
         ≤ found.old.count + found.old.refused + length part.now) }
@@ -81,7 +81,7 @@ pub fn select_part(
 /// The lines of a part.
 #[tactic(auto, using(crate::proofs::PartLemmas::first_lines, crate::proofs::PartLemmas::later_lines))]
 fn lines_from(begin: Begin, part: &[u8]) -> Lines<'_>
-    ensures lines { map payload_of (left result) ≡ outcomes_from Json begin part.now }
+    ensures lines { map payload_of_line (lines_left result) ≡ outcomes_from Json begin part.now }
     ensures within { length result.rest.now ≤ length part.now }
 {
     match begin {
@@ -111,7 +111,7 @@ fn rows_from(alloc: Global, begin: Begin, part: &[u8]) -> Result<RowTexts<'_>, S
 /// What is answered for a file of which all parts were read.
 pub fn end_select(found: Found) -> Item
     ensures { (def : Definition) (v : Values) (form : Forms) (os : List (Option (List ℕ)))
-        → HasFound def v form os found → result ≡ selection_of def v form os }
+        → HasFoundRows def v form os found → result ≡ selection_of def v form os }
 {
     let Found {
         mut rows,

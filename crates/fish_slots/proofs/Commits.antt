@@ -1,10 +1,10 @@
 -- An image has one commit.
 use Rattle.std.proofs.Common.{◌≡◌, ℕ, zero, suc, ◌+◌, ◌-◌, ◌%◌, ◌≤◌, List, ap, sym, subst, ◌∙◌, arith}
-use Rattle.fish_slots.specs.Commits.{Counts, HasCommit, Rests, next_turn, turn_of}
-use Rattle.fish_slots.specs.Slots.{IsOpen, body_of, line_count, lines_of}
+use Rattle.fish_slots.specs.Commits.{SlotCounts, HasCommit, SlotRests, next_turn, turn_of}
+use Rattle.fish_slots.specs.Slots.{IsOpen, body_in_slot, line_count, lines_in_slot}
 
 -- where one slot alone is open, it counts
-pub rests_commit : (slot : ℕ) (body lines image : List ℕ) → slot ≤ 1 → Rests slot body lines image → HasCommit body lines image
+pub rests_commit : (slot : ℕ) (body lines image : List ℕ) → slot ≤ 1 → SlotRests slot body lines image → HasCommit body lines image
 rests_commit slot body lines image slot_le h = record {
   slot = slot;
   slot_is = slot_le;
@@ -17,18 +17,18 @@ unfolding next_turn
 turns_apart t u first second = omega arith
 
 -- two slots don't both count
-both_count : (b w d v c : List ℕ) → Counts 0 b w c → Counts 1 d v c → ⊥
+both_count : (b w d v c : List ℕ) → SlotCounts 0 b w c → SlotCounts 1 d v c → ⊥
 both_count b w d v c first second =
     turns_apart (turn_of b) (turn_of d) (first.newer second.gate ∙ ap (λ l. next_turn (turn_of l)) second.body_is)
     (second.newer first.gate ∙ ap (λ l. next_turn (turn_of l)) first.body_is)
 
 -- a slot that counts does so with one body and its lines
-one_counts : (slot : ℕ) (b w d v c : List ℕ) → Counts slot b w c → Counts slot d v c → (b ≡ d) × (w ≡ v)
+one_counts : (slot : ℕ) (b w d v c : List ℕ) → SlotCounts slot b w c → SlotCounts slot d v c → (b ≡ d) × (w ≡ v)
 one_counts slot b w d v c first second =
     let same : b ≡ d = sym first.body_is ∙ second.body_is in
-    (same, sym first.lines_are ∙ ap (λ l. lines_of (line_count l) c) same ∙ second.lines_are)
+    (same, sym first.lines_are ∙ ap (λ l. lines_in_slot (line_count l) c) same ∙ second.lines_are)
 
-one_of : (s t : ℕ) (b w d v c : List ℕ) → s ≤ 1 → t ≤ 1 → Counts s b w c → Counts t d v c → (b ≡ d) × (w ≡ v)
+one_of : (s t : ℕ) (b w d v c : List ℕ) → s ≤ 1 → t ≤ 1 → SlotCounts s b w c → SlotCounts t d v c → (b ≡ d) × (w ≡ v)
 one_of zero zero b w d v c s_le t_le first second = one_counts 0 b w d v c first second
 one_of zero (suc zero) b w d v c s_le t_le first second = absurd (both_count b w d v c first second)
 one_of (suc zero) zero b w d v c s_le t_le first second = absurd (both_count d v b w c second first)

@@ -7,7 +7,7 @@ use Rattle.fish_disk.specs.Crash.{LeavesOnly, Torn, TornFrom}
 use Rattle.fish_disk.proofs.Moments.{leaves_each}
 use Rattle.fish_disk.proofs.Regions.{torn_apart, torn_same}
 use Rattle.fish_slots.specs.Offsets.{body_at, body_bytes, gate_at, lines_at}
-use Rattle.fish_slots.specs.Slots.{GatesAreSynced, IsOpen, SameSlot, body_of, line_count}
+use Rattle.fish_slots.specs.Slots.{GatesAreSynced, IsOpen, SameSlot, body_in_slot, line_count}
 
 -- what holds anyway holds where a call succeeds
 pub on_ok : {T E P : Type 0} (r : Result T E) → P → OnOk r P
@@ -56,7 +56,7 @@ same_slot : (slot at n : ℕ) (c d e : List ℕ) → Torn at n e c →
     (body_at slot + body_bytes ≤ at) ⊎ (at + n ≤ body_at slot) → at + n ≤ lines_at
     → SameSlot slot e d → SameSlot slot c d
 same_slot slot at n c d e torn apart before same =
-    let count = line_count (body_of slot d) in (
+    let count = line_count (body_in_slot slot d) in (
       torn_apart at n (body_at slot) body_bytes e c torn apart ∙ same.0,
       torn_apart at n lines_at (32 * count) e c torn (inr before) ∙ same.1,
     )

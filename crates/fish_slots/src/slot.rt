@@ -7,7 +7,7 @@ ghost use Rattle.fish_outside.specs.Causes.{HasCause};
 ghost use Rattle.fish_disk.specs.Content.{StillReads, WrittenThrough};
 ghost use Rattle.fish_disk.specs.Crash.{LeavesOnly, TornFrom};
 ghost use Rattle.fish_slots.specs.Offsets.{body_at, body_bytes, gate_at};
-ghost use Rattle.fish_slots.specs.Slots.{GatesAreSynced, IsOpen, SameSlot, body_of};
+ghost use Rattle.fish_slots.specs.Slots.{GatesAreSynced, IsOpen, SameSlot, body_in_slot};
 
 use crate::offsets::{body_offset, gate_offset};
 use fish_disk::{Disk, write_synced};
@@ -101,7 +101,7 @@ pub fn seal<D: Disk>(disk: &mut D, slot: u8, body: &[u8]) -> Result<(), Failed>
     requires within { IfSome (D.content disk.old) (λ c. body_at slot ≤ length c) }
     requires gates { GatesAreSynced (D.images disk.old) (D.images disk.old) }
     requires closed { (c : List ℕ) → D.images disk.old c → IsOpen slot c → ⊥ }
-    ensures sealed { OnOk result ((c : List ℕ) → D.images disk.new c → body_of slot c ≡ body.now) }
+    ensures sealed { OnOk result ((c : List ℕ) → D.images disk.new c → body_in_slot slot c ≡ body.now) }
     ensures done { OnOk result (WrittenThrough (D.content disk.old) (D.content disk.new)
         (D.images disk.new) (body_at slot) body.now) }
     ensures crash { LeavesOnly D.images D.since D.moment disk.old disk.new

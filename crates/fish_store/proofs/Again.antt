@@ -5,7 +5,7 @@ use Rattle.fish_catalog.specs.declared.commit.Commit.{Commit}
 use Rattle.fish_catalog.specs.declared.entry.Entry.{Entry}
 use Rattle.fish_catalog.specs.declared.row.CatRow.{CatRow}
 use Rattle.fish_flush.proofs.Resting.{rest_stands}
-use Rattle.fish_flush.specs.Carrying.{Carries, HasCommitted}
+use Rattle.fish_flush.specs.Carrying.{CarriesLog, HasCommitted}
 use Rattle.fish_flush.specs.Kept.{commit_of}
 use Rattle.fish_flush.specs.declared.flusher.Flusher.{Flusher}
 use Rattle.fish_rule.specs.declared.table.Shape.{Shape}
@@ -24,13 +24,13 @@ may_again images p q n shape rows may done =
     let log : List Entry = may.1 ++ d.0 in (
       next,
       log,
-      subst (λ (z : List CatRow). Carries (images q.disk) q.flusher q.view q.shape z next log) (sym rows)
-          (subst (λ (z : Shape). Carries (images q.disk) q.flusher q.view z p.rows next log) (sym shape) d.2),
+      subst (λ (z : List CatRow). CarriesLog (images q.disk) q.flusher q.view q.shape z next log) (sym rows)
+          (subst (λ (z : Shape). CarriesLog (images q.disk) q.flusher q.view z p.rows next log) (sym shape) d.2),
     )
 
 -- the flusher then counts what was answered, which the pass has counted, and every image has these rows and this shape
 pub commit_ok : {E : Type 0} (images : List ℕ → Type 0) (images' : List ℕ → Type 0) (f g : Flusher) (v u : View) (s : Shape)
-    (rows : List CatRow) (c : Commit) (log : List Entry) → Carries images f v s rows c log
+    (rows : List CatRow) (c : Commit) (log : List Entry) → CarriesLog images f v s rows c log
     → (r : Result ℕ E) → IfOk r (HasCommitted images images' f g v u s rows) → IfOk r (IsCommitOf images' s rows g u)
 commit_ok images images' f g v u s rows c log may (Ok n) done =
     let d = done.carries c log may in record {

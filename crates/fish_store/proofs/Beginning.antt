@@ -5,10 +5,10 @@ use Rattle.fish_catalog.specs.Listing.{listed_of}
 use Rattle.fish_catalog.specs.declared.commit.Commit.{Commit}
 use Rattle.fish_catalog.specs.declared.entry.Entry.{Entry}
 use Rattle.fish_catalog.specs.declared.row.CatRow.{CatRow}
-use Rattle.fish_flush.specs.Carrying.{Carries}
+use Rattle.fish_flush.specs.Carrying.{CarriesLog}
 use Rattle.fish_flush.specs.declared.flusher.Flusher.{Flusher}
 use Rattle.fish_recover.proofs.Beginnings.{committed_kept}
-use Rattle.fish_recover.specs.Beginning.{IsKept}
+use Rattle.fish_recover.specs.Beginning.{IsFlusherKept}
 use Rattle.fish_rule.proofs.laws.NextLog.{may_follow}
 use Rattle.fish_rule.specs.Start.{IsShape}
 use Rattle.fish_rule.specs.declared.table.Shape.{Shape}
@@ -30,7 +30,7 @@ all_cut n (row ∷ rows) = λ i. listed_cut n row i ∷ all_cut n rows i
 
 -- what is carried has the shape of a log
 pub carried_shape : (images : List ℕ → Type 0) (f : Flusher) (v : View) (s : Shape) (rows : List CatRow) (c : Commit) (log : List Entry)
-    → Carries images f v s rows c log → IsShape s
+    → CarriesLog images f v s rows c log → IsShape s
 carried_shape images f v s rows c log k =
     let within = k.rest.committed.is.told.commit.within in
     let some_pages = within.some_pages in
@@ -43,7 +43,7 @@ carried_shape images f v s rows c log k =
 
 -- and what is kept of it is within the limits of the next table
 pub carried_kept : (images : List ℕ → Type 0) (f : Flusher) (v : View) (s : Shape) (rows : List CatRow) (c : Commit) (log : List Entry)
-    → Carries images f v s rows c log → IsKept s f
+    → CarriesLog images f v s rows c log → IsFlusherKept s f
 carried_kept images f v s rows c log k = committed_kept f c k.rest.body k.rest.lines log s k.rest.committed k.bits
 
 -- the version of a closed log is one with which a table may begin

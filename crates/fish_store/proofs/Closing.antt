@@ -9,7 +9,7 @@ use Rattle.fish_rule.proofs.laws.ClosedLogs.{always_closed, settled_within}
 use Rattle.fish_rule.proofs.laws.Learning.{learns_self}
 use Rattle.fish_rule.specs.ClosedLog.{IsClosed}
 use Rattle.fish_rule.specs.Logs.{AreKnown, KnowsMark}
-use Rattle.fish_rule.specs.Parts.{Rests}
+use Rattle.fish_rule.specs.Parts.{RestsAt}
 use Rattle.fish_rule.specs.Regions.{code}
 use Rattle.fish_rule.specs.World.{high, low}
 use Rattle.fish_rule.specs.declared.close.Remains.{Remains}
@@ -46,8 +46,8 @@ module _ (v : View) (remains : Remains) (c : IsClosed v remains) where
   -- the tail that the pass knows is where the log ended
   tail_left : (count : ℕ) → HasTail v count → c.moment.count ≡ count
   tail_left count tail =
-      let rests : Rests c.moment.count c.moment.line (Some (record { number = high tail.0; line = low tail.0 })) =
-      subst (Rests c.moment.count c.moment.line) tail.1 c.rests in
+      let rests : RestsAt c.moment.count c.moment.line (Some (record { number = high tail.0; line = low tail.0 })) =
+      subst (RestsAt c.moment.count c.moment.line) tail.1 c.rests in
       sym rests.0 ∙ tail.2
 
   -- so what is left ends where the log does

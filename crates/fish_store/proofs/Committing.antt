@@ -14,7 +14,7 @@ use Rattle.fish_disk.specs.Crash.{LeavesOnly}
 use Rattle.fish_disk.specs.declared.disk.Disk.{Ghosts as Disks}
 use Rattle.fish_flush.proofs.Committed.{committed_length, told_both, told_later}
 use Rattle.fish_flush.proofs.Resting.{rest_stands}
-use Rattle.fish_flush.specs.Carrying.{Carries, HasCommitted, HasSettled, LeavesEither, Reads}
+use Rattle.fish_flush.specs.Carrying.{CarriesLog, HasCommitted, HasSettled, LeavesEither, ReadsLog}
 use Rattle.fish_flush.specs.Kept.{commit_of}
 use Rattle.fish_flush.specs.Rows.{HaveGrown}
 use Rattle.fish_flush.specs.declared.flusher.Flusher.{Flusher}
@@ -35,7 +35,7 @@ use Rattle.fish_store.proofs.Again.{may_again}
 use Rattle.fish_store.proofs.Running.{here_stays, may_stays}
 use Rattle.fish_store.proofs.Same.{still_self, table_same}
 use Rattle.fish_store.specs.CommitRows.{HasRowsOf, HaveRowsOf, LeavesRows, by_checkpoint}
-use Rattle.fish_store.specs.Sound.{GoesOnHere, HasPast, IsImageOf, MayCommit, MayGoOn, Point, Rests, Sound, Stays}
+use Rattle.fish_store.specs.Sound.{GoesOnHere, HasPast, IsImageOf, MayCommit, MayGoOn, Point, Rests, Sound, StoreStays}
 use Rattle.fish_whole.proofs.Parts.{fits_later}
 use Rattle.fish_whole.proofs.Prefixes.{prefix_self}
 use Rattle.fish_whole.specs.Whole.{IsKnown, IsPrefix, Whole}
@@ -54,12 +54,12 @@ known_of past u log begins told = record {
 
 module _
     {D : Type 0} (disks : Disks D)
-    (p q : Point D) (reads : Reads p.view q.view) (cold : q.cold ≡ p.cold) (shape : q.shape ≡ p.shape) (rows : q.rows ≡ p.rows)
+    (p q : Point D) (reads : ReadsLog p.view q.view) (cold : q.cold ≡ p.cold) (shape : q.shape ≡ p.shape) (rows : q.rows ≡ p.rows)
     (live : p.flusher.shut ≡ false)
     (may : MayCommit disks.images p)
     (read : (d : D) (i : List ℕ) → disks.content d ≡ Some i → disks.images d i) (told : (d : D) (i : List ℕ) → disks.images d i
     → IsSome (disks.content d))
-    (either : (c : Commit) (old : List Entry) (h : Carries (disks.images p.disk) p.flusher p.view p.shape p.rows c old)
+    (either : (c : Commit) (old : List Entry) (h : CarriesLog (disks.images p.disk) p.flusher p.view p.shape p.rows c old)
     → LeavesEither disks.images disks.since disks.moment p.disk q.disk q.view p.rows c old h.rest.lines) where
   -- the disk was told, where it is
   before : IsSome (disks.content q.disk) → IsSome (disks.content p.disk)
@@ -199,8 +199,8 @@ module _
           rests = λ kept. record {
             commit = next;
             log = log;
-            carries = subst (λ (z : List CatRow). Carries (disks.images q.disk) q.flusher q.view q.shape z next log) (sym rows)
-                (subst (λ (z : Shape). Carries (disks.images q.disk) q.flusher q.view z p.rows next log) (sym shape) d.2);
+            carries = subst (λ (z : List CatRow). CarriesLog (disks.images q.disk) q.flusher q.view q.shape z next log) (sym rows)
+                (subst (λ (z : Shape). CarriesLog (disks.images q.disk) q.flusher q.view z p.rows next log) (sym shape) d.2);
             begins = begins;
             counted = omega arith;
           };
@@ -223,7 +223,7 @@ module _
     }
 
   -- out of memory leaves the disk and the last commit
-  pub stays_same : q.disk ≡ p.disk → q.flusher ≡ p.flusher → Stays disks p q
+  pub stays_same : q.disk ≡ p.disk → q.flusher ≡ p.flusher → StoreStays disks p q
   stays_same disk flusher = record {
     learns = reads.learns;
     rows_on = λ n old le grown. subst (HaveGrown n old) (sym rows) grown;

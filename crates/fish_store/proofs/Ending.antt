@@ -6,7 +6,7 @@ use Rattle.fish_rule.specs.ClosedLog.{IsClosed}
 use Rattle.fish_rule.specs.declared.close.Remains.{Remains}
 use Rattle.fish_rule.specs.declared.view.View.{View}
 use Rattle.fish_store.proofs.Running.{since_on}
-use Rattle.fish_store.specs.Ending.{IsLost, IsPartOf, IsShown, KeepsOld}
+use Rattle.fish_store.specs.Ending.{IsLost, IsPartOf, IsShownLog, KeepsOld}
 use Rattle.fish_store.specs.Sound.{IsImageOf, Point, Reaches}
 use Rattle.fish_whole.proofs.Parts.{known_old, known_sure}
 use Rattle.fish_whole.proofs.Prefixes.{prefix_both, prefix_first}
@@ -45,7 +45,7 @@ module _
 
   -- where the log is shown
   pub run_shown : (remains : Remains) → IsClosed q.view remains → q.view.lane ≡ 1 → q.view.out ≡ []
-      → IsShown (disks.images q.disk) (disks.since q.disk t) past.log q.flusher.count tells remains
+      → IsShownLog (disks.images q.disk) (disks.since q.disk t) past.log q.flusher.count tells remains
   run_shown remains c control all =
       let w = behind_table a.next q.view remains c in
       let may = ends_so a.next q.view remains c a.sound.fits control all in

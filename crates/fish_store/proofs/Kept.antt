@@ -29,7 +29,7 @@ use Rattle.fish_layout.proofs.Once.{body_once}
 use Rattle.fish_layout.specs.declared.parts.BodyParts.{BodyParts}
 use Rattle.fish_psf.specs.Records.{evaluation}
 use Rattle.fish_rule.specs.declared.view.Key.{Key}
-use Rattle.fish_slots.specs.Slots.{lines_of}
+use Rattle.fish_slots.specs.Slots.{lines_in_slot}
 use Rattle.fish_store.proofs.Pages.{first_lines, same_page}
 use Rattle.fish_image.specs.Reading.{IsBodyOf}
 use Rattle.fish_recover.proofs.Once.{told_once}
@@ -143,10 +143,10 @@ module _ (k : Key) (cold : Cold) (content : Option (List ℕ)) (h : CarriesTable
   page_on p =
       let before = h.prior.has.counts in
       let after = g.has.counts in
-      let from : lines_of c.lines h.image ≡ h.prior.lines =
-      ap (λ (n : ℕ). lines_of n h.image) (sym (body_lines c h.prior.body h.prior.told)) ∙ before.lines_are in
-      let to : lines_of g.commit.lines image ≡ h.prior.lines ++ g.more =
-      ap (λ (n : ℕ). lines_of n image) (sym (body_lines g.commit g.body g.is.told)) ∙ after.lines_are in
+      let from : lines_in_slot c.lines h.image ≡ h.prior.lines =
+      ap (λ (n : ℕ). lines_in_slot n h.image) (sym (body_lines c h.prior.body h.prior.told)) ∙ before.lines_are in
+      let to : lines_in_slot g.commit.lines image ≡ h.prior.lines ++ g.more =
+      ap (λ (n : ℕ). lines_in_slot n image) (sym (body_lines g.commit g.body g.is.told)) ∙ after.lines_are in
       let within = agrees_within c w k.number h.end h.prior.agrees in
       let line = h.line in
       let base = h.base_line in

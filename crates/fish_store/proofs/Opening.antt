@@ -14,7 +14,7 @@ use Rattle.fish_flush.proofs.Resting.{rest_stands}
 use Rattle.fish_image.specs.Log.{Agrees}
 use Rattle.fish_image.specs.Reached.{Reached}
 use Rattle.fish_image.specs.Stands.{Stands, words_in}
-use Rattle.fish_recover.specs.Stores.{IsBegun, IsOpened}
+use Rattle.fish_recover.specs.Stores.{IsBegunStore, IsOpened}
 use Rattle.fish_recover.specs.declared.opened.Opened.{Opened}
 use Rattle.fish_rule.specs.Passes.{view}
 use Rattle.fish_rule.specs.declared.view.Key.{Key}
@@ -27,7 +27,7 @@ use Rattle.fish_whole.proofs.Prefixes.{prefix_first}
 use Rattle.fish_whole.specs.Whole.{FitsPast, IsPrefix, Whole}
 
 module _ {D : Type 0} (disks : Disks D) (disk : D) (at : ℕ) (rows : List CatRow)
-    (c : Commit) (log : List Entry) (o : Opened) (h : IsBegun at rows (disks.content disk) (disks.images disk) c log o) where
+    (c : Commit) (log : List Entry) (o : Opened) (h : IsBegunStore at rows (disks.content disk) (disks.images disk) c log o) where
   about : (view o.pass).about ≡ o.log.key
   about = ap (λ (v : View). v.about) h.first
 

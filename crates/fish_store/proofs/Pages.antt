@@ -8,11 +8,11 @@ use Rattle.fish_image.proofs.ByteWords.{length-words_of}
 use Rattle.fish_cold.specs.Pages.{lines_below, log_words, page_size, page_words}
 use Rattle.fish_image.specs.Stands.{words_in}
 use Rattle.fish_slots.specs.Offsets.{lines_at}
-use Rattle.fish_slots.specs.Slots.{lines_of}
+use Rattle.fish_slots.specs.Slots.{lines_in_slot}
 
 -- the first of more lines are the lines before
-pub first_lines : (image lines more : List ℕ) (m n : ℕ) → m ≤ n → length lines ≡ 32 * m → lines_of n image ≡ lines ++ more
-    → lines_of m image ≡ lines
+pub first_lines : (image lines more : List ℕ) (m n : ℕ) → m ≤ n → length lines ≡ 32 * m → lines_in_slot n image ≡ lines ++ more
+    → lines_in_slot m image ≡ lines
 first_lines image lines more m n few size all =
     sym (take-take (32 * m) (32 * n) (drop lines_at image) (omega arith))
     ∙ ap (take (32 * m)) all
@@ -25,7 +25,7 @@ no_words [] size = refl
 no_words (x ∷ a) size = absurd (omega arith)
 
 -- the words of a page below a line are those of lines that a file has and that reach that far
-of_lines : (image lines : List ℕ) (m end p : ℕ) → lines_of m image ≡ lines → 4 * end ≤ length (words_in lines)
+of_lines : (image lines : List ℕ) (m end p : ℕ) → lines_in_slot m image ≡ lines → 4 * end ≤ length (words_in lines)
     → 32768 * p < end → page_words end p image ≡ take (4 * lines_below end p) (drop (131072 * p) (words_in lines))
 of_lines image lines m end p is within here =
     let w : List ℕ = words_in lines in
@@ -47,7 +47,7 @@ past_lines image end p past =
     no_words (page_words end p image) (omega arith)
 
 -- two files have the same words of a page below a line where both have lines that reach that far
-pub same_page : (one other lines : List ℕ) (m end p : ℕ) → lines_of m one ≡ lines → lines_of m other ≡ lines
+pub same_page : (one other lines : List ℕ) (m end p : ℕ) → lines_in_slot m one ≡ lines → lines_in_slot m other ≡ lines
     → 4 * end ≤ length (words_in lines) → page_words end p one ≡ page_words end p other
 same_page one other lines m end p here there within = elim (cases_lt (32768 * p) end) [
   | inl near ↦ of_lines one lines m end p here within near ∙ sym (of_lines other lines m end p there within near)

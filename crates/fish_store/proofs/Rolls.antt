@@ -10,11 +10,11 @@ use Rattle.fish_catalog.specs.declared.entry.Entry.{Entry}
 use Rattle.fish_catalog.specs.declared.row.CatRow.{CatRow}
 use Rattle.fish_disk.proofs.Moments.{leaves_none}
 use Rattle.fish_disk.specs.declared.disk.Disk.{Ghosts as Disks}
-use Rattle.fish_flush.specs.Carrying.{Carries}
+use Rattle.fish_flush.specs.Carrying.{CarriesLog}
 use Rattle.fish_flush.specs.declared.flusher.Flusher.{Flusher}
 use Rattle.fish_recover.proofs.Beginnings.{begun_open}
 use Rattle.fish_recover.specs.Beginning.{BeginsAt}
-use Rattle.fish_recover.specs.Stores.{IsBegun}
+use Rattle.fish_recover.specs.Stores.{IsBegunStore}
 use Rattle.fish_recover.specs.declared.opened.Opened.{Opened}
 use Rattle.fish_registry.specs.Knowing.{KnowsFirst}
 use Rattle.fish_rule.proofs.laws.ClosedLogs.{definitions_closed}
@@ -34,7 +34,7 @@ use Rattle.fish_store.specs.Opened.{opened_point}
 use Rattle.fish_store.specs.Points.{point_at}
 use Rattle.fish_store.specs.Rolling.{HasRolled, MayRoll}
 use Rattle.fish_store.specs.within.Rolling.{IsClosedWith}
-use Rattle.fish_store.specs.Sound.{IsImageOf, MayGoOn, Point, Reaches, Runs, Sound}
+use Rattle.fish_store.specs.Sound.{IsImageOf, MayGoOn, Point, Reaches, StoreRuns, Sound}
 use Rattle.fish_store.specs.declared.store.Store.{Store}
 use Rattle.fish_whole.proofs.Parts.{told_front}
 use Rattle.fish_whole.proofs.Prefixes.{prefix_append, prefix_both, prefix_first}
@@ -55,14 +55,14 @@ module _ {D : Type 0} (disks : Disks D)
   rows = old.registrar.catalog
 
   -- it begins after whatever commit is carried
-  begun : (c : Commit) (log : List Entry) → Carries (disks.images disk) f v old.log.shape rows c log
-      → IsBegun version rows (disks.content disk) (disks.images disk) c log o
+  begun : (c : Commit) (log : List Entry) → CarriesLog (disks.images disk) f v old.log.shape rows c log
+      → IsBegunStore version rows (disks.content disk) (disks.images disk) c log o
   begun c log k =
       begun_open (disks.images disk) f c log k.rest old.log.shape k.bits rows k.grown version false o begins (disks.content disk) read
       k.pages
       m.commit.live
 
-  abbrev first : IsBegun version rows (disks.content disk) (disks.images disk) m.commit.may.0 m.commit.may.1 o
+  abbrev first : IsBegunStore version rows (disks.content disk) (disks.images disk) m.commit.may.0 m.commit.may.1 o
   first = begun m.commit.may.0 m.commit.may.1 m.commit.may.2
 
   -- at the number and the line at which the commit ends
@@ -148,7 +148,7 @@ module _ {D : Type 0} (disks : Disks D)
         }
 
   -- so the store went on to it
-  rolled_runs : Runs disks (point_at disk old) (opened_point disk o) (λ w. ⊤)
+  rolled_runs : StoreRuns disks (point_at disk old) (opened_point disk o) (λ w. ⊤)
   rolled_runs = record {
     told_before = λ some. some;
     rises = (let same = ap (λ (z : Flusher). z.count) begins.opens.flusher in omega arith);
@@ -217,5 +217,5 @@ module _ {D : Type 0} (disks : Disks D)
               (record { number = first.below_number; line = first.below_line });
           commit = subst (MayGoOn disks.images) point_rolled rolled_may;
           unshut = subst (λ (z : Store). (view z.pass).shut ≡ None) same (ap (λ (z : View). z.shut) first.first);
-          runs = subst (λ (z : Point D). Runs disks (point_at disk old) z (λ w. ⊤)) point_rolled rolled_runs;
+          runs = subst (λ (z : Point D). StoreRuns disks (point_at disk old) z (λ w. ⊤)) point_rolled rolled_runs;
         }

@@ -11,7 +11,7 @@ use Rattle.fish_disk.proofs.Moments.{leaves_more, leaves_then}
 use Rattle.fish_disk.specs.Content.{StillReads}
 use Rattle.fish_disk.specs.declared.disk.Disk.{Ghosts as Disks}
 use Rattle.fish_flush.proofs.Lasting.{carries_on}
-use Rattle.fish_flush.specs.Carrying.{Carries}
+use Rattle.fish_flush.specs.Carrying.{CarriesLog}
 use Rattle.fish_flush.specs.declared.flusher.Flusher.{Flusher}
 use Rattle.fish_image.specs.Reached.{Reached}
 use Rattle.fish_rule.proofs.laws.Learning.{learns_both}
@@ -19,7 +19,8 @@ use Rattle.fish_rule.specs.declared.table.Shape.{Shape}
 use Rattle.fish_rule.specs.declared.view.Key.{Key}
 use Rattle.fish_rule.specs.declared.view.View.{View}
 use Rattle.fish_store.proofs.Kept.{one_prior}
-use Rattle.fish_store.specs.Sound.{GoesOnHere, HasPast, IsImageOf, IsSoundBehind, MayGoOn, Point, Reaches, Rests, Runs, Sound, Stays}
+use Rattle.fish_store.specs.Sound.{GoesOnHere, HasPast, IsImageOf, IsSoundBehind, MayGoOn, Point, Reaches, Rests, StoreRuns, Sound}
+use Rattle.fish_store.specs.Sound.{StoreStays}
 use Rattle.fish_whole.proofs.Parts.{fits_later, goes_both, known_later}
 use Rattle.fish_whole.specs.Whole.{IsKnown, Whole}
 
@@ -38,7 +39,7 @@ image_on past v next u least less c known le h = record {
 module _
     {D : Type 0} (disks : Disks D) where
   abbrev pub Goes : Point D → Point D → (Whole → Type 0) → Type 0
-  Goes p q tells = Runs disks p q tells
+  Goes p q tells = StoreRuns disks p q tells
 
   abbrev pub Comes : Whole → Point D → Point D → (Whole → Type 0) → Type 0
   Comes past p q tells = Reaches disks past p q tells
@@ -108,7 +109,7 @@ module _
 
 -- fewer images stand for the log too
 fewer_carry : (images fewer : List ℕ → Type 0) (f : Flusher) (v : View) (s : Shape) (rows : List CatRow) (c : Commit) (log : List Entry)
-    → ((i : List ℕ) → fewer i → images i) → Carries images f v s rows c log → Carries fewer f v s rows c log
+    → ((i : List ℕ) → fewer i → images i) → CarriesLog images f v s rows c log → CarriesLog fewer f v s rows c log
 fewer_carry images fewer f v s rows c log less h = record {
   rest = record {
     slot_is = h.rest.slot_is;
@@ -149,7 +150,7 @@ on_table old (Some c) k cold later h still some table = (table, same_table old (
 
 module _
     {D : Type 0} (disks : Disks D)
-    (p q : Point D) (h : Stays disks p q) where
+    (p q : Point D) (h : StoreStays disks p q) where
   -- an image of the last commit's log stays one
   image_stays : (past : Whole) → Sound disks p past → (c : List ℕ) → disks.images p.disk c
       → IsImageOf past q.view p.flusher.count c
@@ -168,8 +169,8 @@ module _
       record {
         commit = r.commit;
         log = r.log;
-        carries = subst (λ (f : Flusher). Carries (disks.images q.disk) f q.view q.shape q.rows r.commit r.log) (sym h.flusher)
-            (subst (λ (s : Shape). Carries (disks.images q.disk) p.flusher q.view s q.rows r.commit r.log) (sym h.shape)
+        carries = subst (λ (f : Flusher). CarriesLog (disks.images q.disk) f q.view q.shape q.rows r.commit r.log) (sym h.flusher)
+            (subst (λ (s : Shape). CarriesLog (disks.images q.disk) p.flusher q.view s q.rows r.commit r.log) (sym h.shape)
             (carries_on (disks.images q.disk) p.flusher p.view q.view p.shape p.rows q.rows r.commit r.log
             (fewer_carry (disks.images p.disk) (disks.images q.disk) p.flusher p.view p.shape p.rows r.commit r.log h.crash.now r.carries)
             h.learns grown));
@@ -223,8 +224,8 @@ module _
         may = (
           c,
           log,
-          subst (λ (f : Flusher). Carries (disks.images q.disk) f q.view q.shape q.rows c log) (sym h.flusher)
-              (subst (λ (s : Shape). Carries (disks.images q.disk) p.flusher q.view s q.rows c log) (sym h.shape)
+          subst (λ (f : Flusher). CarriesLog (disks.images q.disk) f q.view q.shape q.rows c log) (sym h.flusher)
+              (subst (λ (s : Shape). CarriesLog (disks.images q.disk) p.flusher q.view s q.rows c log) (sym h.shape)
               (carries_on (disks.images q.disk) p.flusher p.view q.view p.shape p.rows q.rows c log
               (fewer_carry (disks.images p.disk) (disks.images q.disk) p.flusher p.view p.shape p.rows c log h.crash.now carries)
               h.learns grown)),

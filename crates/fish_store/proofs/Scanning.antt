@@ -6,7 +6,7 @@ use Rattle.fish_rule.specs.Logs.{Learns}
 use Rattle.fish_rule.specs.declared.table.Base.{Base}
 use Rattle.fish_rule.specs.declared.view.Key.{Key}
 use Rattle.fish_scan.specs.Colder.{IsBelow}
-use Rattle.fish_store.specs.Sound.{Point, ReadsPages, RowsGoOn, Stays}
+use Rattle.fish_store.specs.Sound.{Point, ReadsPages, RowsGoOn, StoreStays}
 
 -- the older records stay those below the table
 pub below_stays : (k : Key) (old new : Cold) → new.base ≡ old.base → IsBelow k old → IsBelow k new
@@ -19,7 +19,7 @@ below_stays k old new same h = record {
 pub pages_stay : {D : Type 0} (disks : Disks D) (p q : Point D) → Learns p.view q.view → RowsGoOn p.view p.rows q.rows
     → q.flusher ≡ p.flusher
     → q.shape ≡ p.shape → ReadsPages disks p.view.about p.cold q.cold p.disk q.disk
-    → Stays disks p q
+    → StoreStays disks p q
 pages_stay disks p q learns rows flusher shape reads = record {
   learns = learns;
   rows_on = rows;

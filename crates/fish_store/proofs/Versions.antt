@@ -12,7 +12,7 @@ use Rattle.fish_rule.proofs.laws.Versions.{definitions_first, definitions_next}
 use Rattle.fish_rule.specs.ClosedLog.{IsClosed}
 use Rattle.fish_rule.specs.Epochs.{Versions}
 use Rattle.fish_rule.specs.Registry.{IsOperation, definitions_at, made, op_at, row_in, version_in}
-use Rattle.fish_rule.specs.Table.{Stands}
+use Rattle.fish_rule.specs.Table.{IsOfMoment}
 use Rattle.fish_rule.specs.declared.close.Remains.{Remains}
 use Rattle.fish_rule.specs.declared.view.Key.{Key}
 use Rattle.fish_rule.specs.declared.view.View.{View}
@@ -139,7 +139,7 @@ one_version k count later g g' version_of version_of' n m h t from upto from' up
     omega arith
 
 -- so a closed log is left at the version that its control pass knew
-pub version_closed : (v : View) (remains : Remains) → (c : IsClosed v remains) → Stands v → v.lane ≡ 1
+pub version_closed : (v : View) (remains : Remains) → (c : IsClosed v remains) → IsOfMoment v → v.lane ≡ 1
     → remains.version ≡ v.learned.version
 version_closed v remains c s control =
     let its = (s.rule.registry.each s.seat v s.at).control control in

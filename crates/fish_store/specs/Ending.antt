@@ -47,7 +47,7 @@ pub record IsCommitOf (images : List ℕ → Type 0) (shape : Shape) (rows : Lis
 -- the log was closed and shows the end of a whole, with the definitions of its words, of which all is so that was told;
 -- what a crash now may leave is a part of it with the last commit's entries, and what one since a moment may have left,
 -- a part of it with the old ones
-pub record IsShown (now since : List ℕ → Type 0) (old : List Entry) (count : ℕ) (tells : Whole → Type 0)
+pub record IsShownLog (now since : List ℕ → Type 0) (old : List Entry) (count : ℕ) (tells : Whole → Type 0)
     (remains : Remains) : Type 0 where
   pub view : View
   pub closed : IsClosed view remains

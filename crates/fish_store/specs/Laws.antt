@@ -14,7 +14,7 @@ use Rattle.fish_rule.specs.Passes.{view}
 use Rattle.fish_rule.specs.declared.view.Key.{Key}
 use Rattle.fish_slots.specs.Commits.{HasCommit}
 use Rattle.fish_store.specs.Opened.{first_past, opened_point}
-use Rattle.fish_store.specs.Sound.{GoesOnHere, IsImageOf, Point, Sound, Stays}
+use Rattle.fish_store.specs.Sound.{GoesOnHere, IsImageOf, Point, Sound, StoreStays}
 
 -- what a file carries by the lines of a commit it carries by every image that goes on from it, with the same prior part
 abbrev pub StaysCarried : Type 0
@@ -40,7 +40,7 @@ module _ {D : Type 0} (disks : Disks D) where
 
   -- a step that leaves the last commit goes on in one table; what goes on in one table, and then goes on, does so
   abbrev pub StepsGoOn : Type 0
-  StepsGoOn = (p q : Point D) → Stays disks p q → GoesOnHere disks p q
+  StepsGoOn = (p q : Point D) → StoreStays disks p q → GoesOnHere disks p q
 
   abbrev pub BothGoOn : Type 0
   BothGoOn = (p m q : Point D) → GoesOnHere disks p m → GoesOnHere disks m q

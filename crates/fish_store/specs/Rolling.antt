@@ -10,7 +10,7 @@ use Rattle.fish_rule.specs.Start.{table_lines}
 use Rattle.fish_rule.specs.Table.{first_view}
 use Rattle.fish_scan.specs.Colder.{IsBelow}
 use Rattle.fish_store.specs.Points.{point_at}
-use Rattle.fish_store.specs.Sound.{MayGoOn, Runs}
+use Rattle.fish_store.specs.Sound.{MayGoOn, StoreRuns}
 use Rattle.fish_store.specs.declared.store.Store.{Store}
 use Rattle.fish_walk.specs.Settling.{EndsAt, HasTail}
 
@@ -46,4 +46,4 @@ pub record HasRolled {D : Type 0} (disks : Disks D) (disk : D) (old new : Store)
   pub below : IsBelow new.log.key new.file.cold
   pub commit : MayGoOn disks.images (point_at disk new)
   pub unshut : (view new.pass).shut ≡ None
-  pub runs : Runs disks (point_at disk old) (point_at disk new) (λ w. ⊤)
+  pub runs : StoreRuns disks (point_at disk old) (point_at disk new) (λ w. ⊤)

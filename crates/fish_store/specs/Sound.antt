@@ -8,7 +8,7 @@ use Rattle.fish_cold.specs.declared.cold.Cold.{Cold}
 use Rattle.fish_disk.specs.Content.{StillReads}
 use Rattle.fish_disk.specs.Crash.{LeavesOnly}
 use Rattle.fish_disk.specs.declared.disk.Disk.{Ghosts as Disks}
-use Rattle.fish_flush.specs.Carrying.{Carries}
+use Rattle.fish_flush.specs.Carrying.{CarriesLog}
 use Rattle.fish_flush.specs.Rows.{HaveGrown}
 use Rattle.fish_flush.specs.declared.flusher.Flusher.{Flusher}
 use Rattle.fish_image.specs.Stands.{Stands}
@@ -43,7 +43,8 @@ pub record IsImageOf (past : Whole) (v : View) (least : ℕ) (image : List ℕ) 
 
 -- a checkpoint may follow: the flusher carries a log
 abbrev pub MayCommit : {D : Type 0} → (D → List ℕ → Type 0) → Point D → Type 0
-MayCommit images p = (c : Commit) × (log : List Entry) × Carries (images p.disk) p.flusher p.view p.shape p.rows c log
+MayCommit images p = (c : Commit) × (log : List Entry)
+    × CarriesLog (images p.disk) p.flusher p.view p.shape p.rows c log
 
 -- and a checkpoint that follows goes on from the last commit, whose entries the pass has counted
 pub record MayGoOn {D : Type 0} (images : D → List ℕ → Type 0) (p : Point D) : Type 0 where
@@ -55,7 +56,7 @@ pub record MayGoOn {D : Type 0} (images : D → List ℕ → Type 0) (p : Point 
 pub record Rests {D : Type 0} (images : D → List ℕ → Type 0) (p : Point D) (past : Whole) : Type 0 where
   pub commit : Commit
   pub log : List Entry
-  pub carries : Carries (images p.disk) p.flusher p.view p.shape p.rows commit log
+  pub carries : CarriesLog (images p.disk) p.flusher p.view p.shape p.rows commit log
   pub begins : take (length past.log) log ≡ past.log
   pub counted : p.flusher.count ≤ p.view.learned.count
 
@@ -102,7 +103,7 @@ pub record Reaches {D : Type 0} (disks : Disks D) (past : Whole) (p q : Point D)
   pub crash : LeavesOnly disks.images disks.since disks.moment p.disk q.disk (IsImageOf next q.view p.flusher.count)
 
 -- from one moment to a later one, as far as the disk's content is told
-pub record Runs {D : Type 0} (disks : Disks D) (p q : Point D) (tells : Whole → Type 0) : Type 0 where
+pub record StoreRuns {D : Type 0} (disks : Disks D) (p q : Point D) (tells : Whole → Type 0) : Type 0 where
   pub told_before : IsSome (disks.content q.disk) → IsSome (disks.content p.disk)
   pub rises : p.flusher.count ≤ q.flusher.count
   pub reaches : (past : Whole) → Sound disks p past → IsSome (disks.content q.disk)
@@ -115,7 +116,7 @@ abbrev pub RowsGoOn : View → List CatRow → List CatRow → Type 0
 RowsGoOn v old new = (n : ℕ) (rows : List CatRow) → n ≤ v.learned.count → HaveGrown n rows old → HaveGrown n rows new
 
 -- the control pass went on, and of the disk pages were read at most
-pub record Stays {D : Type 0} (disks : Disks D) (p q : Point D) : Type 0 where
+pub record StoreStays {D : Type 0} (disks : Disks D) (p q : Point D) : Type 0 where
   pub learns : Learns p.view q.view
   pub rows_on : RowsGoOn p.view p.rows q.rows
   pub flusher : q.flusher ≡ p.flusher

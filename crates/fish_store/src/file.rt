@@ -3,7 +3,7 @@
 ghost use Rattle.std.specs.Prelude.{◌≡◌, ◌≤◌, ℕ, [], ◌∷◌, true, IfErr, IfOk, IsErrOf};
 ghost use Rattle.fish_cold.specs.Carries.{CarriesTable};
 ghost use Rattle.fish_epoch.specs.Definitions.{IsDefsOf};
-ghost use Rattle.fish_flush.specs.Carrying.{HasSettled, Reads};
+ghost use Rattle.fish_flush.specs.Carrying.{HasSettled, ReadsLog};
 ghost use Rattle.fish_flush.specs.Causes.{HasFlushCause};
 ghost use Rattle.fish_flush.specs.Rows.{HoldsRows};
 ghost use Rattle.fish_rule.specs.Passes.{IsPassOf, view};
@@ -51,7 +51,7 @@ impl StoreFile {
         requires rows { HoldsRows (view pass.old) registrar.now.catalog }
         requires may { MayGoOn D.images (point_of disk.old self.old log.now pass.old registrar.now) }
         ensures pass { IsPassOf log.now pass.new }
-        ensures reads { Reads (view pass.old) (view pass.new) }
+        ensures reads { ReadsLog (view pass.old) (view pass.new) }
         ensures settled { IfOk result (HasSettled (view pass.old) (view pass.new)) }
         ensures cold { self.new.cold ≡ self.old.cold }
         ensures commit { IfOk result (IsCommitOf (D.images disk.new) log.now.shape registrar.now.catalog

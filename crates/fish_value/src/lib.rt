@@ -4,6 +4,7 @@
 //! of its elements. JSON is read and strings are written as JSON through `json` alone.
 #![tactic(auto)]
 
+mod bare_word;
 mod bytes;
 mod field;
 mod json;
@@ -16,6 +17,7 @@ mod text;
 mod value;
 mod value_text;
 
+pub use bare_word::is_bare_word;
 pub use bytes::Bytes;
 pub use field::{Field, FieldView, Form};
 pub use json::{json_text, read_json};

@@ -10,7 +10,7 @@ use Rattle.fish_rule.proofs.laws.Learning.{extends_both, extends_look, extends_s
 use Rattle.fish_rule.specs.Clocks.{HasLoaded, IsLater}
 use Rattle.fish_rule.specs.Logs.{Extends, Learns, KnowsMark}
 use Rattle.fish_rule.specs.LoadSteps.{after_look_at, found_after, kind_told, opens_after}
-use Rattle.fish_rule.specs.Table.{Sees, Stands}
+use Rattle.fish_rule.specs.Table.{Sees, IsOfMoment}
 use Rattle.fish_rule.specs.Views.{Among}
 use Rattle.fish_rule.specs.World.{high, low}
 use Rattle.fish_rule.specs.declared.view.Found.{Found}
@@ -19,8 +19,8 @@ use Rattle.fish_rule.specs.declared.view.Kind.TheVariants.{Mark, Stored, Void}
 use Rattle.fish_rule.specs.declared.view.Noted.TheVariants.{Directory}
 use Rattle.fish_rule.specs.declared.view.Opens.{Opens}
 use Rattle.fish_rule.specs.declared.view.View.{View}
-use Rattle.fish_walk.specs.Looks.{HasFound, HasOpens, IsLookAt, KeepsOpens, KnowsEntry, look_of, look_of_kind, with_look}
-use Rattle.fish_walk.specs.Settling.{EndsAt, IsEnd, IsMark, StopsAt}
+use Rattle.fish_walk.specs.Looks.{HasFound, HasOpens, IsLookAt, KeepsOpens, KnowsEntry, look_of_word, look_of_kind, with_look}
+use Rattle.fish_walk.specs.Settling.{EndsAt, IsEnd, IsMark, SettlesAt}
 use Rattle.fish_walk.specs.within.Settling.{AreSettled, OnlyLooks}
 use Rattle.fish_walk.specs.declared.outcome.Look.{Look}
 use Rattle.fish_walk.specs.declared.outcome.Look.TheVariants as look
@@ -33,7 +33,7 @@ entry_later v u n learns h x more = h x (learns_both v u x learns more)
 
 -- a stop was found between two views that lie further apart
 pub stops_within : (P : ℕ → Type 0) (a b c d : View) (number count : ℕ) → Learns a b → IsLater a.clock b.clock
-    → StopsAt P b c number count → IsLater c.clock d.clock → StopsAt P a d number count
+    → SettlesAt P b c number count → IsLater c.clock d.clock → SettlesAt P a d number count
 stops_within P a b c d number count learns p (inl e) q = inl e
 stops_within P a b c d number count learns p (inr h) q = inr (record {
   below = h.below;
@@ -97,12 +97,12 @@ begun_still : (v : View) (n lines x count : ℕ) → HasOpens v count [] → Has
 begun_still v n lines x count h = opens_still v (after_look_at v n lines x) n lines x count [] refl h
 
 -- a number that was found unpublished joins the others
-pub opens_looked : (v u : View) (n lines x : ℕ) (r : Look) → u ≡ after_look_at v n lines x → r ≡ look_of x
+pub opens_looked : (v u : View) (n lines x : ℕ) (r : Look) → u ≡ after_look_at v n lines x → r ≡ look_of_word x
     → KeepsOpens v u n r
 opens_looked v u n lines x r e is count numbers h below =
     subst (λ (z : Look). HasOpens u count (with_look n z numbers)) (sym is) (by x e)
   where
-    by : (y : ℕ) → u ≡ after_look_at v n lines y → HasOpens u count (with_look n (look_of y) numbers)
+    by : (y : ℕ) → u ≡ after_look_at v n lines y → HasOpens u count (with_look n (look_of_word y) numbers)
     by (suc y) e = told (kind_told (high (suc y)))
       where
         still : HasOpens u count numbers
@@ -127,10 +127,10 @@ opens_looked v u n lines x r e is count numbers h below =
         }
 
 -- what a look told of a number is found
-pub look_found : (v u : View) (n lines x : ℕ) (r : Look) → u ≡ after_look_at v n lines x → r ≡ look_of x → IsLookAt u n r
+pub look_found : (v u : View) (n lines x : ℕ) (r : Look) → u ≡ after_look_at v n lines x → r ≡ look_of_word x → IsLookAt u n r
 look_found v u n lines x r e is = subst (IsLookAt u n) (sym is) (by x e)
   where
-    by : (y : ℕ) → u ≡ after_look_at v n lines y → IsLookAt u n (look_of y)
+    by : (y : ℕ) → u ≡ after_look_at v n lines y → IsLookAt u n (look_of_word y)
     by zero e = tt
     by (suc y) e = told (kind_told (high (suc y))) refl
       where
@@ -173,19 +173,19 @@ looked_both a b c p q = record {
 }
 
 -- a look that tells of an end has found an end's word
-pub end_told : (r : Look) (x : ℕ) → r ≡ look_of x → (r ≡ look.Unfinished) ⊎ (r ≡ look.Overflow) → IsEnd x
+pub end_told : (r : Look) (x : ℕ) → r ≡ look_of_word x → (r ≡ look.Unfinished) ⊎ (r ≡ look.Overflow) → IsEnd x
 end_told r x e (inl is) = inl (sym e ∙ is)
 end_told r x e (inr is) = inr (sym e ∙ is)
 
 -- and that of a mark, where no number is unfinished
-pub mark_told : (r : Look) (x : ℕ) → r ≡ look_of x → r ≢ look.Unfinished
+pub mark_told : (r : Look) (x : ℕ) → r ≡ look_of_word x → r ≢ look.Unfinished
     → (r ≡ look.Unfinished) ⊎ (r ≡ look.Overflow) → IsMark x
 mark_told r x e ne (inl is) = absurd (ne is)
 mark_told r x e ne (inr is) = sym e ∙ is
 
 -- so the numbers stop here
 pub stops_by : (P : ℕ → Type 0) (a v u : View) (n lines x count : ℕ) → OnlyLooks a v → u ≡ after_look_at v n lines x
-    → P x → n < count → ¬ KnowsEntry a n → StopsAt P a u n count
+    → P x → n < count → ¬ KnowsEntry a n → SettlesAt P a u n count
 stops_by P a v u n lines x count looked e ends below unknown = inr (record {
   below = below;
   word = x;
@@ -196,7 +196,7 @@ stops_by P a v u n lines x count looked e ends below unknown = inr (record {
 })
 
 -- a number at which the numbers stop is at most the count
-pub stops_below : (P : ℕ → Type 0) (v u : View) (number count : ℕ) → StopsAt P v u number count → number ≤ count
+pub stops_below : (P : ℕ → Type 0) (v u : View) (number count : ℕ) → SettlesAt P v u number count → number ≤ count
 stops_below P v u number count (inl e) = omega arith
 stops_below P v u number count (inr h) = (let below = h.below in omega arith)
 
@@ -213,7 +213,7 @@ entry_told r w e (inr is) = (
 )
 
 -- such a look has found a number that is published and no mark
-found_entry : (n lines x : ℕ) (found : List Found) → look_of x ≢ look.Unfinished → look_of x ≢ look.Overflow
+found_entry : (n lines x : ℕ) (found : List Found) → look_of_word x ≢ look.Unfinished → look_of_word x ≢ look.Overflow
     → (f : Found) × Among f (found_after n lines x found) × (f.number ≡ n) × (f.kind ≢ Mark)
 found_entry n lines zero found some plain = absurd (some refl)
 found_entry n lines (suc x) found some plain = (
@@ -224,7 +224,7 @@ found_entry n lines (suc x) found some plain = (
 )
 
 -- so one number more is settled
-pub settled_more : (v u : View) (first n lines x : ℕ) (r : Look) → u ≡ after_look_at v n lines x → r ≡ look_of x
+pub settled_more : (v u : View) (first n lines x : ℕ) (r : Look) → u ≡ after_look_at v n lines x → r ≡ look_of_word x
     → (r ≡ look.Void) ⊎ (r ≡ look.Stored) → AreSettled v first n → AreSettled u first (n + 1)
 settled_more v u first n lines x r e told is settled m above below = pick (dec_lt m n)
   where
@@ -235,7 +235,7 @@ settled_more v u first n lines x r e told is settled m above below = pick (dec_l
         (h.0, more h.0 h.1, h.2, h.3)
     pick (no not_less) =
         let same : n ≡ m = omega arith in
-        let entry = entry_told r (look_of x) told is in
+        let entry = entry_told r (look_of_word x) told is in
         let here = found_entry n lines x v.learned.found entry.0 entry.1 in
         (here.0, subst (λ (z : View). Among here.0 z.learned.found) (sym e) here.1, here.2 ∙ same, here.3)
 
@@ -260,7 +260,7 @@ marked v u n lines (suc x) e is =
 -- ---- what wasn't known
 
 -- a word that tells of an unfinished number is 0
-pub zero_told : (word : ℕ) → look_of word ≡ look.Unfinished → word ≡ 0
+pub zero_told : (word : ℕ) → look_of_word word ≡ look.Unfinished → word ≡ 0
 zero_told zero is = refl
 zero_told (suc x) is = of_kind (kind_told (high (suc x))) is
   where
@@ -270,14 +270,14 @@ zero_told (suc x) is = of_kind (kind_told (high (suc x))) is
     of_kind Mark bad = cc
 
 -- a number that is found unfinished wasn't known to be an entry's
-pub unknown_unfinished : (a v : View) (n word : ℕ) → Learns a v → Sees v n word → look_of word ≡ look.Unfinished
+pub unknown_unfinished : (a v : View) (n word : ℕ) → Learns a v → Sees v n word → look_of_word word ≡ look.Unfinished
     → ¬ KnowsEntry a n
 unknown_unfinished a v n word learns s is known =
     (known v learns s.moment s.rule s.seat s.at).published (sym s.is ∙ zero_told word is)
 
 -- and no more was one at which the numbers end
-pub unknown_end : (a v u : View) (n lines x word : ℕ) (r : Look) → OnlyLooks a v → u ≡ after_look_at v n lines x → r ≡ look_of x
-    → Stands u → Sees v n word → r ≡ look_of word → (r ≡ look.Unfinished) ⊎ (r ≡ look.Overflow) → ¬ KnowsEntry a n
+pub unknown_end : (a v u : View) (n lines x word : ℕ) (r : Look) → OnlyLooks a v → u ≡ after_look_at v n lines x → r ≡ look_of_word x
+    → IsOfMoment u → Sees v n word → r ≡ look_of_word word → (r ≡ look.Unfinished) ⊎ (r ≡ look.Overflow) → ¬ KnowsEntry a n
 unknown_end a v u n lines x word r looked e told stands sees seen (inl is) known =
     unknown_unfinished a v n word looked.extends.learns sees (sym seen ∙ is) known
 unknown_end a v u n lines x word r looked e told stands sees seen (inr is) known =
@@ -286,7 +286,7 @@ unknown_end a v u n lines x word r looked e told stands sees seen (inr is) known
     (marked v u n lines x e (sym told ∙ is) u (learns_self u) stands.moment stands.rule stands.seat stands.at)
 
 -- so the log ends there
-pub ends_by : (v u : View) (n lines x count : ℕ) (r : Look) → u ≡ after_look_at v n lines x → r ≡ look_of x
+pub ends_by : (v u : View) (n lines x count : ℕ) (r : Look) → u ≡ after_look_at v n lines x → r ≡ look_of_word x
     → r ≢ look.Unfinished → (r ≡ look.Unfinished) ⊎ (r ≡ look.Overflow) → n < count → EndsAt u n count
 ends_by v u n lines x count r e told ne is below = inr (below, marked v u n lines x e (mark_told r x told ne is))
 

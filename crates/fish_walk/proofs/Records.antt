@@ -6,18 +6,18 @@ use Rattle.fish_rule.proofs.laws.Steps.{fits_law, found_law, read_law}
 use Rattle.fish_rule.specs.Logs.{Extends}
 use Rattle.fish_rule.specs.Regions.{code, dir_word, kind_of}
 use Rattle.fish_rule.specs.LoadSteps.{after_look_at, found_after, kind_told}
-use Rattle.fish_rule.specs.Table.{Sees, Stands}
+use Rattle.fish_rule.specs.Table.{Sees, IsOfMoment}
 use Rattle.fish_rule.specs.Views.{Among}
 use Rattle.fish_rule.specs.World.{World, high, low}
 use Rattle.fish_rule.specs.declared.view.Found.{Found}
 use Rattle.fish_rule.specs.declared.view.Kind.{Kind}
 use Rattle.fish_rule.specs.declared.view.Kind.TheVariants.{Mark, Stored, Void}
 use Rattle.fish_rule.specs.declared.view.View.{View}
-use Rattle.fish_walk.specs.Looks.{IsEntryLook, look_of, look_of_kind}
+use Rattle.fish_walk.specs.Looks.{IsEntryLook, look_of_word, look_of_kind}
 use Rattle.fish_walk.specs.declared.outcome.Look.TheVariants as Look
 
 -- its line has 36 bits
-low_line : (v : View) (f : Found) → Stands v → Among f v.learned.found → f.kind ≡ Stored
+low_line : (v : View) (f : Found) → IsOfMoment v → Among f v.learned.found → f.kind ≡ Stored
     → f.line < 68719476736
 low_line v f s among is =
     let some = found_law v f s among in
@@ -33,7 +33,7 @@ low_line v f s among is =
     omega arith
 
 -- so it is what the low bits of the directory word say
-pub word_line : (v : View) (f : Found) (x : ℕ) → Stands v → Among f v.learned.found
+pub word_line : (v : View) (f : Found) (x : ℕ) → IsOfMoment v → Among f v.learned.found
     → f.kind ≡ Stored → x ≡ dir_word f.kind f.line
     → f.line ≡ low x
 unfolding low
@@ -47,7 +47,7 @@ pub look_extends : (v u : View) (n lines x : ℕ) → u ≡ after_look_at v n li
 look_extends v u n lines x e = subst (Extends v) (sym e) (extends_look v n lines x)
 
 -- a look at a record that was found before finds it again, at the line of the word
-pub look_finds : (v u : View) (n lines x line : ℕ) (f : Found) → Stands v → u ≡ after_look_at v n lines x
+pub look_finds : (v u : View) (n lines x line : ℕ) (f : Found) → IsOfMoment v → u ≡ after_look_at v n lines x
     → x ≡ dir_word f.kind f.line → Among f v.learned.found → f.kind ≡ Stored → line ≡ low x
     → Among f u.learned.found × (f.line ≡ line) × (f.kind ≢ Mark)
 look_finds v u n lines x line f s e word among is at =
@@ -55,7 +55,7 @@ look_finds v u n lines x line f s e word among is at =
     (extends.learns.found f among, word_line v f x s among is word ∙ sym at, stored_words f.kind is)
 
 -- a look that tells of a record has found it
-found_stored : (n lines x : ℕ) (found : List Found) → Look.Stored ≡ look_of x → (f : Found)
+found_stored : (n lines x : ℕ) (found : List Found) → Look.Stored ≡ look_of_word x → (f : Found)
     × Among f (found_after n lines x found) × (f.number ≡ n) × (f.kind ≡ Stored)
 found_stored n lines zero found e = cc
 found_stored n lines (suc x) found e = (
@@ -71,7 +71,7 @@ found_stored n lines (suc x) found e = (
     by Mark e = cc
 
 -- the same of the view after it
-pub stored_law : (v u : View) (n lines x : ℕ) → u ≡ after_look_at v n lines x → Look.Stored ≡ look_of x
+pub stored_law : (v u : View) (n lines x : ℕ) → u ≡ after_look_at v n lines x → Look.Stored ≡ look_of_word x
     → (f : Found) × Among f u.learned.found × (f.number ≡ n) × (f.kind ≡ Stored)
 stored_law v u n lines x e is =
     subst (λ (z : View). (f : Found) × Among f z.learned.found × (f.number ≡ n) × (f.kind ≡ Stored)) (sym e)
@@ -87,7 +87,7 @@ told_code Mark = refl
 
 -- the word of a kind that is no mark
 entry_look : (word : ℕ) (kind : Kind) → word ≢ 0 → kind_told (high word) ≡ kind → kind ≢ Mark
-    → IsEntryLook (look_of word)
+    → IsEntryLook (look_of_word word)
 entry_look zero kind some_ is plain = absurd (some_ refl)
 entry_look (suc x) Stored some_ is plain = inl (ap look_of_kind is)
 entry_look (suc x) Void some_ is plain = inr (ap look_of_kind is)
@@ -95,7 +95,7 @@ entry_look (suc x) Mark some_ is plain = absurd (plain refl)
 
 -- whoever looks at a number of the table below the settled number that it knows sees a record or a void
 pub settled_seen : (v : View) (n word : ℕ) → v.about.number ≤ n → n < v.learned.settled → Sees v n word
-    → IsEntryLook (look_of word)
+    → IsEntryLook (look_of_word word)
 settled_seen v n word above below s =
     let w : World = s.moment in
     let r = s.rule in

@@ -15,7 +15,7 @@ use Rattle.fish_rule.specs.declared.view.Kind.TheVariants.{Mark}
 use Rattle.fish_rule.specs.declared.view.Noted.TheVariants.{Tail}
 use Rattle.fish_rule.specs.declared.view.View.{View}
 use Rattle.fish_walk.proofs.Looking.{stops_within}
-use Rattle.fish_walk.specs.Settling.{HasLoadedCount, OnlySettles, StopsAt}
+use Rattle.fish_walk.specs.Settling.{HasLoadedCount, OnlySettles, SettlesAt}
 use Rattle.fish_walk.specs.within.Settling.{AreSettled, OnlyLooks, OnlyRaises}
 
 -- the views of a call: as it began, and after each of its parts
@@ -54,7 +54,7 @@ module _ (a b c d e : View) (known x settled : ℕ) (to_b : b ≡ after_load_set
 
   -- the stop is one of this call's too
   pub stops_here : a.learned.settled ≤ known → b.learned.count ≤ high x → (P : ℕ → Type 0) (number count : ℕ)
-      → StopsAt P c d number count → StopsAt P a e number count
+      → SettlesAt P c d number count → SettlesAt P a e number count
   stops_here rises more P number count stop =
       let began : b.learned.count ≡ a.learned.count = ap (λ (z : View). z.learned.count) to_b in
       stops_within P a c d e number count (learns_begun rises (omega arith))

@@ -21,9 +21,9 @@ look_of_kind kind.Void = found.Void
 look_of_kind kind.Mark = found.Overflow
 
 -- what a directory word tells: 0 that its number isn't published, any other its kind
-abbrev pub look_of : ℕ → Look
-look_of zero = found.Unfinished
-look_of (suc x) = look_of_kind (kind_told (high (suc x)))
+abbrev pub look_of_word : ℕ → Look
+look_of_word zero = found.Unfinished
+look_of_word (suc x) = look_of_kind (kind_told (high (suc x)))
 
 -- what is found at a number that is settled
 abbrev pub IsEntryLook : Look → Type 0

@@ -6,7 +6,7 @@ use Rattle.fish_rule.specs.Logs.{Learns, KnowsMark}
 use Rattle.fish_rule.specs.World.{high, low}
 use Rattle.fish_rule.specs.declared.view.Noted.TheVariants.{Directory, Tail}
 use Rattle.fish_rule.specs.declared.view.View.{View}
-use Rattle.fish_walk.specs.Looks.{KnowsEntry, look_of}
+use Rattle.fish_walk.specs.Looks.{KnowsEntry, look_of_word}
 use Rattle.fish_walk.specs.declared.outcome.Look.TheVariants.{Overflow, Unfinished}
 
 -- ---- loads
@@ -21,11 +21,11 @@ pub record HasLoadedCount (v u : View) (count : ℕ) : Type 0 where
 
 -- a directory word that tells of a mark
 abbrev pub IsMark : ℕ → Type 0
-IsMark word = look_of word ≡ Overflow
+IsMark word = look_of_word word ≡ Overflow
 
 -- a directory word at which the settled numbers end: one that tells of an unfinished number or a mark
 abbrev pub IsEnd : ℕ → Type 0
-IsEnd word = (look_of word ≡ Unfinished) ⊎ IsMark word
+IsEnd word = (look_of_word word ≡ Unfinished) ⊎ IsMark word
 
 -- a number below the count whose directory word meets P, as the pass found it between the two views; before them it
 -- didn't know an entry there
@@ -37,8 +37,8 @@ pub record HasEnd (P : ℕ → Type 0) (v u : View) (number count : ℕ) : Type 
   pub unknown : ¬ KnowsEntry v number
 
 -- the number at which the settled ones stop: the count, or one whose word meets P
-abbrev pub StopsAt : (ℕ → Type 0) → View → View → ℕ → ℕ → Type 0
-StopsAt P v u number count = (number ≡ count) ⊎ HasEnd P v u number count
+abbrev pub SettlesAt : (ℕ → Type 0) → View → View → ℕ → ℕ → Type 0
+SettlesAt P v u number count = (number ≡ count) ⊎ HasEnd P v u number count
 
 -- the log ends here, in every moment of a view that knows as much: at the count, or at a mark below it
 abbrev pub EndsAt : View → ℕ → ℕ → Type 0

@@ -5,7 +5,7 @@ ghost use Rattle.fish_rule.specs.Passes.{IsPassOf, view};
 ghost use Rattle.fish_rule.specs.LoadSteps.{CanLookAt, IsAlone, after_load_tail, after_look_at};
 ghost use Rattle.fish_rule.specs.Table.{Sees};
 ghost use Rattle.fish_rule.specs.World.{high};
-ghost use Rattle.fish_walk.specs.Looks.{HasOpens, IsEntryLook, IsLookAt, IsTailCount, KeepsOpens, look_of};
+ghost use Rattle.fish_walk.specs.Looks.{HasOpens, IsEntryLook, IsLookAt, IsTailCount, KeepsOpens, look_of_word};
 ghost use Rattle.fish_walk.specs.declared.outcome.Look.TheVariants.{Unfinished};
 
 use crate::outcome::{Look, told_by};
@@ -17,9 +17,9 @@ pub fn look(log: &Log, pass: &mut Pass, number: u32) -> Look
     requires view { CanLookAt (view pass.old) number }
     ensures pass { IsPassOf log.now pass.new }
     ensures view { (lines word : ℕ) × (view pass.new ≡ after_look_at (view pass.old) number lines word)
-        × (result ≡ look_of word) }
+        × (result ≡ look_of_word word) }
     ensures alone { IsAlone (view pass.old) → result ≢ Unfinished }
-    ensures sees { (word : ℕ) × Sees (view pass.old) number word × (result ≡ look_of word) }
+    ensures sees { (word : ℕ) × Sees (view pass.old) number word × (result ≡ look_of_word word) }
     ensures settled { number < (view pass.old).learned.settled → IsEntryLook result }
     ensures found { IsLookAt (view pass.new) number result }
     ensures opens { KeepsOpens (view pass.old) (view pass.new) number result }

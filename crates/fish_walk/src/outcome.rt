@@ -1,7 +1,7 @@
 //! What a number was found to be.
 
 ghost use Rattle.std.specs.Prelude.{◌≡◌};
-ghost use Rattle.fish_walk.specs.Looks.{look_of};
+ghost use Rattle.fish_walk.specs.Looks.{look_of_word};
 
 use fish_rule::{Kind, kind_of_word};
 
@@ -20,7 +20,7 @@ pub enum Look {
 
 /// What a directory word tells.
 pub(crate) fn told_by(word: u64) -> Look
-    ensures { result ≡ look_of word }
+    ensures { result ≡ look_of_word word }
 {
     if word == 0 {
         return Look::Unfinished;

@@ -6,7 +6,7 @@ ghost use Rattle.fish_rule.specs.LoadSteps.{CanRaiseSettled, IsAlone};
 ghost use Rattle.fish_walk.specs.Looks.{HasOpens, IsTailCount};
 ghost use Rattle.fish_walk.specs.Settling.{EndsAt, HasLoadedCount, HasTail, IsEnd, IsMark};
 ghost use Rattle.fish_walk.specs.within.Settling.{AreSettled, CanSettle, OnlyLooks, OnlyRaises};
-ghost use Rattle.fish_walk.specs.Settling.{OnlySettles, StopsAt};
+ghost use Rattle.fish_walk.specs.Settling.{OnlySettles, SettlesAt};
 
 use crate::found::{count_now, look};
 use crate::outcome::Look;
@@ -31,9 +31,9 @@ pub fn settle(log: &Log, pass: &mut Pass) -> Settled
     ensures rises { (view pass.old).learned.settled ≤ result.settled }
     ensures settled { result.settled ≤ (view pass.new).learned.settled }
     ensures count { HasLoadedCount (view pass.old) (view pass.new) result.count }
-    ensures stops { StopsAt IsEnd (view pass.old) (view pass.new) result.settled result.count }
+    ensures stops { SettlesAt IsEnd (view pass.old) (view pass.new) result.settled result.count }
     ensures alone { IsAlone (view pass.old)
-        → StopsAt IsMark (view pass.old) (view pass.new) result.settled result.count }
+        → SettlesAt IsMark (view pass.old) (view pass.new) result.settled result.count }
     ensures tail { HasTail (view pass.new) result.count }
     ensures opens { HasOpens (view pass.new) result.count [] }
     ensures ends { IsAlone (view pass.old) → EndsAt (view pass.new) result.settled result.count }
@@ -55,8 +55,8 @@ fn settled_up_to(log: &Log, pass: &mut Pass, first: u32, count: u32) -> u32
     ensures looked { OnlyLooks (view pass.old) (view pass.new) }
     ensures from { min first count ≤ result }
     ensures settled { AreSettled (view pass.new) first result }
-    ensures stops { StopsAt IsEnd (view pass.old) (view pass.new) result count }
-    ensures alone { IsAlone (view pass.old) → StopsAt IsMark (view pass.old) (view pass.new) result count }
+    ensures stops { SettlesAt IsEnd (view pass.old) (view pass.new) result count }
+    ensures alone { IsAlone (view pass.old) → SettlesAt IsMark (view pass.old) (view pass.new) result count }
     ensures ends { IsAlone (view pass.old) → EndsAt (view pass.new) result count }
 {
     for number in first..count {

@@ -4,7 +4,7 @@ use Rattle.fish_lanes.proofs.Controls.{each_last}
 use Rattle.fish_lanes.proofs.Lists.{some_once}
 use Rattle.fish_lanes.specs.Blocks.{HasRegistered, control_items}
 use Rattle.fish_lanes.specs.Controlling.{CanControl}
-use Rattle.fish_lanes.specs.Ending.{HasEnd}
+use Rattle.fish_lanes.specs.Ending.{EndsAlone}
 use Rattle.fish_lanes.specs.Registering.{KnowsRegistry, registry_of}
 use Rattle.fish_lanes.specs.declared.block.BlockEnd.{BlockEnd}
 use Rattle.fish_lanes.specs.declared.lane.Lane.{Lane}
@@ -29,7 +29,7 @@ module _ {D : Type 0} (images : D → List ℕ → Type 0) (disk : D) (s : Store
   -- and all else that the next block asks for
   pub block_between : CanControl s.log s.pass s.registrar
       → (((x : Lane) → slice_get lanes 0 ≡ Some x → x.fault ≡ cause.Disk → ⊥) → MayGoOn images (point_at disk s))
-      → IsBelow s.log.key s.file.cold → HasEnd (view s.pass) end.to
+      → IsBelow s.log.key s.file.cold → EndsAlone (view s.pass) end.to
       → ((x : Lane) → slice_get lanes 0 ≡ Some x → HasRegistered v (view s.pass) r s.registrar x end)
       → (x : Lane) × (slice_get lanes 0 ≡ Some x) × (x.fault ≡ cause.None) → IsBetween images disk s
   block_between can again below ends registered (x, at, whole) = record {

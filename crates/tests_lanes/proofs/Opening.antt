@@ -8,9 +8,9 @@ use Rattle.fish_catalog.specs.declared.commit.Commit.{Commit}
 use Rattle.fish_catalog.specs.declared.entry.Entry.{Entry}
 use Rattle.fish_catalog.specs.declared.row.CatRow.{CatRow}
 use Rattle.fish_disk.specs.declared.disk.Disk.{Ghosts as Disks}
-use Rattle.fish_flush.specs.Carrying.{Carries}
+use Rattle.fish_flush.specs.Carrying.{CarriesLog}
 use Rattle.fish_ingest.specs.Ingestion.{CanStart}
-use Rattle.fish_lanes.specs.Ending.{HasEnd}
+use Rattle.fish_lanes.specs.Ending.{EndsAlone}
 use Rattle.fish_lanes.specs.Registering.{KnowsRegistry, registry_of}
 use Rattle.fish_recover.specs.Stores.{IsOpened}
 use Rattle.fish_recover.specs.declared.opened.Opened.{Opened}
@@ -26,9 +26,9 @@ use Rattle.fish_store.specs.declared.store.Store.{Store}
 use Rattle.tests_lanes.specs.Blocks.{IsBetween}
 
 -- a table that was just opened ends where it begins
-first_end : (v : View) (k : Key) → v ≡ first_view k → k.line < 68719476736 → HasEnd v k.number
+first_end : (v : View) (k : Key) → v ≡ first_view k → k.line < 68719476736 → EndsAlone v k.number
 unfolding high low
-first_end v k is few = subst (λ (z : View). HasEnd z k.number) (sym is) (record {
+first_end v k is few = subst (λ (z : View). EndsAlone z k.number) (sym is) (record {
   alone = record { control = refl; all = refl; idle = refl };
   outside = refl;
   above = omega arith;
@@ -92,7 +92,7 @@ module _ {D : Type 0} (disks : Disks D) (disk : D) (c : Commit) (log : List Entr
       may = (
         c,
         log,
-        subst (λ (l : List CatRow). Carries (disks.images disk) o.flusher (view o.pass) o.log.shape l c log) (sym rows) h.carries,
+        subst (λ (l : List CatRow). CarriesLog (disks.images disk) o.flusher (view o.pass) o.log.shape l c log) (sym rows) h.carries,
       );
       counted =
           let count = h.carries.rest.committed.count in

@@ -4,7 +4,7 @@ use Rattle.fish_outside.specs.Bounded.{content_in}
 use Rattle.fish_disk.specs.declared.sure.SureDisk.{SureDisk}
 use Rattle.fish_lanes.specs.Blocks.{EachLane, IsNewLane}
 use Rattle.fish_lanes.specs.Controlling.{CanControl}
-use Rattle.fish_lanes.specs.Ending.{HasEnd}
+use Rattle.fish_lanes.specs.Ending.{EndsAlone}
 use Rattle.fish_lanes.specs.Registering.{IsAcceptable, KnowsRegistry, registry_of}
 use Rattle.fish_lanes.specs.Running.{IsShared}
 use Rattle.fish_lanes.specs.declared.lane.Lane.{Lane}
@@ -37,7 +37,7 @@ pub record IsBetween {D : Type 0} (images : D → List ℕ → Type 0) (disk : D
   pub commit : MayGoOn images (point_at disk s)
   pub below : IsBelow s.log.key s.file.cold
   pub from : ℕ
-  pub end : HasEnd (view s.pass) from
+  pub end : EndsAlone (view s.pass) from
   pub known : KnowsRegistry (view s.pass) (registry_of (view s.pass) s.registrar)
 
 -- the same of a store on a disk that never fails

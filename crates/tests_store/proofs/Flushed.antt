@@ -5,7 +5,7 @@ use Rattle.fish_catalog.specs.declared.row.CatRow.{CatRow}
 use Rattle.fish_epoch.proofs.Reading.{defs_later}
 use Rattle.fish_epoch.specs.declared.definitions.Defs.{Defs}
 use Rattle.fish_flush.proofs.Lasting.{carries_on, first_carries, first_holds, holds_on}
-use Rattle.fish_flush.specs.Carrying.{Carries, HasCommitted, Reads}
+use Rattle.fish_flush.specs.Carrying.{CarriesLog, HasCommitted, ReadsLog}
 use Rattle.fish_flush.specs.Kept.{IsAtRest, commit_of, first_commit}
 use Rattle.fish_flush.specs.Rows.{HoldsRows}
 use Rattle.fish_flush.specs.declared.flusher.Flusher.{Flusher}
@@ -42,7 +42,7 @@ flushing_first images shape start log pass defs flusher opened rest live ready =
       held = subst (λ (z : View × List CatRow). HoldsRows z.0 z.1) (λ i. (sym opened.first i, opened.rows i)) (first_holds k);
       commit = first_commit shape;
       entries = [];
-      carries = subst (λ (z : View × Shape). Carries images flusher z.0 z.1 start.catalog (first_commit shape) [])
+      carries = subst (λ (z : View × Shape). CarriesLog images flusher z.0 z.1 start.catalog (first_commit shape) [])
           (λ i. (sym opened.first i, sym opened.shape_is i))
           (first_carries images flusher shape k start.catalog rest opened.number opened.line);
     }
@@ -66,7 +66,7 @@ flushing_open images o control opened pass catalog flusher read =
           (λ i. (sym first i, (h.rows ∙ sym catalog) i)) (first_holds o.log.key);
       commit = opened.commit;
       entries = opened.entries;
-      carries = subst (λ (z : Flusher × View × List CatRow). Carries images z.0 z.1 o.log.shape z.2 opened.commit opened.entries)
+      carries = subst (λ (z : Flusher × View × List CatRow). CarriesLog images z.0 z.1 o.log.shape z.2 opened.commit opened.entries)
           (λ i. (sym flusher i, view (sym pass i), sym catalog i)) h.carries;
     }
 
@@ -114,7 +114,7 @@ module _ (images : List ℕ → Type 0) (log : Log) (control : Control) (h : IsF
       (ap (λ (z : View). z.control_words) left) learns
 
   -- a commit is the last one from then on
-  pub committed_on : (images' : List ℕ → Type 0) (flusher : Flusher) (n : ℕ) → IsPassOf log pass → Reads before after
+  pub committed_on : (images' : List ℕ → Type 0) (flusher : Flusher) (n : ℕ) → IsPassOf log pass → ReadsLog before after
       → HasCommitted images images' control.flusher flusher before after log.shape control.start.catalog n
       → IsFlushing images' log (record control { pass = pass; flusher = flusher })
   committed_on images' flusher n of reads committed =

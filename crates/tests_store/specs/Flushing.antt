@@ -2,7 +2,7 @@
 use Rattle.std.specs.Prelude.{ℕ, ◌≡◌, ◌<◌, List, Option, All, false, length}
 use Rattle.fish_catalog.specs.declared.commit.Commit.{Commit}
 use Rattle.fish_catalog.specs.declared.entry.Entry.{Entry}
-use Rattle.fish_flush.specs.Carrying.{Carries}
+use Rattle.fish_flush.specs.Carrying.{CarriesLog}
 use Rattle.fish_flush.specs.Rows.{HoldsRows}
 use Rattle.fish_ingest.specs.Ingestion.{CanIngest, CanStart}
 use Rattle.fish_recover.specs.Stores.{IsOpened}
@@ -32,7 +32,7 @@ pub record IsFlushing (images : List ℕ → Type 0) (log : Log) (control : Cont
   pub held : HoldsRows (view control.pass) control.start.catalog
   pub commit : Commit
   pub entries : List Entry
-  pub carries : Carries images control.flusher (view control.pass) log.shape control.start.catalog commit entries
+  pub carries : CarriesLog images control.flusher (view control.pass) log.shape control.start.catalog commit entries
 
 -- a store that was opened
 pub record IsOpenStore (images : List ℕ → Type 0) (o : Opened) : Type 0 where

@@ -2,7 +2,7 @@
 
 use crate::expecting::expect_all;
 use crate::told::value_text;
-use fish_value::{Text, json_text, read_json, read_value};
+use fish_value::{Text, is_bare_word, json_text, read_json, read_value};
 use std::alloc::{AllocError, Global};
 use std::test::Fail;
 
@@ -88,5 +88,27 @@ fn kind_of_text(alloc: Global, text: &&str) -> Result<String, AllocError> {
 fn bytes(rt: HostRuntime) -> Result<(), Fail> {
     expect_all(&rt, rt.alloc(), TEXTS, kind_of_text)?;
     expect_all(&rt, rt.alloc(), BYTES, kind_of)?;
+    Ok(())
+}
+
+/// Words, and how a file of that name is written: the bare ones are graphic ASCII, none of it `"` or `#`.
+const WORDS: &[(&[u8], &str)] = &[
+    (b"events.jsonl", "bare"),
+    (b"!~", "bare"),
+    (b"", "quoted"),
+    (b"two words", "quoted"),
+    (b"a#b", "quoted"),
+    (b"a\"b", "quoted"),
+    (b"a\x7f", "quoted"),
+    (b"\xc3\xa9", "quoted"),
+];
+
+fn way_of(alloc: Global, word: &&[u8]) -> Result<String, AllocError> {
+    String::from_str(alloc, if is_bare_word(word) { "bare" } else { "quoted" })
+}
+
+#[test]
+fn bare_words(rt: HostRuntime) -> Result<(), Fail> {
+    expect_all(&rt, rt.alloc(), WORDS, way_of)?;
     Ok(())
 }

@@ -4,7 +4,7 @@ use Rattle.fish_catalog.specs.declared.interval.Interval.{Interval}
 use Rattle.fish_catalog.specs.declared.row.CatRow.{CatRow}
 
 -- the interval of a row came after the others, where the row has the text and its index has begun
-abbrev pub IsAdded : CatRow → List ℕ → List Interval → List Interval → Type 0
-IsAdded row def old new = ((from : ℕ) × (row.def ≡ def) × (row.from ≡ Some from)
+abbrev pub IsIntervalAdded : CatRow → List ℕ → List Interval → List Interval → Type 0
+IsIntervalAdded row def old new = ((from : ℕ) × (row.def ≡ def) × (row.from ≡ Some from)
     × (new ≡ old ++ record { id = row.id; from = from; to = row.to } ∷ []))
     ⊎ (((from : ℕ) → row.def ≡ def → row.from ≡ Some from → ⊥) × (new ≡ old))

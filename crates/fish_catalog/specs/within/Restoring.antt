@@ -9,8 +9,8 @@ abbrev pub HaveIds : List CatRow → Type 0
 HaveIds rows = (k : ℕ) (row : CatRow) → slice_get rows k ≡ Some row → row.id ≡ k
 
 -- no active one of them has the name
-abbrev pub IsAlone : List CatRow → List ℕ → Type 0
-IsAlone rows name = (k : ℕ) (row : CatRow) → slice_get rows k ≡ Some row → IsActive row → row.name ≡ name → ⊥
+abbrev pub IsOnlyName : List CatRow → List ℕ → Type 0
+IsOnlyName rows name = (k : ℕ) (row : CatRow) → slice_get rows k ≡ Some row → IsActive row → row.name ≡ name → ⊥
 
 -- no two active rows have one name
 abbrev pub AreApart : List CatRow → Type 0

@@ -7,7 +7,7 @@ use Rattle.fish_rule.specs.declared.view.Flight.{Flight}
 use Rattle.fish_rule.specs.declared.view.View.{View}
 
 -- no entry more is, and one of the bucket is known to be linked at a higher place
-pub record IsBelow (v : View) (f : Flight) (bucket place : ℕ) (u : View) : Type 0 where
+pub record IsLinkBelow (v : View) (f : Flight) (bucket place : ℕ) (u : View) : Type 0 where
   pub words : List ℕ
   pub changed : Changed v f words f.linked u
   pub node : HasNode u bucket place
@@ -23,4 +23,4 @@ pub record CanLinkBelow (v : View) (f : Flight) (bucket above place : ℕ) : Typ
 -- the entry is linked, or is below the place that was answered
 abbrev pub Tried : View → Flight → ℕ → Option ℕ → View → Type 0
 Tried v f bucket None u = IsLinked v f bucket u
-Tried v f bucket (Some place) u = IsBelow v f bucket place u
+Tried v f bucket (Some place) u = IsLinkBelow v f bucket place u

@@ -2,7 +2,7 @@
 use Rattle.std.specs.Int.Width.{w64}
 use Rattle.std.specs.Int.{to_le_bytes}
 use Rattle.std.specs.Prelude.{ℕ, ◌≡◌, ◌≢◌, ◌+◌, ◌*◌, ◌/◌, ◌%◌, ◌^◌, ◌<◌, ◌≤◌, List, slice_index}
-use Rattle.fish_chain.specs.Values.{words_in}
+use Rattle.fish_chain.specs.Values.{record_words_at}
 use Rattle.fish_layout.specs.Bucket.{value_in}
 use Rattle.fish_layout.specs.Cleared.{entry_at}
 use Rattle.fish_layout.specs.Entry.{value_kind}
@@ -18,12 +18,12 @@ use Rattle.fish_rule.specs.declared.view.View.{View}
 
 -- the words of key entry c say this kind and these bytes
 pub record SaysBytes (n c kind : ℕ) (bytes : List ℕ) (k : Key) (w : World) : Type 0 where
-  pub kind_is : value_kind (words_in n w (entry_at c + 2)) ≡ kind
-  pub bytes_are : value_in (words_in n w) c ≡ bytes
+  pub kind_is : value_kind (record_words_at n w (entry_at c + 2)) ≡ kind
+  pub bytes_are : value_in (record_words_at n w) c ≡ bytes
 
 -- word i of the record with number n is this one
 abbrev pub IsWordIn : ℕ → ℕ → ℕ → Key → World → Type 0
-IsWordIn n i x k w = words_in n w i ≡ x
+IsWordIn n i x k w = record_words_at n w i ≡ x
 
 -- byte o of words, from the first one on, low byte first
 abbrev pub byte_at : (ℕ → ℕ) → ℕ → ℕ
@@ -32,7 +32,7 @@ byte_at e o = e (o / 8) / 256 ^ (o % 8) % 256
 -- from a byte of the record with number n on, so many bytes are these
 abbrev pub AreBytesIn : ℕ → ℕ → List ℕ → ℕ → Key → World → Type 0
 AreBytesIn n first bytes some k w =
-    (j : ℕ) → j < some → byte_at (words_in n w) (first + j) ≡ slice_index bytes j
+    (j : ℕ) → j < some → byte_at (record_words_at n w) (first + j) ≡ slice_index bytes j
 
 -- the bytes from one on up to another are those of a word, each at its place after the record's first byte
 abbrev pub AreBytesOf : ℕ → ℕ → List ℕ → ℕ → ℕ → Type 0

@@ -2,7 +2,7 @@
 -- private clauses need of it.
 use Rattle.std.proofs.Common.{◌⊎◌}
 use Rattle.std.specs.Prelude.{ℕ, ◌<◌}
-use Rattle.fish_chain.specs.Walks.{IsRest}
+use Rattle.fish_chain.specs.Walks.{IsWalkRest}
 use Rattle.fish_rule.specs.ChainFacts.{Always, IsClear}
 use Rattle.fish_rule.specs.ChainSteps.{HasNode}
 use Rattle.fish_rule.specs.declared.table.Walk.{Walk}
@@ -12,5 +12,5 @@ use Rattle.fish_rule.specs.declared.view.View.{View}
 -- bucket or none of the table's, and no entry of the range lies between
 pub record LeadsTo (v : View) (walk : Walk) (place : ℕ) : Type 0 where
   pub lower : place < walk.place
-  pub at : IsRest v walk.bucket walk.from place ⊎ HasNode v walk.bucket place
+  pub at : IsWalkRest v walk.bucket walk.from place ⊎ HasNode v walk.bucket place
   pub clear : Always v (IsClear walk.bucket walk.from walk.to walk.place place)

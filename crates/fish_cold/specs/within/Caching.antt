@@ -4,7 +4,7 @@ use Rattle.fish_cold.specs.declared.refusal.ColdRefusal.TheVariants.{Damaged, Di
 use Rattle.fish_cold.specs.declared.refusal.ColdRefusal.{ColdRefusal}
 
 -- the refusal says nothing of the words
-abbrev pub IsUndamaged : ColdRefusal → Type 0
-IsUndamaged (Damaged n) = ⊥
-IsUndamaged DiskFault = ⊤
-IsUndamaged OutOfMemory = ⊤
+abbrev pub IsColdUndamaged : ColdRefusal → Type 0
+IsColdUndamaged (Damaged n) = ⊥
+IsColdUndamaged DiskFault = ⊤
+IsColdUndamaged OutOfMemory = ⊤

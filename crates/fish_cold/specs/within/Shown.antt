@@ -5,10 +5,10 @@ use Rattle.fish_cold.specs.declared.decoding.Shown.{Shown}
 use Rattle.fish_cold.specs.declared.decoding.Shown.TheVariants.{Damaged, Entry, Older}
 
 -- they show the number of a record that has the entry, and its place, or that the number is below the range
-abbrev pub Shows : ℕ → BodyParts → ℕ → Shown → Type 0
-Shows from p j Older = p.number < from
-Shows from p j Damaged = ⊥
-Shows from p j (Entry number key words) = (from ≤ p.number) × (number ≡ p.number) × (key ≡ j)
+abbrev pub ShowsNode : ℕ → BodyParts → ℕ → Shown → Type 0
+ShowsNode from p j Older = p.number < from
+ShowsNode from p j Damaged = ⊥
+ShowsNode from p j (Entry number key words) = (from ≤ p.number) × (number ≡ p.number) × (key ≡ j)
 
 -- what is shown is as was asked, and takes 38 words at most
 abbrev pub IsShownIn : ℕ → ℕ → ℕ → ℕ → Shown → Type 0

@@ -29,14 +29,14 @@ line_app = with_rule (with_rule (with_rule (with_rule bare_app plain_rule) (opti
     (option_rule (codes "pages"))) (option_rule (codes "bits"))
 
 -- the values of an argument
-abbrev pub values : Word → List Row → List Word
-values id rows = unwrap_or (all_of id rows) []
+abbrev pub values_for_id : Word → List Row → List Word
+values_for_id id rows = unwrap_or (all_of id rows) []
 
 -- at most one value
-abbrev pub only : List Word → Option (Option Word)
-only [] = Some None
-only (v ∷ []) = Some (Some v)
-only (v ∷ w ∷ more) = None
+abbrev pub at_most_one : List Word → Option (Option Word)
+at_most_one [] = Some None
+at_most_one (v ∷ []) = Some (Some v)
+at_most_one (v ∷ w ∷ more) = None
 
 -- what a value stands for, where there is one
 abbrev pub optional : {A : Type 0} → (Word → Option A) → Option Word → Option (Option A)
@@ -45,11 +45,11 @@ optional g (Some v) = option_map Some (g v)
 
 -- what at most one value stands for
 abbrev pub one : {A : Type 0} → (Word → Option A) → List Word → Option (Option A)
-one g vs = option_and_then (optional g) (only vs)
+one g vs = option_and_then (optional g) (at_most_one vs)
 
 -- the number of pages of a value
-abbrev pub pages_of : Word → Option ℕ
-pages_of value = within 1 most_pages (int_of value)
+abbrev pub pages_in_word : Word → Option ℕ
+pages_in_word value = within 1 most_pages (int_of value)
 
 -- the number of bits of a value
 abbrev pub bits_of : Word → Option ℕ
@@ -62,9 +62,10 @@ options_of _ _ _ = None
 
 -- the options among the matches of a line
 abbrev pub options_in : List Row → Option Options
-options_in rows = options_of (one layout_of (values (codes "form") rows)) (one pages_of (values (codes "pages") rows))
-    (one bits_of (values (codes "bits") rows))
+options_in rows = options_of (one layout_of (values_for_id (codes "form") rows))
+    (one pages_in_word (values_for_id (codes "pages") rows))
+    (one bits_of (values_for_id (codes "bits") rows))
 
 -- the plain words and the options among the matches of a line
 abbrev pub found_in : List Row → Option Found
-found_in rows = option_map (λ o. record { plain = values (codes "words") rows; options = o }) (options_in rows)
+found_in rows = option_map (λ o. record { plain = values_for_id (codes "words") rows; options = o }) (options_in rows)

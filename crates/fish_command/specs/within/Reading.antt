@@ -7,10 +7,10 @@ use Rattle.std.specs.Str.{bytes_eq}
 use Rattle.std.specs.Str.Parse.{starts_with_minus}
 use Rattle.clap.specs.Lexer.{long_of}
 use Rattle.fish_value.specs.Number.{int_of}
-use Rattle.fish_command.specs.Line.{is_mark}
+use Rattle.fish_command.specs.Line.{is_options_end}
 use Rattle.fish_command.specs.Options.{Word, choice_of, json_lines, no_options, with_choice, within}
 use Rattle.fish_command.specs.Request.{Request, run, sample, select}
-use Rattle.fish_command.specs.Sizes.{most_records}
+use Rattle.fish_command.specs.Sizes.{most_sample_records}
 use Rattle.fish_command.specs.declared.options.Options.{Options}
 
 -- the plain words and the options so far
@@ -23,8 +23,8 @@ abbrev pub nothing_found : Found
 nothing_found = record { plain = []; options = no_options }
 
 -- a plain word more
-abbrev pub with_word : Word → Found → Found
-with_word word f = record f { plain = f.plain ++ word ∷ [] }
+abbrev pub found_with_word : Word → Found → Found
+found_with_word word f = record f { plain = f.plain ++ word ∷ [] }
 
 -- an option more
 abbrev pub with_option : Word → Word → Found → Option Found
@@ -32,14 +32,14 @@ with_option name value f =
     option_map (λ o. record f { options = o }) (option_and_then (with_choice f.options) (choice_of name value))
 
 -- plain words after `--`
-abbrev pub with_words : List Word → Found → Option Found
-with_words [] f = Some f
-with_words (word ∷ more) f = if is_mark word then None else with_words more (with_word word f)
+abbrev pub found_with_words : List Word → Found → Option Found
+found_with_words [] f = Some f
+found_with_words (word ∷ more) f = if is_options_end word then None else found_with_words more (found_with_word word f)
 
 -- what follows `--`: at least a plain word
 abbrev pub with_behind : List Word → Found → Option Found
 with_behind [] f = None
-with_behind (word ∷ more) f = with_words (word ∷ more) f
+with_behind (word ∷ more) f = found_with_words (word ∷ more) f
 
 -- where the reading stands: at a part, or at the value of an option
 pub data Place : Type 0 where
@@ -54,9 +54,9 @@ read_option (Some (name, Some v)) f next = option_and_then (λ g. next (at_part 
 
 -- a part, with the words after it and how they are read
 abbrev pub read_part : Word → List Word → Found → (Place → Option Found) → Option Found
-read_part word more f next = if is_mark word then with_behind more f else
+read_part word more f next = if is_options_end word then with_behind more f else
     (if starts_with_minus word then read_option (long_of word) f next
-    else next (at_part (with_word word f)))
+    else next (at_part (found_with_word word f)))
 
 -- the plain words and the options of a line
 abbrev pub read : List Word → Place → Option Found
@@ -79,7 +79,7 @@ run_of store _ o = None
 -- a line as the parts of `sample`
 abbrev pub sample_of : List Word → Options → Option Request
 sample_of (word ∷ []) o = if is_some o.layout || (is_some o.pages || is_some o.bits) then None else
-    option_map sample (within 0 most_records (int_of word))
+    option_map sample (within 0 most_sample_records (int_of word))
 sample_of _ o = None
 
 -- the words after `select`
@@ -112,9 +112,10 @@ has_one_minus (a ∷ b ∷ rest) = a == 45 && not (b == 45)
 -- words may be after `--`: there are some, and none is `--`
 abbrev pub are_placed_after : List Word → Bool
 are_placed_after [] = false
-are_placed_after (word ∷ more) = list_all (λ w. not (is_mark w)) (word ∷ more)
+are_placed_after (word ∷ more) = list_all (λ w. not (is_options_end w)) (word ∷ more)
 
 -- each word that begins with `-` may be where it is, whatever the options are
 abbrev pub are_placed : List Word → Bool
 are_placed [] = true
-are_placed (word ∷ more) = if is_mark word then are_placed_after more else (not (has_one_minus word) && are_placed more)
+are_placed (word ∷ more) =
+    if is_options_end word then are_placed_after more else (not (has_one_minus word) && are_placed more)

@@ -20,17 +20,17 @@ abbrev pub row_from : Position → List (List ℕ) → List ℕ → List ℕ →
 row_from at fields field b = next_record default_config (state_of at) fields field b
 
 -- a row has ended and no other has begun
-abbrev pub IsBetween : State → Type 0
-IsBetween s = (s ≡ st.StartRecord) ⊎ (s ≡ st.AfterCr)
+abbrev pub IsBetweenRows : State → Type 0
+IsBetweenRows s = (s ≡ st.StartRecord) ⊎ (s ≡ st.AfterCr)
 
 -- whatever bytes come after it, the byte c leads from this position and these fields to another, or ends the row
-abbrev pub Advances : Position → ℕ → List (List ℕ) → List ℕ → Option Position → List (List ℕ) → List ℕ → Type 0
-Advances at c fields field None after next =
-    (rest : List ℕ) → (s : State) × IsBetween s × (row_from at fields field (c ∷ rest) ≡ Some (after, s, rest))
-Advances at c fields field (Some to) after next =
+abbrev pub ReadsNextField : Position → ℕ → List (List ℕ) → List ℕ → Option Position → List (List ℕ) → List ℕ → Type 0
+ReadsNextField at c fields field None after next =
+    (rest : List ℕ) → (s : State) × IsBetweenRows s × (row_from at fields field (c ∷ rest) ≡ Some (after, s, rest))
+ReadsNextField at c fields field (Some to) after next =
     (rest : List ℕ) → row_from at fields field (c ∷ rest) ≡ row_from to after next rest
 
 -- where the text ends, the row ends with these fields, or there is none
-abbrev pub Ends : Position → List (List ℕ) → List ℕ → Bool → List (List ℕ) → Type 0
-Ends at fields field found after =
+abbrev pub EndsRow : Position → List (List ℕ) → List ℕ → Bool → List (List ℕ) → Type 0
+EndsRow at fields field found after =
     row_from at fields field [] ≡ (if found then Some (after, st.StartRecord, []) else None)

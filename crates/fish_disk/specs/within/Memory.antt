@@ -20,8 +20,8 @@ pub record Planned {T : Type 0} (old new : FaultPlan) (result : Result T Failed)
   pub failed : IsTrue (is_planned old) → IsErr result
 
 -- the plan after a call that memory refused to keep in the record: a fault beside a planned one
-abbrev pub refused : FaultPlan → FaultPlan
-refused plan = after_step
+abbrev pub refused_call : FaultPlan → FaultPlan
+refused_call plan = after_step
     (record (after_step plan (is_planned plan)) { calls = counted_on plan.calls 1 })
     true
 
@@ -29,4 +29,4 @@ refused plan = after_step
 abbrev pub Records : MemoryDisk → MemoryDisk → Call → Type 0
 Records old new call =
     (new.calls ≡ old.calls ++ call ∷ [])
-    ⊎ ((new.calls ≡ old.calls) × (new.plan ≡ refused old.plan))
+    ⊎ ((new.calls ≡ old.calls) × (new.plan ≡ refused_call old.plan))

@@ -26,7 +26,7 @@ pub record IsCutOff {F : Type 0} (o u : OpenFile F) (w : Work) : Type 0 where
   pub room_is : length part + u.room ≡ o.room
 
 -- these bytes came, and are kept after the others
-pub record HasRead {F : Type 0} (left : F → Option (List ℕ)) (o u : OpenFile F) : Type 0 where
+pub record HasReadMore {F : Type 0} (left : F → Option (List ℕ)) (o u : OpenFile F) : Type 0 where
   pub more : List ℕ
   pub took : Took (left o.feed) (left u.feed) more
   pub rest_is : u.rest ≡ o.rest ++ more
@@ -37,7 +37,7 @@ pub record HasRead {F : Type 0} (left : F → Option (List ℕ)) (o u : OpenFile
   pub whole : (o.lost ≡ false) × (u.lost ≡ false)
 
 -- these bytes came, and are kept after the others, and then some that were lost; none are kept after a loss
-pub record ReadsOn {F : Type 0} (left : F → Option (List ℕ)) (o u : OpenFile F) : Type 0 where
+pub record ReadsOnFile {F : Type 0} (left : F → Option (List ℕ)) (o u : OpenFile F) : Type 0 where
   pub more : List ℕ
   pub gone : List ℕ
   pub took : Took (left o.feed) (left u.feed) (more ++ gone)
@@ -50,5 +50,5 @@ pub record ReadsOn {F : Type 0} (left : F → Option (List ℕ)) (o u : OpenFile
   pub room_is : u.room ≡ o.room
 
 -- so many bytes came, unless a read failed
-abbrev pub IsFull : {F : Type 0} → ℕ → OpenFile F → Type 0
-IsFull wanted o = o.failed ≡ false → wanted ≤ length o.rest
+abbrev pub HoldsWanted : {F : Type 0} → ℕ → OpenFile F → Type 0
+HoldsWanted wanted o = o.failed ≡ false → wanted ≤ length o.rest

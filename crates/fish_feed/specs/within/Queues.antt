@@ -3,7 +3,7 @@ use Rattle.std.specs.Prelude.{ℕ, ◌≡◌, ◌≢◌, ◌<◌, List, Bool, Op
 use Rattle.fish_feed.specs.OpenFiles.{CanRead}
 use Rattle.fish_feed.specs.declared.part.OpenFile.{OpenFile}
 use Rattle.fish_feed.specs.declared.queue.Queue.{Queue}
-use Rattle.fish_feed.specs.within.OpenFiles.{ReadsOn}
+use Rattle.fish_feed.specs.within.OpenFiles.{ReadsOnFile}
 use Rattle.fish_script.specs.declared.script.Statement.TheVariants as does
 use Rattle.fish_script.specs.declared.script.Statement.{Statement}
 use Rattle.fish_value.specs.declared.field.Form.{Form}
@@ -16,7 +16,7 @@ HasNoFile s = (form : Form) (header : Bool) (name : List ℕ) → s ≢ does.Ing
 abbrev pub FileReadOn
     : {F : Type 0} → (F → Option (List ℕ)) → (F → ℕ) → Option (OpenFile F) → Option (OpenFile F) → Type 0
 FileReadOn left faults None c = c ≡ None
-FileReadOn {F = F} left faults (Some o) c = (u : OpenFile F) × (c ≡ Some u) × ReadsOn left o u × CanRead faults u
+FileReadOn {F = F} left faults (Some o) c = (u : OpenFile F) × (c ≡ Some u) × ReadsOnFile left o u × CanRead faults u
 
 -- the queue is else the same
 pub record IsReadOn {F : Type 0} (left : F → Option (List ℕ)) (faults : F → ℕ) (q r : Queue F) : Type 0 where

@@ -4,7 +4,7 @@ use Rattle.std.specs.Prelude.{ℕ, ◌≡◌, ◌+◌, ◌-◌, ◌*◌, ◌%◌
 use Rattle.fish_catalog.specs.declared.commit.Commit.{Commit}
 use Rattle.fish_catalog.specs.declared.entry.Entry.{Entry}
 use Rattle.fish_catalog.specs.declared.row.CatRow.{CatRow}
-use Rattle.fish_flush.specs.Carrying.{Carries}
+use Rattle.fish_flush.specs.Carrying.{CarriesLog}
 use Rattle.fish_flush.specs.within.Filling.{Begins}
 use Rattle.fish_flush.specs.Kept.{IsAtRest, IsCommitted, commit_of}
 use Rattle.fish_flush.specs.Reading.{IsLineAt}
@@ -91,4 +91,4 @@ abbrev pub IsSaved : (List ℕ → Type 0) → (List ℕ → Type 0) → View �
 IsSaved images images' v u end s f d f' = (rows : List CatRow) (c : Commit) (old : List Entry)
     → MaySave images v end s f d rows c old
     → (more : List Entry) × (length (old ++ more) ≡ d.count)
-    × Carries images' f' u s rows (commit_of f' s rows) (old ++ more)
+    × CarriesLog images' f' u s rows (commit_of f' s rows) (old ++ more)

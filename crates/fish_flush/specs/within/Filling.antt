@@ -29,7 +29,7 @@ buffer_bytes = 1644576
 
 -- there is memory for the bytes of a page and of a region more, for the words of a region, and for the starts of the
 -- pages up to the end: of those after the line's, and of its own where it has none yet
-pub record HasRoom (b : Batch) : Type 0 where
+pub record HasBatchRoom (b : Batch) : Type 0 where
   pub bytes : length b.bytes.items ≡ buffer_bytes
   pub words : length b.words.items ≡ region_words
   pub later : vec_len b.starts + (page_of b.end - page_of b.line) ≤ vec_capacity b.starts
@@ -64,7 +64,7 @@ pub record HasAdded (v u : View) (end n : ℕ) (a b : Batch) : Type 0 where
   pub within : b.line ≤ end
   pub written : b.written ≡ a.written
   pub end_is : b.end ≡ a.end
-  pub room : HasRoom b
+  pub room : HasBatchRoom b
   pub fits : 32 * (b.line - b.written) ≤ buffer_bytes
   pub heads : length b.heads.items ≡ length a.heads.items
   pub whole : length (pending a) ≡ 32 * (a.line - a.written)
@@ -74,12 +74,12 @@ pub record HasAdded (v u : View) (end n : ℕ) (a b : Batch) : Type 0 where
       × IsReadTo c (w ++ words_in (pending b)) (old ++ e ∷ []) (n + 1) b.line b.heads.items b.page b.starts.items
 
 -- the batch goes on from a number, nothing is pending, and it has room for all up to another, which begins at its end
-pub record IsReady (v : View) (from to : ℕ) (b : Batch) : Type 0 where
+pub record IsBatchReady (v : View) (from to : ℕ) (b : Batch) : Type 0 where
   pub line : IsLineAt v from b.line
   pub end_is : IsLineAt v to b.end
   pub none : b.written ≡ b.line
   pub some : 0 < length b.heads.items
-  pub room : HasRoom b
+  pub room : HasBatchRoom b
 
 -- the batch goes on from what is kept of the last commit
 pub record Begins (f : Flusher) (end : ℕ) (b : Batch) : Type 0 where
@@ -89,7 +89,7 @@ pub record Begins (f : Flusher) (end : ℕ) (b : Batch) : Type 0 where
   pub heads : b.heads.items ≡ f.heads.items
   pub page : b.page ≡ f.page
   pub starts : b.starts.items ≡ f.starts.items
-  pub room : HasRoom b
+  pub room : HasBatchRoom b
 
 -- lines that were copied from a number on up to another: whatever was read up to the first is read up to the second
 -- with them

@@ -9,7 +9,8 @@ use Rattle.fish_layout.specs.declared.parts.BodyParts.{BodyParts}
 
 -- words are those of a record that differs in its previous nodes alone: each is the newest key entry of its bucket
 -- before it, where the heads before say the newest; and the heads after are those with its key entries
-pub record IsLinked (line : ℕ) (q : BodyParts) (words heads heads' out : List ℕ) (places : List (ℕ × ℕ)) : Type 0 where
+pub record IsRegionLinked (line : ℕ) (q : BodyParts) (words heads heads' out : List ℕ)
+    (places : List (ℕ × ℕ)) : Type 0 where
   pub p : BodyParts
   pub size : length out ≡ length words
   pub body : IsBody p out
@@ -21,4 +22,4 @@ pub record IsLinked (line : ℕ) (q : BodyParts) (words heads heads' out : List 
 pub record AreSpelled (line : ℕ) (words heads heads' out : List ℕ) : Type 0 where
   pub none : keys_of (slice_index words 0) ≡ 0 → (out ≡ words) × (heads' ≡ heads)
   pub linked : (q : BodyParts) (places : List (ℕ × ℕ)) → IsBody q words → AreHeads (length heads) places heads
-      → IsLinked line q words heads heads' out places
+      → IsRegionLinked line q words heads heads' out places

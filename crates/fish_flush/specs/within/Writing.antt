@@ -2,9 +2,9 @@
 use Rattle.std.specs.Prelude.{◌≡◌, ◌⊎◌, ℕ, ◌+◌, ◌-◌, ◌*◌, ◌≤◌, List, length, Option, Some, IfSome}
 use Rattle.fish_disk.specs.Content.{part}
 use Rattle.fish_disk.specs.Crash.{Torn}
-use Rattle.fish_slots.specs.Commits.{HasCommit, Rests, next_turn, turn_of}
+use Rattle.fish_slots.specs.Commits.{HasCommit, SlotRests, next_turn, turn_of}
 use Rattle.fish_slots.specs.Offsets.{lines_at}
-use Rattle.fish_slots.specs.Slots.{IsOpen, body_of, line_count, lines_of}
+use Rattle.fish_slots.specs.Slots.{IsOpen, body_in_slot, line_count, lines_in_slot}
 
 -- the piece stands at its place, and all else is as a write of it leaves it
 abbrev pub HasPut : Option (List ℕ) → Option (List ℕ) → ℕ → List ℕ → Type 0
@@ -26,7 +26,7 @@ EitherCommit b w d v c = HasCommit b w c ⊎ HasCommit d v c
 -- each image has one commit, in the other slot alone, whose lines end at a line; and a body counts these and more, with
 -- the turn after it
 pub record Grows (images : List ℕ → Type 0) (slot line : ℕ) (b w d more : List ℕ) : Type 0 where
-  pub rests : (c : List ℕ) → images c → Rests (1 - slot) b w c
+  pub rests : (c : List ℕ) → images c → SlotRests (1 - slot) b w c
   pub long : (c : List ℕ) → images c → lines_at + 32 * line ≤ length c
   pub before : line_count b ≡ line
   pub whole : length w ≡ 32 * line
@@ -43,10 +43,10 @@ pub record GrowsBy {D : Type 0} (content : D → Option (List ℕ)) (images : D 
 -- the slot has one body and its lines, and the other slot, whose gate is open, another
 pub record IsSealed (slot : ℕ) (b w d v c : List ℕ) : Type 0 where
   pub gate : IsOpen (1 - slot) c
-  pub old_body : body_of (1 - slot) c ≡ b
-  pub old_lines : lines_of (line_count b) c ≡ w
-  pub new_body : body_of slot c ≡ d
-  pub new_lines : lines_of (line_count d) c ≡ v
+  pub old_body : body_in_slot (1 - slot) c ≡ b
+  pub old_lines : lines_in_slot (line_count b) c ≡ w
+  pub new_body : body_in_slot slot c ≡ d
+  pub new_lines : lines_in_slot (line_count d) c ≡ v
 
 -- so it is in each image, and the slot's gate is closed; its turn is the one after the other's
 pub record AreSealed (images : List ℕ → Type 0) (slot : ℕ) (b w d v : List ℕ) : Type 0 where

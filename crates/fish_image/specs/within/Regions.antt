@@ -8,7 +8,7 @@ use Rattle.fish_image.specs.declared.terms.IndexRow.{IndexRow}
 use Rattle.fish_image.specs.declared.terms.Terms.{Terms}
 
 -- a region of so many lines ends within the lines that were committed, and an entry is wanted
-pub record CanTake (terms : Terms) (at : Progress) (lines : ℕ) : Type 0 where
+pub record CanTakeRegion (terms : Terms) (at : Progress) (lines : ℕ) : Type 0 where
   pub wanted : at.number < terms.count
   pub within : at.line + lines ≤ terms.lines
   pub few : terms.count < 2 ^ 28

@@ -4,7 +4,7 @@ use Rattle.fish_catalog.specs.declared.commit.Commit.{Commit}
 use Rattle.fish_image.specs.Log.{FollowsAt, region_lines}
 use Rattle.fish_image.specs.Progress.{IsAt}
 use Rattle.fish_image.specs.Reached.{Reached}
-use Rattle.fish_image.specs.Steps.{Breaks, Stops}
+use Rattle.fish_image.specs.Steps.{Breaks, StopsReading}
 use Rattle.fish_image.specs.Terms.{AreTermsOf}
 use Rattle.fish_image.specs.declared.progress.Progress.{Progress}
 use Rattle.fish_image.specs.declared.step.Step.TheVariants.{Took, Waits, Damaged}
@@ -28,6 +28,6 @@ Stepped Waits c s rest new = IsAt c s new × ((m : Reached) → FollowsAt c s re
 Stepped Damaged c s rest new = (more : List ℕ) (m : Reached) → FollowsAt c s (rest ++ more) m → ⊥
 
 -- what reading all regions of words does
-abbrev pub Advances : Option ℕ → Commit → List ℕ → List ℕ → Progress → Type 0
-Advances (Some n) c w left new = Breaks c w n
-Advances None c w left new = Stops c w left new
+abbrev pub LeavesProgress : Option ℕ → Commit → List ℕ → List ℕ → Progress → Type 0
+LeavesProgress (Some n) c w left new = Breaks c w n
+LeavesProgress None c w left new = StopsReading c w left new

@@ -7,7 +7,7 @@ use Rattle.fish_ingest.specs.declared.preparation.Prepared.{Prepared}
 use Rattle.fish_layout.specs.Body.{IsProperValue}
 use Rattle.fish_layout.specs.declared.parts.KeyPart.{KeyPart}
 use Rattle.fish_psf.specs.Eval.{Fields}
-use Rattle.fish_psf.specs.Keys.{keys_of, value_under}
+use Rattle.fish_psf.specs.Keys.{keys_for, value_under}
 use Rattle.fish_psf.specs.declared.key.ActiveDef.{ActiveDef}
 use Rattle.fish_rule.specs.Keys.{property, text_of}
 use Rattle.fish_rule.specs.Registry.{KnowsActive}
@@ -19,10 +19,10 @@ use Rattle.fish_value.specs.declared.value.Value.{Value}
 -- ---- its key entries
 
 -- a text among values has at most 256 bytes
-abbrev pub IsShort : Value → Type 0
-IsShort (kind.Bool b) = ⊤
-IsShort (kind.Int n) = ⊤
-IsShort (kind.Text s) = length s ≤ 256
+abbrev pub IsShortValue : Value → Type 0
+IsShortValue (kind.Bool b) = ⊤
+IsShortValue (kind.Int n) = ⊤
+IsShortValue (kind.Text s) = length s ≤ 256
 
 -- a key entry with no previous node, whose value may stand in a record
 pub record IsKey (key : KeyPart) : Type 0 where
@@ -38,7 +38,7 @@ pub record AreMore (id : ℕ) (vs : List Value) (before after : List KeyPart) : 
 
 -- there is an entry for each value of each definition, in the order of the definitions
 pub record AreEntriesFor (fields : Fields) (defs : List ActiveDef) (keys : List KeyPart) : Type 0 where
-  pub values : map property keys ≡ keys_of fields defs
+  pub values : map property keys ≡ keys_for fields defs
   pub entries : All IsKey keys
 
 -- ---- the record

@@ -9,7 +9,7 @@ IsEarly (refusal.Full line lines end) = ⊥
 IsEarly e = ⊤
 
 -- it comes after the parse
-abbrev pub IsLate : IngestRefusal → Type 0
-IsLate refusal.OutOfMemory = ⊤
-IsLate (refusal.Full line lines end) = ⊤
-IsLate e = ⊥
+abbrev pub IsLateRefusal : IngestRefusal → Type 0
+IsLateRefusal refusal.OutOfMemory = ⊤
+IsLateRefusal (refusal.Full line lines end) = ⊤
+IsLateRefusal e = ⊥

@@ -10,8 +10,8 @@ use Rattle.serde_json.specs.Data.{Data, Items}
 use Rattle.serde_json.specs.Read.{max_depth, number_of, of_items, of_json}
 
 -- the tokens begin with a value whose data is d
-abbrev pub Stands : List Token → Data → Type 0
-Stands ts d = (j : json.Json) × BeginsWith ts j × (of_json j ≡ Some d)
+abbrev pub StandsForData : List Token → Data → Type 0
+StandsForData ts d = (j : json.Json) × BeginsWith ts j × (of_json j ≡ Some d)
 
 -- the tokens stand within items whose data is ds
 abbrev pub StandItems : List Token → Items → Type 0
@@ -19,7 +19,7 @@ StandItems ts ds = (js : json.Items) × InItems ts js × (of_items js ≡ Some d
 
 -- r stands where the data o begins, if there is one
 abbrev pub FindsData : Option (List Token) → Option Data → Type 0
-FindsData r o = MatchOption r (o ≡ None) (λ ts. (e : Data) × (o ≡ Some e) × Stands ts e)
+FindsData r o = MatchOption r (o ≡ None) (λ ts. (e : Data) × (o ≡ Some e) × StandsForData ts e)
 
 -- of n open objects and arrays, those that are open after a token: none where 127 were open and one more would be,
 -- and none after a number that is out of range

@@ -9,7 +9,7 @@ use Rattle.fish_lanes.specs.Records.{rows_of_lane}
 use Rattle.fish_lanes.specs.Registering.{IsAcceptable, KnowsRegistry, registry_of}
 use Rattle.fish_lanes.specs.within.Registering.{KeepsRegistry}
 use Rattle.fish_lanes.specs.Running.{IsShared}
-use Rattle.fish_lanes.specs.within.Running.{CanBegin, HasDone, IsReady}
+use Rattle.fish_lanes.specs.within.Running.{CanBegin, HasDone, IsLaneReady}
 use Rattle.fish_lanes.specs.Spans.{Span}
 use Rattle.fish_lanes.specs.Telling.{SaysLane}
 use Rattle.fish_lanes.specs.declared.lane.Lane.{Lane}
@@ -76,7 +76,7 @@ abbrev pub AreSeated : Log → View → List Lane → List Lane → Type 0
 AreSeated log v old new = EachLanePair (IsSeated log v) old new
 
 abbrev pub AreReady : Log → List Lane → Type 0
-AreReady log lanes = All (IsReady log) lanes
+AreReady log lanes = All (IsLaneReady log) lanes
 
 -- they went on at once, up to scans of older records
 pub record AreGone (log : Log) (old new : List Lane) : Type 0 where
@@ -87,7 +87,7 @@ abbrev pub AreDone : (Whole → Type 0) → Log → List Lane → List Lane → 
 AreDone Past log old new = EachLanePair (λ i x y. HasDone Past log x y) old new
 
 -- the control pass may do the statements of the first lane
-pub record IsFirst (v : View) (r : Registrar) (x : Lane) : Type 0 where
+pub record IsFirstLane (v : View) (r : Registrar) (x : Lane) : Type 0 where
   pub known : KnowsRegistry v (registry_of v r)
   pub acceptable : All IsAcceptable x.works
   pub empty : x.items ≡ []
@@ -115,8 +115,8 @@ pub record HasTakenSeat (m u : View) (seat : LanePass) : Type 0 where
   pub learns : Learns m u
   pub learned : Learns (view seat.pass) u
 
-abbrev pub HasTaken : View → View → Lane → Type 0
-HasTaken m u x = (seat : LanePass) → x.seat ≡ Some seat → HasTakenSeat m u seat
+abbrev pub HasTakenLane : View → View → Lane → Type 0
+HasTakenLane m u x = (seat : LanePass) → x.seat ≡ Some seat → HasTakenSeat m u seat
 
 -- a lane keeps all but its pass
 pub record WasTaken (x y : Lane) : Type 0 where
@@ -149,7 +149,7 @@ pub record AreJoined (log : Log) (m : View) (lanes : List Lane) : Type 0 where
   pub back : EachLane (IsBack log) lanes
 
 -- one of the first so many lanes has this among its own records
-pub record IsOfLane (lanes : List Lane) (many : ℕ) (o : Own) : Type 0 where
+pub record IsOwnOfLane (lanes : List Lane) (many : ℕ) (o : Own) : Type 0 where
   pub position : ℕ
   pub lane : Lane
   pub seat : LanePass
@@ -177,7 +177,7 @@ pub record HasTakenAll (m u : View) (lanes : List Lane) (many : ℕ) : Type 0 wh
   pub registry : KeepsRegistry m u
   pub learned : (i : ℕ) (x : Lane) (seat : LanePass) → i < many → slice_get lanes i ≡ Some x → x.seat ≡ Some seat
       → Learns (view seat.pass) u
-  pub own : (o : Own) → Among o u.own → Among o m.own ⊎ IsOfLane lanes many o
+  pub own : (o : Own) → Among o u.own → Among o m.own ⊎ IsOwnOfLane lanes many o
   pub shut : (s : Shut) → u.shut ≡ Some s → (m.shut ≡ Some s) ⊎ IsShutOfLane lanes many s
   pub keeps : KeepsShut m u
   pub shuts : (i : ℕ) (x : Lane) (seat : LanePass) (s : Shut) → i < many → slice_get lanes i ≡ Some x
@@ -189,8 +189,8 @@ pub record HasTakenAll (m u : View) (lanes : List Lane) (many : ℕ) : Type 0 wh
   pub none : many ≡ 0 → u ≡ m
 
 -- the same of the first lane, and of the others
-abbrev pub SaysFirst : Span → Lane → WholeFact
-SaysFirst s x w = SaysLane w s (rows_of_lane w.log s.from s.to 1) x.works x.items
+abbrev pub SaysFirstLane : Span → Lane → WholeFact
+SaysFirstLane s x w = SaysLane w s (rows_of_lane w.log s.from s.to 1) x.works x.items
 
 abbrev pub SaysOthers : Span → List Lane → WholeFact
 SaysOthers s lanes w = EachLane (λ i x. SaysLane w s (rows_of_lane w.log s.from s.to (i + 2)) x.works x.items) lanes

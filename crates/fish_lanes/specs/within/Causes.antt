@@ -27,6 +27,6 @@ or_stop (Ok x) = Ok x
 or_stop (Err e) = Err stop.Memory
 
 -- the fault with which a lane stops at a statement without an item: none where it stays before it
-abbrev pub fault_at : Stop → LaneFault
-fault_at stop.Memory = fault.Memory
-fault_at stop.Older = fault.None
+abbrev pub fault_of_stop : Stop → LaneFault
+fault_of_stop stop.Memory = fault.Memory
+fault_of_stop stop.Older = fault.None

@@ -3,7 +3,7 @@ use Rattle.std.specs.Prelude.{ℕ, ◌≡◌, ◌⊎◌, ◌<◌, suc, List, [],
 use Rattle.fish_lanes.specs.Controlling.{CanControl}
 use Rattle.fish_lanes.specs.within.Gains.{Gains}
 use Rattle.fish_lanes.specs.Pending.{HasFoundOlder}
-use Rattle.fish_lanes.specs.Registering.{IsBetween, ItemFits, KnowsRegistry, after}
+use Rattle.fish_lanes.specs.Registering.{LiesWithin, ItemFits, KnowsRegistry, after}
 use Rattle.fish_lanes.specs.Registering.{bound, registry_of}
 use Rattle.fish_lanes.specs.Single.{NamesNone}
 use Rattle.fish_lanes.specs.declared.block.Boundary.{Boundary}
@@ -40,9 +40,9 @@ HasPolled u r t s old new = ((new ≡ old) × (registry_of t s ≡ registry_of u
     ⊎ ((id : ℕ) × (from : ℕ) × (new ≡ old ++ item.Bound id from ∷ []) × Does u r t s (item.Bound id from))
 
 -- the same where no item tells of it yet
-abbrev pub IsFound : View → Registrar → View → Registrar → Option Boundary → Type 0
-IsFound u r t s None = registry_of t s ≡ registry_of u r
-IsFound u r t s (Some b) = Does u r t s (item.Bound b.id b.from)
+abbrev pub IsBoundaryFound : View → Registrar → View → Registrar → Option Boundary → Type 0
+IsBoundaryFound u r t s None = registry_of t s ≡ registry_of u r
+IsBoundaryFound u r t s (Some b) = Does u r t s (item.Bound b.id b.from)
 
 -- none waits, or the look at the lanes found one at an older version than the last one made
 abbrev pub HasLooked : View → View → Registrar → Type 0
@@ -64,7 +64,7 @@ abbrev pub SaysBegun : View → Registrar → View → Registrar → List ℕ �
 SaysBegun u r t s name id def x = KnowsRegistry t (registry_of t s)
     × (((seat : ℕ) × (version : ℕ) × (x ≡ item.Rolling name id def seat version) × (version < u.learned.version)
     × (registry_of t s ≡ registry_of u r))
-    ⊎ ((from : ℕ) × (x ≡ item.Registered name id from def) × IsBetween u.learned.count t.learned.count from
+    ⊎ ((from : ℕ) × (x ≡ item.Registered name id from def) × LiesWithin u.learned.count t.learned.count from
     × (registry_of t s ≡ bound (registry_of u r) id from)))
 
 -- the lane and the version that the item of a registration tells of were loaded in between
@@ -108,7 +108,7 @@ pub record Controls (log : Log) (p : Pass) (r : Registrar) (q : Pass) (s : Regis
   pub shut : (view q).shut ≡ (view p).shut
 
 -- the same of a look at the registration that waits
-pub record Looks (log : Log) (p : Pass) (r : Registrar) (q : Pass) (s : Registrar) : Type 0 where
+pub record LooksForBoundary (log : Log) (p : Pass) (r : Registrar) (q : Pass) (s : Registrar) : Type 0 where
   pub on : Controls log p r q s
   pub loads : (view q).clock.loads ≡ (view p).clock.loads
   pub idle : r.waiting ≡ None → (view q ≡ view p) × (s.waiting ≡ None)

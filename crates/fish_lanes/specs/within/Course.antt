@@ -1,13 +1,13 @@
 -- What a block goes through, from its start to its end.
 use Rattle.std.specs.Prelude.{ℕ, ◌≡◌, ◌≤◌, List, length, None}
 use Rattle.fish_lanes.specs.within.Blocks.{AreDone, AreSeated, HasGiven, HasRunFirst, HasTakenAll, WereTaken}
-use Rattle.fish_lanes.specs.within.Controlling.{IsFound}
+use Rattle.fish_lanes.specs.within.Controlling.{IsBoundaryFound}
 use Rattle.fish_lanes.specs.declared.block.BlockEnd.{BlockEnd}
 use Rattle.fish_lanes.specs.declared.lane.Lane.{Lane}
 use Rattle.fish_registry.specs.Changing.{Changes}
 use Rattle.fish_registry.specs.Knowing.{Knows}
 use Rattle.fish_registry.specs.declared.registrar.Registrar.{Registrar}
-use Rattle.fish_rule.specs.Table.{Stands}
+use Rattle.fish_rule.specs.Table.{IsOfMoment}
 use Rattle.fish_rule.specs.declared.table.Log.{Log}
 use Rattle.fish_rule.specs.declared.view.View.{View}
 use Rattle.fish_walk.specs.Settling.{EndsAt, HasTail, OnlySettles}
@@ -23,7 +23,7 @@ pub record AllRan (Past : Whole → Type 0) (log : Log) (v w : View) (r q : Regi
   pub seated : AreSeated log v before given
   pub first_did : HasRunFirst Past control w r q first first'
   pub others_did : AreDone Past log given done
-  pub stands : Stands w
+  pub stands : IsOfMoment w
   pub knows : Knows w q
   pub given_size : length given ≡ length before
   pub done_size : length done ≡ length given
@@ -46,9 +46,9 @@ pub record HasRunLanes (Past : Whole → Type 0) (log : Log) (v u : View) (r q :
 pub record HasFoundEnd (u t : View) (q s : Registrar) (end : BlockEnd) : Type 0 where
   pub bound : View
   pub changes : Changes u bound
-  pub found : IsFound u q bound s end.bound
+  pub found : IsBoundaryFound u q bound s end.bound
   pub unset : s.waiting ≡ None
-  pub stands : Stands bound
+  pub stands : IsOfMoment bound
   pub knows : Knows bound s
   pub settles : OnlySettles bound t
   pub rises : bound.learned.settled ≤ end.to

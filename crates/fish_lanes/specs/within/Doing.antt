@@ -9,7 +9,7 @@ use Rattle.fish_lang.specs.Language.{IsAccepted}
 use Rattle.fish_lanes.specs.within.Gains.{Gains, IsFullBy}
 use Rattle.fish_lanes.specs.Loading.{LoadsAcross, LoadsWithin}
 use Rattle.fish_lanes.specs.within.Pasts.{IsHere}
-use Rattle.fish_lanes.specs.Records.{Content, LaneRow, contents}
+use Rattle.fish_lanes.specs.Records.{Content, LaneRow, contents_of_rows}
 use Rattle.fish_lanes.specs.Registering.{IsDeregisterItem, IsRegisterItem}
 use Rattle.fish_lanes.specs.within.Registering.{KeepsRegistry}
 use Rattle.fish_lanes.specs.Sizes.{claim_of}
@@ -51,13 +51,13 @@ pub record GainsFirst (v u : View) (all : List Content) (count : ℕ) : Type 0 w
   pub registry : KeepsRegistry v u
   pub rows : List LaneRow
   pub gains : Gains v u rows
-  pub first : contents rows ≡ take count all
+  pub first : contents_of_rows rows ≡ take count all
 
 -- why a scan was refused, as an item tells it
-abbrev pub refusal_of : ℕ → ScanCause → ScanRefusal
-refusal_of version cause.UnknownName = refusal.UnknownName version
-refusal_of version (cause.EmptyRange from to) = refusal.EmptyRange from to
-refusal_of version (cause.NotCovered from to) = refusal.NotCovered from to
+abbrev pub scan_refusal_at : ℕ → ScanCause → ScanRefusal
+scan_refusal_at version cause.UnknownName = refusal.UnknownName version
+scan_refusal_at version (cause.EmptyRange from to) = refusal.EmptyRange from to
+scan_refusal_at version (cause.NotCovered from to) = refusal.NotCovered from to
 
 -- and what an item tells of a refusal, which isn't one of memory, of a range below the log's first number, or of a file
 abbrev pub cause_of : ScanRefusal → Option ScanCause
@@ -122,7 +122,7 @@ pub record IsPlannedAt (v u : View) (ask : Ask) (from to : ℕ) (plan : List Pie
 pub record IsRefusedAt (v u : View) (ask : Ask) (version : ℕ) (why : ScanCause) : Type 0 where
   pub known : Known
   pub version_is : version ≡ version_of known
-  pub refused : IsRefused v u known ask (refusal_of version why)
+  pub refused : IsRefused v u known ask (scan_refusal_at version why)
 
 -- the item tells of a refusal for this cause
 pub record IsRefusedItem (name : List ℕ) (version : ℕ) (why : ScanRefusal) (refused : List ℕ → ℕ → ScanCause → Item)

@@ -11,13 +11,13 @@ use Rattle.fish_rule.specs.declared.view.View.{View}
 use Rattle.fish_lanes.specs.Full.{AreFullLast, EndsFull, IsNotFull}
 
 -- the pass isn't shut, and no item tells that the log is full; or it is, and the last one alone does
-abbrev pub HasFound : View → List Item → Type 0
-HasFound u items = ((u.shut ≡ None) × AllOf IsNotFull items) ⊎ (WasShut u × EndsFull items)
+abbrev pub HasMetFull : View → List Item → Type 0
+HasMetFull u items = ((u.shut ≡ None) × AllOf IsNotFull items) ⊎ (WasShut u × EndsFull items)
 
 -- none but the last item tells that the log is full; and without a fault that one does exactly where the pass is shut
 pub record SaysLast (u : View) (items : List Item) (why : LaneFault) : Type 0 where
   pub full : AreFullLast items
-  pub found : why ≡ fault.None → HasFound u items
+  pub found : why ≡ fault.None → HasMetFull u items
 
 -- the statements that are done, where so many have an item: these alone, or at a fault all
 abbrev pub done_of : LaneFault → ℕ → List Work → List Work
@@ -34,7 +34,7 @@ IsHandedBack works many why kept left last = ((why ≢ fault.None) × (last ≡ 
     ⊎ ((why ≡ fault.None) × (last ≡ fault.Memory) × (kept ≡ works) × (left ≡ []) × (many < length works)))
 
 -- the lane met no fault, and its pass is shut, as it wasn't before its statements
-pub record IsCut (v u : View) (x : Lane) : Type 0 where
+pub record IsLaneCut (v u : View) (x : Lane) : Type 0 where
   pub fault : x.fault ≡ fault.None
   pub unshut : v.shut ≡ None
   pub shut : WasShut u
@@ -42,5 +42,5 @@ pub record IsCut (v u : View) (x : Lane) : Type 0 where
 -- what it leaves undone it does since it found the log full; and where its pass wasn't shut before its statements, none
 -- but its last item tells that the log is full
 pub record StopsFull (v u : View) (x : Lane) : Type 0 where
-  pub cut : x.left ≢ [] → IsCut v u x
+  pub cut : x.left ≢ [] → IsLaneCut v u x
   pub last : v.shut ≡ None → SaysLast u x.items x.fault

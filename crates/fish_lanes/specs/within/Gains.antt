@@ -9,9 +9,9 @@ use Rattle.fish_rule.specs.declared.view.View.{View}
 use Rattle.fish_lanes.specs.Gains.{IsShutSaid, KeepsShut}
 
 -- in every later moment each row is the entry at its number
-abbrev pub AreKnown : View → ℕ → List LaneRow → Type 0
-AreKnown v lane [] = ⊤
-AreKnown v lane (r ∷ rows) = KnowsAs v r.number (entry_of lane r) × AreKnown v lane rows
+abbrev pub AreRowsKnown : View → ℕ → List LaneRow → Type 0
+AreRowsKnown v lane [] = ⊤
+AreRowsKnown v lane (r ∷ rows) = KnowsAs v r.number (entry_of lane r) × AreRowsKnown v lane rows
 
 -- the pass is shut by a claim of so many lines at a line, which ends past the log's end
 pub record IsFullBy (u : View) (line lines end : ℕ) : Type 0 where
@@ -34,6 +34,6 @@ pub record Gains (v u : View) (rows : List LaneRow) : Type 0 where
   pub idle : u.flight ≡ None
   pub own : u.own ≡ v.own ++ owned v.lane rows
   pub ascends : Ascends v.learned.count rows u.learned.count
-  pub told : AreKnown u v.lane rows
+  pub told : AreRowsKnown u v.lane rows
   pub shut : KeepsShut v u
   pub marks : IsShutSaid v → IsShutSaid u

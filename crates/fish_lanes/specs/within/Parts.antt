@@ -3,7 +3,7 @@ use Rattle.std.specs.Prelude.{ℕ, ◌≡◌, ◌≢◌, ◌≤◌, ◌⊎◌, L
 use Rattle.fish_disk.specs.declared.disk.Disk.{Ghosts as Disks}
 use Rattle.fish_lanes.specs.Blocks.{EachLane}
 use Rattle.fish_lanes.specs.CommitRows.{LeavesRowsOf}
-use Rattle.fish_lanes.specs.Controlling.{CanControl, IsCommitted}
+use Rattle.fish_lanes.specs.Controlling.{CanControl, IsCheckpointAtMost}
 use Rattle.fish_lanes.specs.Gains.{WasShut}
 use Rattle.fish_lanes.specs.Outcome.{Stops}
 use Rattle.fish_lanes.specs.Registering.{registry_of}
@@ -37,7 +37,7 @@ abbrev pub store_of : StoreFile → Log → Pass → Registrar → Store
 store_of file log pass registrar = record { log = log; pass = pass; registrar = registrar; file = file }
 
 -- the control pass may do statements, and a checkpoint may follow
-pub record CanRun {D : Type 0} (images : D → List ℕ → Type 0) (disk : D) (s : Store) : Type 0 where
+pub record CanRunStore {D : Type 0} (images : D → List ℕ → Type 0) (disk : D) (s : Store) : Type 0 where
   pub can : CanControl s.log s.pass s.registrar
   pub commit : MayGoOn images (point_at disk s)
   pub below : IsBelow s.log.key s.file.cold
@@ -52,15 +52,15 @@ pub record StillRuns {D : Type 0} (disks : Disks D) (disk : D) (s : Store) (disk
   pub again : (Broken → ⊥) → MayGoOn disks.images (point_at disk' t)
 
 -- the file was only read, page by page: what is kept of the last commit stays
-pub record OnlyReads {D : Type 0} (disks : Disks D) (k : Key) (disk : D) (file : StoreFile) (disk' : D)
+pub record OnlyReadsFile {D : Type 0} (disks : Disks D) (k : Key) (disk : D) (file : StoreFile) (disk' : D)
     (file' : StoreFile) : Type 0 where
   pub below : IsBelow k file'.cold
   pub flusher : file'.flusher ≡ file.flusher
   pub pages : ReadsPages disks k file.cold file'.cold disk disk'
 
 -- a lane stops at this fault, which it names
-abbrev pub StopsAt : (Whole → Type 0) → ℕ → ℕ → LaneFault → Type 0
-StopsAt Past before now fault = (fault ≢ cause.None) × Stops Past before now fault
+abbrev pub StopsBy : (Whole → Type 0) → ℕ → ℕ → LaneFault → Type 0
+StopsBy Past before now fault = (fault ≢ cause.None) × Stops Past before now fault
 
 -- a statement was done over it, or a part: its item, or the fault at which the lane stops
 pub record RunsStatement {D : Type 0} (disks : Disks D) (disk : D) (s : Store) (disk' : D) (t : Store) (w : Work)
@@ -68,11 +68,11 @@ pub record RunsStatement {D : Type 0} (disks : Disks D) (disk : D) (s : Store) (
   pub still : StillRuns disks disk s disk' t (IsErrOf result cause.Disk)
   pub done : IfOk result
       (IsControlled (Behind disks disk s disk') (view s.pass) s.registrar (view t.pass) t.registrar w)
-  pub committed : IfOk result (IsCommitted t.file.flusher.count)
+  pub committed : IfOk result (IsCheckpointAtMost t.file.flusher.count)
   pub rows : LeavesRows disks disk disk' (rows_by result s.registrar.catalog) (s.registrar.catalog ∷ [])
   pub part : IfErr result (λ _. IsPartControlled (view s.pass) (view t.pass) w)
   pub later : disks.faults disk ≤ disks.faults disk'
-  pub stops : IfErr result (StopsAt (Behind disks disk s disk') (disks.faults disk) (disks.faults disk'))
+  pub stops : IfErr result (StopsBy (Behind disks disk s disk') (disks.faults disk) (disks.faults disk'))
 
 -- statements were, up to a fault, or until the pass has found the log full, unless it was so before
 pub record RunsWorks {D : Type 0} (disks : Disks D) (disk : D) (s : Store) (disk' : D) (t : Store) (works : List Work)
@@ -83,7 +83,7 @@ pub record RunsWorks {D : Type 0} (disks : Disks D) (disk : D) (s : Store) (disk
   pub all : fault ≡ cause.None → (length works ≤ length (answers items))
       ⊎ (((view s.pass).shut ≡ None) × WasShut (view t.pass))
   pub last : (view s.pass).shut ≡ None → SaysLast (view t.pass) items fault
-  pub committed : AllOf (IsCommitted t.file.flusher.count) items
+  pub committed : AllOf (IsCheckpointAtMost t.file.flusher.count) items
   pub rows : LeavesRowsOf disks disk disk' (registry_of (view s.pass) s.registrar) items
   pub stops : Stops (Behind disks disk s disk') (disks.faults disk) (disks.faults disk') fault
 
@@ -93,7 +93,7 @@ pub record RunsFirst {D : Type 0} (disks : Disks D) (disk : D) (s : Store) (x : 
   pub still : StillRuns disks disk s disk' t (y.fault ≡ cause.Disk)
   pub run : HasRunFirst (Behind disks disk s disk') (view s.pass) (view t.pass) s.registrar t.registrar x y
   pub stops : Stops (Behind disks disk s disk') (disks.faults disk) (disks.faults disk') y.fault
-  pub committed : AllOf (IsCommitted t.file.flusher.count) y.items
+  pub committed : AllOf (IsCheckpointAtMost t.file.flusher.count) y.items
   pub rows : LeavesRowsOf disks disk disk' (registry_of (view s.pass) s.registrar) y.items
 
 -- so it did those, and the other lanes, which are after where they were before, did theirs
@@ -104,5 +104,5 @@ pub record RunsLanes {D : Type 0} (disks : Disks D) (disk : D) (s : Store) (x : 
       before after
   pub stops : EachLane (λ i z. Stops (Behind disks disk s disk') (disks.faults disk) (disks.faults disk') z.fault)
       (y ∷ after)
-  pub committed : AllOf (IsCommitted t.file.flusher.count) y.items
+  pub committed : AllOf (IsCheckpointAtMost t.file.flusher.count) y.items
   pub rows : LeavesRowsOf disks disk disk' (registry_of (view s.pass) s.registrar) y.items

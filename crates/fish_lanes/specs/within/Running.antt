@@ -9,7 +9,7 @@ use Rattle.fish_lanes.specs.within.Plans.{AreReadBounds, PlansHoldFor}
 use Rattle.fish_lanes.specs.Records.{LaneRow}
 use Rattle.fish_lanes.specs.Registering.{KnowsRegistry, Registry}
 use Rattle.fish_lanes.specs.within.Sizes.{SaysShut}
-use Rattle.fish_lanes.specs.Spans.{IsAnswer, Span}
+use Rattle.fish_lanes.specs.Spans.{IsAnswerItem, Span}
 use Rattle.fish_lanes.specs.within.Spans.{IsWithinSpan}
 use Rattle.fish_lanes.specs.Telling.{SaysLane}
 use Rattle.fish_lanes.specs.declared.lane.Lane.{Lane}
@@ -68,7 +68,7 @@ pub record CanBegin (log : Log) (pass : Pass) : Type 0 where
   pub start : CanStart (view pass)
 
 -- the lane has a pass of the log, and may go on; it hands nothing back yet
-pub record IsReady (log : Log) (lane : Lane) : Type 0 where
+pub record IsLaneReady (log : Log) (lane : Lane) : Type 0 where
   pub seat : LanePass
   pub seat_is : lane.seat ≡ Some seat
   pub can : CanBegin log seat.pass
@@ -85,6 +85,6 @@ pub record HasDone (Past : Whole → Type 0) (log : Log) (old new : Lane) : Type
   pub run : HasRun Past (view before.pass) (view after.pass) new.works new.items new.fault
   pub plans : SayPlans (view before.pass) (view after.pass) new.works new.items
   pub stops : StopsFull (view before.pass) (view after.pass) new
-  pub answers : AllOf IsAnswer new.items
+  pub answers : AllOf IsAnswerItem new.items
   pub works : old.works ≡ new.works ++ new.left
   pub number : new.number ≡ old.number

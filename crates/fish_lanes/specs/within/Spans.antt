@@ -7,9 +7,9 @@ use Rattle.fish_walk.specs.Looks.{KnowsEntry}
 use Rattle.fish_lanes.specs.Spans.{Span, made_by}
 
 -- how many versions items made
-abbrev pub made : List Item → ℕ
-made [] = 0
-made (x ∷ items) = made_by x + made items
+abbrev pub made_by_all : List Item → ℕ
+made_by_all [] = 0
+made_by_all (x ∷ items) = made_by x + made_by_all items
 
 -- what a lane's pass knew at its start and knows at its end lies within the block, which begins in the pass's table;
 -- what it knows to be settled or an entry lies below the block's end

@@ -3,12 +3,12 @@ use Rattle.std.specs.Prelude.{ℕ, ◌≡◌, ◌+◌, ◌⊎◌, ◌++◌, List
 use Rattle.fish_ingest.specs.Ingestion.{HasIngested}
 use Rattle.fish_ingest.specs.Refusal.{HasNotClaimed, IsFull}
 use Rattle.fish_lanes.specs.within.Gains.{Gains, IsFullBy}
-use Rattle.fish_lanes.specs.Records.{LaneRow, contents}
+use Rattle.fish_lanes.specs.Records.{LaneRow, contents_of_rows}
 use Rattle.fish_lanes.specs.within.Registering.{KeepsRegistry}
 use Rattle.fish_lanes.specs.within.Sizes.{IsSizeBetween}
 use Rattle.fish_lanes.specs.Telling.{AreCounted, all_of}
 use Rattle.fish_lanes.specs.declared.ingesting.Tally.{Tally}
-use Rattle.fish_lines.specs.File.{accepted}
+use Rattle.fish_value.specs.Outcomes.{accepted}
 use Rattle.fish_lines.specs.declared.texts.RecordText.{RecordText}
 use Rattle.fish_lines.specs.declared.texts.RecordText.TheVariants as text
 use Rattle.fish_psf.specs.Records.{is_record}
@@ -20,8 +20,8 @@ use Rattle.fish_value.specs.declared.field.Form.{Form}
 use Rattle.fish_value.specs.declared.field.Form.TheVariants.{Csv}
 
 -- nothing yet
-abbrev pub nothing : Tally
-nothing = record { stored = 0; refused = 0 }
+abbrev pub nothing_stored : Tally
+nothing_stored = record { stored = 0; refused = 0 }
 
 -- what is told of a file
 abbrev pub item_of : List ℕ → Tally → Option Shut → Item
@@ -56,9 +56,9 @@ FindsTextFull v u form outcome t t' shut =
     (payload : List ℕ) × (outcome ≡ Some payload) × IsFull v form payload shut u × (t' ≡ t)
 
 -- the text is one that a file gives: a row is a record
-abbrev pub IsGiven : RecordText → Type 0
-IsGiven (text.Row row) = is_record Csv row ≡ true
-IsGiven x = ⊤
+abbrev pub IsRecordText : RecordText → Type 0
+IsRecordText (text.Row row) = is_record Csv row ≡ true
+IsRecordText x = ⊤
 
 -- those in front are stored, those after aren't read yet
 pub record IsStoredUpTo (v u : View) (form : Form) (outs behind : List (Option (List ℕ))) (tally : Tally) : Type 0 where
@@ -67,7 +67,7 @@ pub record IsStoredUpTo (v u : View) (form : Form) (outs behind : List (Option (
   pub rows : List LaneRow
   pub gains : Gains v u rows
   pub registry : KeepsRegistry v u
-  pub content : contents rows ≡ all_of form (accepted front)
+  pub content : contents_of_rows rows ≡ all_of form (accepted front)
   pub counted : AreCounted front tally.stored tally.refused
 
 -- the next one is a record and found the log full

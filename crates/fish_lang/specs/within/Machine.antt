@@ -6,13 +6,13 @@ use Rattle.fish_lang.specs.declared.definition.Op.{Op}
 
 -- where a condition, a part of an `or` and a part of an `and` stands: what is in front and not closed
 mutual
-  pub data Whole : Type 0 where
-    top : Whole
-    in_group : Operand → Whole
+  pub data Enclosing : Type 0 where
+    top : Enclosing
+    in_group : Operand → Enclosing
 
   pub data Joint : Type 0 where
-    in_whole : Whole → Joint
-    behind_or : Formula → Whole → Joint
+    in_whole : Enclosing → Joint
+    behind_or : Formula → Enclosing → Joint
 
   pub data Operand : Type 0 where
     in_joint : Joint → Operand
@@ -48,7 +48,7 @@ pub data State : Type 0 where
 
 -- how many `(` and `not` are open
 abbrev mutual
-  pub whole_nesting : Whole → ℕ
+  pub whole_nesting : Enclosing → ℕ
   whole_nesting top = 0
   whole_nesting (in_group k) = suc (nesting k)
 
@@ -66,7 +66,7 @@ abbrev pub or_with : Joint → Formula → Formula
 or_with (in_whole w) a = a
 or_with (behind_or b w) a = either b a
 
-abbrev pub whole_of : Joint → Whole
+abbrev pub whole_of : Joint → Enclosing
 whole_of (in_whole w) = w
 whole_of (behind_or b w) = w
 
@@ -77,5 +77,5 @@ complete h (behind_and b j) a = behind_operand h j (both b a)
 complete h (under_not k) a = complete h k (negated a)
 
 -- where a condition begins
-abbrev pub at_front : Whole → Operand
+abbrev pub at_front : Enclosing → Operand
 at_front w = in_joint (in_whole w)

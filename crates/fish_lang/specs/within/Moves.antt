@@ -6,7 +6,7 @@ use Rattle.fish_value.specs.declared.value.Value.{Value}
 use Rattle.fish_value.specs.declared.value.Value.TheVariants as value
 use Rattle.fish_lang.specs.Definition.{Steps, Formula, compares, is_there, begins, Definition, takes, eaches, buckets}
 use Rattle.fish_lang.specs.Definition.{flags}
-use Rattle.fish_lang.specs.within.Machine.{Whole, top, in_group, Joint, Operand, in_joint, behind_or, behind_and}
+use Rattle.fish_lang.specs.within.Machine.{Enclosing, top, in_group, Joint, Operand, in_joint, behind_or, behind_and}
 use Rattle.fish_lang.specs.within.Machine.{under_not}
 use Rattle.fish_lang.specs.within.Machine.{Head, take_when, each_when, bucket_when, flag_when, Owner, of_take, of_each}
 use Rattle.fish_lang.specs.within.Machine.{of_bucket, of_test, State}
@@ -25,16 +25,16 @@ name_of (Ident s) = Some s
 name_of (Str s) = Some s
 name_of _ = None
 
-abbrev pub text_of : Token → Option (List ℕ)
-text_of (Str s) = Some s
-text_of _ = None
+abbrev pub text_of_token : Token → Option (List ℕ)
+text_of_token (Str s) = Some s
+text_of_token _ = None
 
-abbrev pub value_of : Token → Option Value
-value_of (Keyword True) = Some (value.Bool true)
-value_of (Keyword False) = Some (value.Bool false)
-value_of (Number negative n) = Some (value.Int (unwrap_or n (pos 0)))
-value_of (Str s) = Some (value.Text s)
-value_of _ = None
+abbrev pub value_of_token : Token → Option Value
+value_of_token (Keyword True) = Some (value.Bool true)
+value_of_token (Keyword False) = Some (value.Bool false)
+value_of_token (Number negative n) = Some (value.Int (unwrap_or n (pos 0)))
+value_of_token (Str s) = Some (value.Text s)
+value_of_token _ = None
 
 abbrev pub from_start : Token → Option State
 from_start (Keyword Take) = Some (step of_take [])
@@ -79,7 +79,7 @@ from_operand h k Open = Some (operand h (at_front (in_group k)))
 from_operand h k t = option_map (λ s. behind_step (of_test h k) (s ∷ [])) (name_of t)
 
 -- `)` ends a group
-abbrev pub close : Head → Whole → Formula → Option State
+abbrev pub close : Head → Enclosing → Formula → Option State
 close h top a = None
 close h (in_group k) a = Some (complete h k a)
 
@@ -98,8 +98,8 @@ advance (behind_step owner p) t = from_path owner p t
 advance (width p) t = from_width p t
 advance (behind_width p n) t = from_head (bucket_when p n) t
 advance (operand h k) t = from_operand h k t
-advance (literal h k p op) t = option_map (λ v. complete h k (compares p op v)) (value_of t)
-advance (prefix h k p) t = option_map (λ s. complete h k (begins p s)) (text_of t)
+advance (literal h k p op) t = option_map (λ v. complete h k (compares p op v)) (value_of_token t)
+advance (prefix h k p) t = option_map (λ s. complete h k (begins p s)) (text_of_token t)
 advance (behind_operand h j a) t = from_joint h j a t
 
 abbrev pub nests : Token → Bool
@@ -107,9 +107,9 @@ nests (Keyword Not) = true
 nests Open = true
 nests _ = false
 
-abbrev pub number_of : Token → Option Fault
-number_of (Number negative n) = number_fault n
-number_of _ = None
+abbrev pub number_of_token : Token → Option Fault
+number_of_token (Number negative n) = number_fault n
+number_of_token _ = None
 
 abbrev pub width_of : Token → Option Fault
 width_of (Number negative n) = width_fault n
@@ -118,7 +118,7 @@ width_of _ = None
 -- why a token that fits is refused
 abbrev pub fault_at : State → Token → Option Fault
 fault_at (operand h k) t = if nests t then nesting_fault (nesting k) else None
-fault_at (literal h k p op) t = number_of t
+fault_at (literal h k p op) t = number_of_token t
 fault_at (width p) t = width_of t
 fault_at _ t = None
 
@@ -128,14 +128,14 @@ definition_with (each_when p) a = eaches p (Some a)
 definition_with (bucket_when p n) a = buckets p n (Some a)
 definition_with flag_when a = flags a
 
-abbrev pub ended : Head → Whole → Formula → Option Definition
-ended h top a = Some (definition_with h a)
-ended h (in_group k) a = None
+abbrev pub definition_at : Head → Enclosing → Formula → Option Definition
+definition_at h top a = Some (definition_with h a)
+definition_at h (in_group k) a = None
 
 -- the definition that ends here
 abbrev pub finish : State → Option Definition
 finish (behind_step of_take p) = Some (takes p None)
 finish (behind_step of_each p) = Some (eaches p None)
 finish (behind_width p n) = Some (buckets p n None)
-finish (behind_operand h j a) = ended h (whole_of j) (or_with j a)
+finish (behind_operand h j a) = definition_at h (whole_of j) (or_with j a)
 finish _ = None

@@ -13,14 +13,14 @@ use Rattle.fish_lang.specs.declared.parse.LangRefusal.TheVariants as refusal
 use Rattle.fish_lang.specs.declared.parse.LangRefusal.{LangRefusal}
 use Rattle.fish_lang.specs.declared.token.Placed.{Placed}
 
-abbrev pub refusal_of : Fault → ℕ → LangRefusal
-refusal_of TooDeep at = refusal.TooDeep at
-refusal_of NumberTooLarge at = refusal.NumberTooLarge at
-refusal_of ZeroWidth at = refusal.ZeroWidth at
+abbrev pub refusal_at : Fault → ℕ → LangRefusal
+refusal_at TooDeep at = refusal.TooDeep at
+refusal_at NumberTooLarge at = refusal.NumberTooLarge at
+refusal_at ZeroWidth at = refusal.ZeroWidth at
 
 abbrev pub unless_fault : {Y : Type 0} → Option Fault → Y → ℕ → Result Y LangRefusal
 unless_fault None next at = Ok next
-unless_fault (Some f) next at = Err (refusal_of f at)
+unless_fault (Some f) next at = Err (refusal_at f at)
 
 abbrev pub unless_unexpected : {Y : Type 0} → Option Y → Option Fault → ℕ → Result Y LangRefusal
 unless_unexpected None fault at = Err (refusal.Unexpected at)
@@ -36,13 +36,13 @@ and_then (Ok x) f = f x
 and_then (Err e) f = Err e
 
 -- the end of the tokens
-abbrev pub end_of : Option Definition → ℕ → Result Definition LangRefusal
-end_of (Some d) end = Ok d
-end_of None end = Err (refusal.Unexpected end)
+abbrev pub outcome_at : Option Definition → ℕ → Result Definition LangRefusal
+outcome_at (Some d) end = Ok d
+outcome_at None end = Err (refusal.Unexpected end)
 
 -- all tokens from a state on
 abbrev pub run : State → List Placed → ℕ → Result Definition LangRefusal
-run state [] end = end_of (finish state) end
+run state [] end = outcome_at (finish state) end
 run state (placed ∷ more) end = and_then (turn state placed) (λ next. run next more end)
 
 -- a definition, unless its canonical text is too long

@@ -15,7 +15,7 @@ use Rattle.fish_lang.specs.declared.state.State.{State}
 use Rattle.fish_lang.specs.declared.state.State.TheVariants as state
 
 abbrev mutual
-  pub whole_view : Whole → machine.Whole
+  pub whole_view : Whole → machine.Enclosing
   whole_view Top = machine.top
   whole_view (Group' p k) = machine.in_group (operand_view k)
 

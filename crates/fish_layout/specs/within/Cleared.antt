@@ -9,5 +9,5 @@ abbrev pub IsNumberWord : ℕ → ℕ → Type 0
 IsNumberWord n i = (i ≤ 3 * n) × (i % 3 ≡ 2)
 
 -- two regions have the same words within the lines of the first, but for the first words of its key entries
-abbrev pub Agrees : (ℕ → ℕ) → (ℕ → ℕ) → Type 0
-Agrees f g = (i : ℕ) → i ≤ lines_of (f 0) * 4 - 1 → ¬ IsKeyWord (keys_of (f 0)) i → g i ≡ f i
+abbrev pub AgreesOutsideKeys : (ℕ → ℕ) → (ℕ → ℕ) → Type 0
+AgreesOutsideKeys f g = (i : ℕ) → i ≤ lines_of (f 0) * 4 - 1 → ¬ IsKeyWord (keys_of (f 0)) i → g i ≡ f i

@@ -3,5 +3,5 @@ use Rattle.std.specs.Prelude.{ℕ}
 use Rattle.fish_layout.specs.Header.{field}
 
 -- the version: bits 32 to 41
-unfoldable pub version_of : ℕ → ℕ
-version_of w = field w 32 10
+unfoldable pub header_version : ℕ → ℕ
+header_version w = field w 32 10

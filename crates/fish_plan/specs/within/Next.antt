@@ -2,14 +2,14 @@
 use Rattle.std.specs.Prelude.{◌≡◌, ℕ, ◌<◌, ◌≤◌, ◌-◌, ◌⊎◌, ◌++◌, ◌∷◌, [], List, Option, MatchOption}
 use Rattle.fish_catalog.specs.declared.interval.Interval.{Interval}
 use Rattle.fish_plan.specs.Cover.{IsRight}
-use Rattle.fish_plan.specs.Intervals.{Holds, IsHeld, IsOldest}
+use Rattle.fish_plan.specs.Intervals.{Holds, IsHeldBy, IsOldest}
 use Rattle.fish_plan.specs.Pieces.{piece_from, piece_to}
 use Rattle.fish_plan.specs.declared.pieces.Piece.{Piece}
 use Rattle.fish_plan.specs.declared.pieces.Piece.TheVariants.{Index, Full}
 
 -- this is the oldest interval that holds the number, or none holds it
 abbrev pub IsOldestOf : List Interval → ℕ → Option Interval → Type 0
-IsOldestOf xs n found = MatchOption found (¬ IsHeld xs n) (IsOldest xs n)
+IsOldestOf xs n found = MatchOption found (¬ IsHeldBy xs n) (IsOldest xs n)
 
 -- it was the oldest of some intervals, and with one more after them it is this one
 abbrev pub KeepsOldest : ℕ → Option Interval → Interval → Option Interval → Type 0
@@ -19,8 +19,8 @@ KeepsOldest n old x new = (xs : List Interval) → IsOldestOf xs n old → IsOld
 pub record IsLowEnd (xs : List Interval) (from end low : ℕ) : Type 0 where
   pub within : from ≤ low
   pub falls : low < end
-  pub clear : (n : ℕ) → low ≤ n → n < end → ¬ IsHeld xs n
-  pub met : (low ≡ from) ⊎ IsHeld xs (low - 1)
+  pub clear : (n : ℕ) → low ≤ n → n < end → ¬ IsHeldBy xs n
+  pub met : (low ≡ from) ⊎ IsHeldBy xs (low - 1)
 
 -- the same of intervals with one more after them that doesn't reach `end` either
 abbrev pub KeepsLowEnd : ℕ → ℕ → Interval → ℕ → Type 0
@@ -30,10 +30,10 @@ KeepsLowEnd end old x new = (xs : List Interval) (from : ℕ) → ¬ Holds x (en
 -- a full piece begins with the range, or an interval ends there
 abbrev pub IsMet : List Interval → ℕ → Piece → Type 0
 IsMet xs from (Index id first end) = Unit {0}
-IsMet xs from (Full first end) = (first ≡ from) ⊎ IsHeld xs (first - 1)
+IsMet xs from (Full first end) = (first ≡ from) ⊎ IsHeldBy xs (first - 1)
 
 -- the piece ends at `end`, and is right for what is left of the range
-pub record IsNext (xs : List Interval) (from end : ℕ) (x : Piece) : Type 0 where
+pub record IsNextPiece (xs : List Interval) (from end : ℕ) (x : Piece) : Type 0 where
   pub ends : piece_to x ≡ end
   pub falls : piece_from x < end
   pub within : from ≤ piece_from x

@@ -8,7 +8,7 @@ use Rattle.fish_lines.specs.File.{outcomes}
 use Rattle.fish_lines.specs.Resuming.{outcomes_from}
 use Rattle.fish_lines.specs.declared.resuming.Begin.TheVariants.{Start}
 use Rattle.fish_program.specs.Answer.{PassesLimits}
-use Rattle.fish_select.specs.Selection.{HasFound}
+use Rattle.fish_select.specs.Selection.{HasFoundRows}
 use Rattle.fish_select.specs.declared.found.Found.{Found}
 use Rattle.fish_command.specs.declared.command.Select.{Select}
 
@@ -19,7 +19,7 @@ pub record HasSelected {F : Type 0} (left : F → Option (List ℕ)) (at_first :
   pub os : List (Option (List ℕ))
   pub form_is : o.form ≡ s.form
   pub room_is : length before + o.room ≡ longest_in_parts
-  pub found_is : HasFound (definition_of s.def) s.value s.form os found
+  pub found_is : HasFoundRows (definition_of s.def) s.value s.form os found
   pub few : found.count + found.refused ≤ length before
   pub goes_on : (more : List ℕ)
       → outcomes_from s.form (Start s.header) (before ++ more) ≡ os ++ outcomes_from s.form o.begin more
@@ -32,7 +32,7 @@ OfFile left at_first o P = IfSome (left o.feed) (λ _. (b : List ℕ) × (at_fir
 -- this was found in all of it
 abbrev pub IsSelected : {F : Type 0} → (F → Option (List ℕ)) → Option (List ℕ) → Select → OpenFile F → Found → Type 0
 IsSelected left at_first s o found =
-    OfFile left at_first o (λ b. HasFound (definition_of s.def) s.value s.form (outcomes s.form s.header b) found)
+    OfFile left at_first o (λ b. HasFoundRows (definition_of s.def) s.value s.form (outcomes s.form s.header b) found)
 
 -- it is too long to select from
 abbrev pub IsPassed : {F : Type 0} → (F → Option (List ℕ)) → Option (List ℕ) → Select → OpenFile F → Type 0

@@ -7,18 +7,19 @@ use Rattle.fish_recover.specs.declared.refusal.OpenRefusal.TheVariants.{Damaged,
 use Rattle.fish_recover.specs.declared.refusal.OpenRefusal.TheVariants.{ShapeDiffers}
 use Rattle.fish_recover.specs.declared.refusal.OpenRefusal.{OpenRefusal}
 use Rattle.fish_slots.specs.Commits.{next_turn, turn_of}
-use Rattle.fish_slots.specs.Slots.{IsOpen, body_of}
+use Rattle.fish_slots.specs.Slots.{IsOpen, body_in_slot}
 
 -- the slot counts: its gate is open, and where the other is open too, its turn is the one after the other's
 pub record IsNewer (slot : ℕ) (image : List ℕ) : Type 0 where
   pub gate : IsOpen slot image
-  pub turn : IsOpen (1 - slot) image → turn_of (body_of slot image) ≡ next_turn (turn_of (body_of (1 - slot) image))
+  pub turn : IsOpen (1 - slot) image → turn_of (body_in_slot slot image)
+      ≡ next_turn (turn_of (body_in_slot (1 - slot) image))
 
 -- the slot counts and its body tells the commit, and whether the other gate is open too
 pub record IsChosen (image : List ℕ) (slot : ℕ) (both : Bool) (commit : Commit) : Type 0 where
   pub slot_is : slot ≤ 1
   pub newer : IsNewer slot image
-  pub told : IsBodyOf commit (body_of slot image)
+  pub told : IsBodyOf commit (body_in_slot slot image)
   pub older : IsTrue both ↔ IsOpen (1 - slot) image
 
 -- why no slot is taken: no gate is open; or one is, and yet no slot counts whose body tells a commit; or the disk

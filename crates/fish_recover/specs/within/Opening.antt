@@ -11,17 +11,17 @@ use Rattle.fish_image.specs.declared.refusal.ImageRefusal.{ImageRefusal}
 use Rattle.fish_recover.specs.declared.refusal.OpenRefusal.TheVariants.{Damaged, DiskFault, NotAStore, OutOfMemory}
 use Rattle.fish_recover.specs.declared.refusal.OpenRefusal.TheVariants.{ShapeDiffers}
 use Rattle.fish_recover.specs.declared.refusal.OpenRefusal.{OpenRefusal}
-use Rattle.fish_slots.specs.Slots.{lines_of}
+use Rattle.fish_slots.specs.Slots.{lines_in_slot}
 
 -- ---- lines
 
 -- the words of the first lines of the log, as far as the image has them
 abbrev pub first_words : ℕ → List ℕ → List ℕ
-first_words lines image = words_in (lines_of lines image)
+first_words lines image = words_in (lines_in_slot lines image)
 
 -- whatever the disk tells of its content: the checker has seen the words of some bytes, which are no more than so many
 -- lines have
-pub record HasRead (commit : Commit) (checker : Checker) (line : ℕ) : Type 0 where
+pub record HasReadLines (commit : Commit) (checker : Checker) (line : ℕ) : Type 0 where
   pub bytes : List ℕ
   pub words : ℕ
   pub size : length bytes ≡ 8 * words
@@ -54,6 +54,6 @@ IsOutside DiskFault = ⊤
 IsOutside OutOfMemory = ⊤
 
 -- the refusal of a store is that of its image
-abbrev pub IsSame : ImageRefusal → OpenRefusal → Type 0
-IsSame (Broken n) refusal = refusal ≡ Damaged n
-IsSame NoMemory refusal = refusal ≡ OutOfMemory
+abbrev pub IsSameRefusal : ImageRefusal → OpenRefusal → Type 0
+IsSameRefusal (Broken n) refusal = refusal ≡ Damaged n
+IsSameRefusal NoMemory refusal = refusal ≡ OutOfMemory

@@ -1,6 +1,6 @@
 -- A store that was found, and one that is at rest, over bytes alone.
 use Rattle.std.specs.Prelude.{ℕ, ◌≡◌, ◌+◌, ◌-◌, ◌*◌, ◌≤◌, ◌↔◌, List, Bool, IsTrue, length}
-use Rattle.fish_slots.specs.Commits.{Counts, Rests}
+use Rattle.fish_slots.specs.Commits.{SlotCounts, SlotRests}
 use Rattle.fish_slots.specs.Offsets.{body_bytes, lines_at}
 use Rattle.fish_slots.specs.Slots.{IsOpen, line_count}
 
@@ -12,13 +12,13 @@ pub record AreWhole (body lines : List ℕ) : Type 0 where
 -- every image has this body and these lines in the slot that counts, and the other gate is open in all or in none
 pub record AreStored (images : List ℕ → Type 0) (slot : ℕ) (both : Bool) (body lines : List ℕ) : Type 0 where
   pub whole : AreWhole body lines
-  pub counts : (i : List ℕ) → images i → Counts slot body lines i
+  pub counts : (i : List ℕ) → images i → SlotCounts slot body lines i
   pub other : (i : List ℕ) → images i → (IsTrue both ↔ IsOpen (1 - slot) i)
 
 -- every image has them in the slot that alone is open
 pub record AreAtRest (images : List ℕ → Type 0) (slot : ℕ) (body lines : List ℕ) : Type 0 where
   pub whole : AreWhole body lines
-  pub rests : (i : List ℕ) → images i → Rests slot body lines i
+  pub rests : (i : List ℕ) → images i → SlotRests slot body lines i
 
 -- every image has a place for lines after those that the body counts
 abbrev pub AreLong : (List ℕ → Type 0) → List ℕ → Type 0

@@ -5,15 +5,11 @@ use Rattle.fish_flush.specs.Kept.{IsKeptOf}
 use Rattle.fish_flush.specs.declared.refusal.FlushRefusal.TheVariants.{DiskFault as FlushFault, OutOfMemory as NoMemory}
 use Rattle.fish_flush.specs.declared.refusal.FlushRefusal.{FlushRefusal}
 use Rattle.fish_recover.specs.Beginning.{BeginsAt}
+use Rattle.fish_recover.specs.Stores.{shape_of}
 use Rattle.fish_recover.specs.declared.finding.Found.{Found}
 use Rattle.fish_recover.specs.declared.opened.Opened.{Opened}
 use Rattle.fish_recover.specs.declared.refusal.OpenRefusal.TheVariants.{DiskFault, OutOfMemory}
 use Rattle.fish_recover.specs.declared.refusal.OpenRefusal.{OpenRefusal}
-use Rattle.fish_rule.specs.declared.table.Shape.{Shape}
-
--- the shape of a table of a commit
-abbrev pub shape_of : Commit → Shape
-shape_of c = record { pages = c.pages; bucket_bits = c.bucket_bits }
 
 -- ---- why nothing is open
 

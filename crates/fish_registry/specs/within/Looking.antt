@@ -1,6 +1,6 @@
 -- How the control pass looks at the lanes. What private clauses need of it.
 use Rattle.std.specs.Prelude.{ℕ, ◌≡◌, ◌<◌, suc, ◌∷◌, None}
-use Rattle.fish_registry.specs.Changing.{Changes, HasCounted}
+use Rattle.fish_registry.specs.Changing.{Changes, HasLoadedTail}
 use Rattle.fish_registry.specs.Knowing.{IsAwaited}
 use Rattle.fish_registry.specs.Looking.{at_lane}
 use Rattle.fish_registry.specs.declared.looking.Older.{Older}
@@ -19,7 +19,7 @@ pub record Looks (v u : View) : Type 0 where
 
 -- the epoch word of the lane, loaded in between, told an older version than the registration's; the lanes below are
 -- clear
-pub record IsOlder (v : View) (w : Waiting) (u : View) (o : Older) : Type 0 where
+pub record IsOlderLane (v : View) (w : Waiting) (u : View) (o : Older) : Type 0 where
   pub awaited : IsAwaited u (at_lane w o.lane)
   pub loaded : HasLoaded v.clock u.clock (Epoch o.lane) (suc o.version)
   pub less : o.version < w.version
@@ -27,7 +27,7 @@ pub record IsOlder (v : View) (w : Waiting) (u : View) (o : Older) : Type 0 wher
 -- the index of the registration begins at the count of the tail that was loaded in between, and none waits any more
 pub record HasBound (v : View) (w : Waiting) (u : View) (from : ℕ) : Type 0 where
   pub changes : Changes v u
-  pub counted : HasCounted v u from
+  pub counted : HasLoadedTail v u from
   pub control_words : u.control_words ≡ record { index = row_at w.id 0; value = suc from } ∷ v.control_words
   pub read : Among (record { index = row_at w.id 0; value = suc from }) u.learned.words
   pub rows : u.rows ≡ v.rows

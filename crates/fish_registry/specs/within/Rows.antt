@@ -1,6 +1,6 @@
 -- How the control pass makes an operation: of the next row, or of one whose index ends.
 use Rattle.std.specs.Prelude.{ℕ, ◌≡◌, ◌≢◌, ◌<◌, ◌≤◌, suc, List, [], ◌∷◌, ◌++◌, Some, None, length, slice_index, true}
-use Rattle.fish_catalog.specs.Listing.{IsNew, IsOnAt, ended_at}
+use Rattle.fish_catalog.specs.Listing.{IsNewName, IsOnAt, ended_at}
 use Rattle.fish_catalog.specs.Rows.{IsActive, IsRow}
 use Rattle.fish_catalog.specs.declared.row.CatRow.{CatRow}
 use Rattle.fish_registry.specs.Changing.{Changes}
@@ -30,15 +30,15 @@ pub record MayMake (v : View) (version : ℕ) : Type 0 where
   pub few : version < 512
 
 -- the row may be the next one
-pub record MayRegister (v : View) (row : CatRow) : Type 0 where
+pub record MayRegisterRow (v : View) (row : CatRow) : Type 0 where
   pub row_of : IsRow row
   pub active : IsActive row
   pub id : row.id ≡ length v.rows
-  pub new : IsNew v.rows row.name row.def
+  pub new : IsNewName v.rows row.name row.def
 
 -- the registry has one version more, whose definitions are those before and one of this name and text; its
 -- registration waits, and the boundaries are as before
-pub record HasRegistered (v : View) (row : CatRow) (u : View) : Type 0 where
+pub record HasAddedRow (v : View) (row : CatRow) (u : View) : Type 0 where
   pub changes : Changes v u
   pub rows : u.rows ≡ v.rows ++ record { id = row.id; name = row.name; def = row.def; active = true } ∷ []
   pub version : u.learned.version ≡ suc v.learned.version
@@ -48,7 +48,7 @@ pub record HasRegistered (v : View) (row : CatRow) (u : View) : Type 0 where
   pub bounds : (n i : ℕ) → i < 2 → control_word u.control_words (row_at n i) ≡ control_word v.control_words (row_at n i)
 
 -- the index of an active row may end at a number of this table, at or past the one at which it began
-pub record MayEnd (v : View) (id to : ℕ) : Type 0 where
+pub record MayEndRow (v : View) (id to : ℕ) : Type 0 where
   pub on : IsOnAt v.rows id
   pub few : id < 256
   pub from : ℕ

@@ -7,7 +7,7 @@ use Rattle.std.proofs.lemmas.Option.{get_or_from_slice_get, same_Some, slice_get
 use Rattle.fish_catalog.proofs.Clamping.{mapped_from}
 use Rattle.fish_catalog.specs.Clamps.{IsClamped}
 use Rattle.fish_catalog.specs.Listing.{listed_of}
-use Rattle.fish_catalog.specs.Rows.{IsInOrder, IsRow, is_active}
+use Rattle.fish_catalog.specs.Rows.{IsSpanInOrder, IsRow, is_active}
 use Rattle.fish_catalog.specs.Words.{bound_word, row_word}
 use Rattle.fish_catalog.specs.declared.listed.Listed.{Listed}
 use Rattle.fish_catalog.specs.declared.row.CatRow.{CatRow}
@@ -71,12 +71,12 @@ word_to row n e = by row.to e
     by (Some m) e = ap (λ (z : ℕ). Some z) (omega arith)
 
 -- a row in order ends where it began or after it
-word_order : (row : CatRow) (from to : ℕ) → IsInOrder row.from row.to → row_word row 0 ≡ suc from → row_word row 1 ≡ suc to
+word_order : (row : CatRow) (from to : ℕ) → IsSpanInOrder row.from row.to → row_word row 0 ≡ suc from → row_word row 1 ≡ suc to
     → from ≤ to
 word_order row from to order begins ends =
     let begin = word_from row from begins in
     let end = word_to row to ends in
-    subst (λ (z : Option ℕ × Option ℕ). IsInOrder z.0 z.1) (λ i. (begin i, end i)) order
+    subst (λ (z : Option ℕ × Option ℕ). IsSpanInOrder z.0 z.1) (λ i. (begin i, end i)) order
 
 -- no boundary of a clamped row is past the number
 clamped_word : (number : ℕ) (row : CatRow) (i n : ℕ) → IsClamped number row → i < 2 → row_word row i ≡ suc n → n ≤ number

@@ -3,7 +3,7 @@ use Rattle.std.proofs.Common.{◌≡◌, ap, Some, None, Option, ℕ, ◌≤◌,
 use Rattle.fish_rule.specs.SpaceSteps.{flight_kind, learned_after, own_after, shut_after, ticked}
 use Rattle.fish_rule.proofs.basics.Context.{Flight, Key, Rule, View, World, get_elem?, some}
 use Rattle.fish_rule.specs.Parts.{Flies, InFlight}
-use Rattle.fish_rule.specs.Epochs.{Carries, IsCarried}
+use Rattle.fish_rule.specs.Epochs.{Carries, IsFlightCarried}
 use Rattle.fish_rule.specs.Keys.{IsKeyed}
 use Rattle.fish_rule.specs.Registry.{AreActiveAt, KnowsActive}
 use Rattle.fish_rule.proofs.basics.RegistryWords.{active_known, keyed_map}
@@ -39,7 +39,7 @@ confirmed_once e = cc
 
 -- and of its version and keys
 pub carried_is : {k : Key} {w : World} (r : Rule k w) (id : ℕ) {v : View} (at : get_elem? w.views id ≡ some v)
-    (f : Flight) → v.flight ≡ Some f → IsCarried k w.registry r.version_of v.lane v.epoch f
+    (f : Flight) → v.flight ≡ Some f → IsFlightCarried k w.registry r.version_of v.lane v.epoch f
 carried_is {k} {w} r id {v} at f is = subst (Carries k w.registry r.version_of v.lane v.epoch) is (r.registry.flights id v at)
 
 -- what its pass knows of its keys is so

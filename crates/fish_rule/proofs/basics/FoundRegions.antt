@@ -9,8 +9,8 @@ use Rattle.fish_rule.proofs.basics.Bodies.{code_once, void-head, published}
 use Rattle.fish_rule.proofs.basics.Regions.{one_region}
 use Rattle.fish_rule.proofs.basics.Lists.{all_among}
 use Rattle.fish_rule.specs.Parts.{IsPublishedRegion}
-use Rattle.fish_rule.specs.Facts.{Facts, IsFound, IsKnown}
-use Rattle.fish_rule.specs.Regions.{Holds, kind_of}
+use Rattle.fish_rule.specs.Facts.{Facts, IsFound, IsFactKnown}
+use Rattle.fish_rule.specs.Regions.{HoldsRegion, kind_of}
 use Rattle.fish_rule.proofs.basics.Context.{Among, Found, Key, Kind, Rule, View, World}
 use Rattle.fish_rule.specs.LoadSteps.{CanReadWord}
 use Rattle.fish_rule.specs.World.{body}
@@ -18,7 +18,7 @@ use Rattle.fish_rule.specs.declared.view.Kind.TheVariants.{Mark, Stored, Void}
 
 -- the header of a region that isn't a mark tells its lines
 pub lined_whole : (k : Key) (kind : Kind) (lane n lines : ℕ) (e : ℕ → ℕ) → kind ≢ Mark → lines < 65536
-    → Holds kind lane n lines e → lines_of (e 0) ≡ lines
+    → HoldsRegion kind lane n lines e → lines_of (e 0) ≡ lines
 lined_whole k Stored lane n lines e ne few h = spelled_lines h.1.spells ∙ h.1.lines_is
 lined_whole k Void lane n lines e ne few h = ap (λ (f : ℕ → ℕ). lines_of (f 0)) h ∙ ap lines_of (void-head lines)
     ∙ lines_of-void lines few
@@ -47,7 +47,7 @@ module _ {k : Key} {w : World} (r : Rule k w) where
 
   -- a word that is known at a place of a region that was found is that of its body there
   pub word_known : (x : Found) (i h : ℕ) → IsFound k w.count w.dir r.start x → i < x.lines * 4
-      → IsKnown k w.count w.dir w.log r.start (record { place = x.line * 4 + i; value = h })
+      → IsFactKnown k w.count w.dir w.log r.start (record { place = x.line * 4 + i; value = h })
       → body w.log (r.start x.number) i ≡ h
   word_known x i h found less known =
       let line = found.line in
@@ -66,7 +66,7 @@ module _ {k : Key} {w : World} (r : Rule k w) where
 
   -- a word that is known at a region's first place is its header
   pub head_known : (x : Found) (h : ℕ) → IsFound k w.count w.dir r.start x
-      → IsKnown k w.count w.dir w.log r.start (record { place = x.line * 4; value = h })
+      → IsFactKnown k w.count w.dir w.log r.start (record { place = x.line * 4; value = h })
       → body w.log (r.start x.number) 0 ≡ h
   head_known x h found known =
       let grows = r.space.regions.grows x.number found.above found.below in
@@ -74,11 +74,11 @@ module _ {k : Key} {w : World} (r : Rule k w) where
       let lines = found.lines in
       let e : x.line * 4 ≡ x.line * 4 + 0 = omega arith in
       word_known x 0 h found (omega arith) (subst
-      (λ (z : ℕ). IsKnown k w.count w.dir w.log r.start (record { place = z; value = h })) e known)
+      (λ (z : ℕ). IsFactKnown k w.count w.dir w.log r.start (record { place = z; value = h })) e known)
 
   -- the word that a pass may read is the region's body there
   pub read_word_is : (v : View) (x : Found) (i : ℕ) → Facts k w.count w.dir w.log r.start v.learned
-      → CanReadWord v x i → IsKnown k w.count w.dir w.log r.start
+      → CanReadWord v x i → IsFactKnown k w.count w.dir w.log r.start
       (record { place = x.line * 4 + i; value = w.log (x.line * 4 + i) })
   read_word_is v x i facts can =
       let found = all_among (IsFound k w.count w.dir r.start) x v.learned.found facts.found can.found in
@@ -101,7 +101,7 @@ module _ {k : Key} {w : World} (r : Rule k w) where
             × ¬ IsKeyWord (keys_of h) i).
             let head : body w.log (r.start x.number) 0 ≡ t.0 =
             head_known x t.0 found (all_among
-            (IsKnown k w.count w.dir w.log r.start) _ v.learned.known facts.known t.1) in
+            (IsFactKnown k w.count w.dir w.log r.start) _ v.learned.known facts.known t.1) in
             let first : body w.log (r.start x.number) 0 ≡ w.log (r.start x.number * 4 + 0) =
             cleared_head (λ j. w.log (r.start x.number * 4 + j)) in
             let whole : lines_of (w.log (r.start x.number * 4 + 0)) ≡ x.lines = ap lines_of (sym first)

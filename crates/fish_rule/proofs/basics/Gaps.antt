@@ -12,14 +12,14 @@ use Rattle.fish_layout.specs.Header.{keys_of, lines_of}
 use Rattle.fish_rule.proofs.basics.Places.{RecordAt, lies_inside, record_at, record_at_lined}
 use Rattle.fish_rule.specs.Chains.{Linked}
 use Rattle.fish_rule.proofs.basics.Context.{Key, Rule, World}
-use Rattle.fish_rule.specs.Gaps.{IsEntryOf, IsGap, IsLabel}
+use Rattle.fish_rule.specs.Gaps.{IsKeyEntryOf, IsGap, IsLabel}
 use Rattle.fish_rule.specs.World.{body}
 use Rattle.fish_rule.proofs.basics.Bodies.{published}
 use Rattle.fish_rule.specs.declared.view.Kind.TheVariants.{Stored}
 
 module _ {k : Key} {w : World} (r : Rule k w) where
   -- the entries of published records are linked
-  unfoldable pub entry_linked : (b n c p : ℕ) → n < w.count → IsEntryOf k w.dir w.log (r.start n) b n c p
+  unfoldable pub entry_linked : (b n c p : ℕ) → n < w.count → IsKeyEntryOf k w.dir w.log (r.start n) b n c p
       → Linked k w.dir w.log w.views b p
   entry_linked b n c p below h =
       let finished = r.space.finished n h.above below (published (w.dir n) Stored h.stored) in

@@ -14,7 +14,7 @@ use Rattle.fish_rule.proofs.basics.Regions.{starts_rise}
 use Rattle.fish_rule.specs.Facts.{IsStoredBy}
 use Rattle.fish_rule.specs.Logs.{IsEntry}
 use Rattle.fish_rule.specs.Parts.{IsEntryWord}
-use Rattle.fish_rule.specs.Regions.{Holds, IsRecord, code, kind_of, IsRecordOf}
+use Rattle.fish_rule.specs.Regions.{HoldsRegion, IsRecord, code, kind_of, IsRecordOf}
 use Rattle.fish_rule.specs.World.{body, high, low}
 use Rattle.fish_rule.specs.declared.view.Kind.TheVariants.{Mark, Stored, Void}
 use Rattle.fish_value.specs.declared.field.Form.{Form}
@@ -93,7 +93,7 @@ module _ {k : Key} {w : World} (r : Rule k w) where
   entry_once n entry.Void entry.Void void void' = refl
 
   -- what a record's kind asks
-  holds_record : (kind : Kind) (lane n lines : ℕ) (e : ℕ → ℕ) → kind ≡ Stored → Holds kind lane n lines e
+  holds_record : (kind : Kind) (lane n lines : ℕ) (e : ℕ → ℕ) → kind ≡ Stored → HoldsRegion kind lane n lines e
       → IsRecord lane n lines e
   holds_record Stored lane n lines e q h = h
   holds_record Void lane n lines e q h = cc
@@ -118,7 +118,7 @@ module _ {k : Key} {w : World} (r : Rule k w) where
       }
 
 -- what a record's kind asks
-record_held : (kind : Kind) (lane n lines : ℕ) (e : ℕ → ℕ) → kind ≡ Stored → Holds kind lane n lines e
+record_held : (kind : Kind) (lane n lines : ℕ) (e : ℕ → ℕ) → kind ≡ Stored → HoldsRegion kind lane n lines e
     → IsRecord lane n lines e
 record_held Stored lane n lines e is h = h
 record_held Void lane n lines e is h = cc

@@ -9,7 +9,7 @@ use Rattle.fish_rule.proofs.basics.Bodies.{code_once, published}
 use Rattle.fish_rule.proofs.basics.Regions.{one_region}
 use Rattle.fish_rule.specs.Chains.{IsLinking, IsStoredAt, Linked, LinksAt, Shows}
 use Rattle.fish_rule.specs.Parts.{Flies}
-use Rattle.fish_rule.specs.Regions.{Holds, IsRecord, kind_of}
+use Rattle.fish_rule.specs.Regions.{HoldsRegion, IsRecord, kind_of}
 use Rattle.fish_rule.specs.World.{body}
 use Rattle.fish_rule.specs.declared.view.Kind.TheVariants.{Mark, Stored, Void}
 
@@ -35,7 +35,7 @@ module _ {k : Key} {w : World} (r : Rule k w) where
     pub owner : (w.dir number ≢ 0) ⊎ ((w.dir number ≡ 0) × IsFlier w number c)
 
   -- a record where the kind says so
-  record_held : (kind : Kind) (lane n lines : ℕ) (e : ℕ → ℕ) → kind ≡ Stored → Holds kind lane n lines e
+  record_held : (kind : Kind) (lane n lines : ℕ) (e : ℕ → ℕ) → kind ≡ Stored → HoldsRegion kind lane n lines e
       → IsRecord lane n lines e
   record_held Stored lane n lines e q h = h
   record_held Void lane n lines e q h = cc

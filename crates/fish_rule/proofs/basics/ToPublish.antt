@@ -4,7 +4,7 @@ use Rattle.std.proofs.Common.{length, get_or, ap}
 use Rattle.fish_layout.specs.Header.{field, lines_of, void_word}
 use Rattle.fish_rule.proofs.basics.Bodies.{kind-mark, body_stored, body_void, void-head}
 use Rattle.fish_rule.specs.Parts.{InFlight, MayOverflow}
-use Rattle.fish_rule.specs.Regions.{kind_of, Holds, IsRecord, void_body}
+use Rattle.fish_rule.specs.Regions.{kind_of, HoldsRegion, IsRecord, void_body}
 use Rattle.fish_rule.proofs.basics.Context.{Flight, Key, Kind, Rule, View, World, get_elem?, some}
 use Rattle.fish_rule.specs.SpaceSteps.{shut_after, IsReady}
 use Rattle.fish_rule.specs.Views.{IsOver}
@@ -94,7 +94,7 @@ module _ {k : Key} {w : World} (r : Rule k w) (id : ℕ) {v : View} (at : get_el
 
   -- what the region holds
   pub filled : (kd : Kind) → IsReady active version kd v.lane f → (lines_of (body w.log f.line 0) ≤ f.lines)
-      × Holds kd v.lane f.number f.lines (body w.log f.line)
+      × HoldsRegion kd v.lane f.number f.lines (body w.log f.line)
   filled Stored h =
       let e = own_body h in
       let q = h.1.1.record_of in

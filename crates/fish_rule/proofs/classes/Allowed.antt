@@ -7,7 +7,7 @@ use Rattle.atomic_table.proofs.Lists.{set_here}
 use Rattle.atomic_table.specs.Table.{keeps}
 pub use Rattle.atomic_table.specs.Table.{Allows, step}
 use Rattle.fish_rule.proofs.basics.Lists.{within_list}
-use Rattle.fish_rule.specs.Table.{Stands}
+use Rattle.fish_rule.specs.Table.{IsOfMoment}
 pub use Rattle.fish_rule.specs.Table.{Ruled, Sat, Told}
 use Rattle.fish_rule.specs.World.{total, world, heads_at, registry_size}
 use Rattle.fish_rule.proofs.basics.Worlds.{area-in}
@@ -30,7 +30,7 @@ allowed given k same size id me i f then owes =
 
 -- a view stands where the rule holds and it is there
 pub stands : (k : Key) (u : World) (id : ℕ) (v : View) → Rule k u → v.about ≡ k → get_elem? u.views id ≡ some v
-    → Stands v
+    → IsOfMoment v
 stands k u id v r about at = record {
   moment = u;
   rule = subst (λ (z : Key). Rule z u) (sym about) r;

@@ -11,7 +11,7 @@ use Rattle.fish_rule.proofs.basics.ChainOrder.{chain_same}
 use Rattle.fish_rule.proofs.basics.Lists.{within_list}
 use Rattle.fish_rule.proofs.classes.OtherViews.{one_view}
 use Rattle.fish_rule.specs.Chains.{Chain, IsKeyEntry, IsLinking, IsStoredAt, Linked, LinksAt, Shows}
-use Rattle.fish_rule.specs.Parts.{Whole, first_head}
+use Rattle.fish_rule.specs.Parts.{IsWholeFlight, first_head}
 use Rattle.fish_rule.specs.Regions.{IsRecord}
 use Rattle.fish_rule.specs.World.{body}
 
@@ -76,8 +76,8 @@ linked_counted k dir dir' log vs vs' shows b p h =
 
 -- a record in flight that is whole stays so where its region's words do
 pub whole_later : (k : Key) (log log' : ℕ → ℕ) (lane : ℕ) (f : Flight) → 1 ≤ f.lines
-    → ((i : ℕ) → i < f.lines * 4 → log' (f.line * 4 + i) ≡ log (f.line * 4 + i)) → Whole k log lane f
-    → Whole k log' lane f
+    → ((i : ℕ) → i < f.lines * 4 → log' (f.line * 4 + i) ≡ log (f.line * 4 + i)) → IsWholeFlight k log lane f
+    → IsWholeFlight k log' lane f
 whole_later k log log' lane f some_ same h =
     let lined : lines_of (body log f.line 0) ≡ f.lines = spelled_lines h.record_of.1.spells ∙ h.record_of.1.lines_is in
     let e : body log' f.line ≡ body log f.line = body_same log log' f.line f.lines some_ (omega arith) same in

@@ -10,7 +10,7 @@ use Rattle.fish_rule.proofs.classes.OnRegistry.{carries_later, owned_before, rea
 use Rattle.fish_rule.proofs.classes.OnRegistry.{versions_later}
 use Rattle.fish_rule.proofs.basics.Worlds.{put-else, put-here}
 use Rattle.fish_rule.specs.Boundaries.{Boundaries}
-use Rattle.fish_rule.specs.Epochs.{IsAtMost, IsControl, IsOwned, Registry, Stays}
+use Rattle.fish_rule.specs.Epochs.{IsAtMost, IsControl, IsOwned, RegistryHolds, Stays}
 use Rattle.fish_rule.specs.Registry.{Endures, IsLasting, IsRegistered, definitions_at, control_word, epoch_at, version_in}
 use Rattle.fish_rule.specs.Rounds.{Waits}
 use Rattle.fish_rule.specs.SpaceSteps.{ticked}
@@ -117,7 +117,7 @@ module _ {k : Key} {w : World} (r : Rule k w) (id : ℕ) {v : View} (at : get_el
               ∙ sym (choose_second (ℕ_discrete q p) x (control_word v.control_words q) ne)
 
       -- the registry's part afterwards
-      storer_registry : Registry k w.count stored r.state r.version_of (set w.views id storer)
+      storer_registry : RegistryHolds k w.count stored r.state r.version_of (set w.views id storer)
       storer_registry = record {
         epochs = record {
           words = λ l above below. put-else w.registry p x (epoch_at l) (λ e. omega arith)

@@ -5,13 +5,13 @@ use Rattle.fish_layout.specs.Header.{lines_of}
 use Rattle.std.proofs.Math.Decide.{dec_lt}
 use Rattle.fish_rule.proofs.basics.Lists.{all_map}
 use Rattle.fish_rule.specs.Chains.{Chained, IsLeastPrevious, IsKeyEntry}
-use Rattle.fish_rule.specs.Parts.{InFlight, IsPublishedRegion, Whole}
-use Rattle.fish_rule.specs.Facts.{Facts, IsFound, IsKnown, IsRecorded, IsStoredBy, Owns, ShutOk}
-use Rattle.fish_rule.specs.Regions.{Holds, code, kind_of}
+use Rattle.fish_rule.specs.Parts.{InFlight, IsPublishedRegion, IsWholeFlight}
+use Rattle.fish_rule.specs.Facts.{Facts, IsFound, IsFactKnown, IsRecorded, IsStoredBy, Owns, ShutOk}
+use Rattle.fish_rule.specs.Regions.{HoldsRegion, code, kind_of}
 use Rattle.fish_rule.proofs.basics.Context.{Final, Flight, Found, Key, Learned, World}
 use Rattle.fish_rule.specs.Views.{Has}
 use Rattle.fish_rule.specs.World.{body, high, low}
-use Rattle.fish_rule.specs.Gaps.{IsEntryOf, IsGap, IsLabel}
+use Rattle.fish_rule.specs.Gaps.{IsKeyEntryOf, IsGap, IsLabel}
 use Rattle.fish_rule.specs.declared.view.Gap.{Gap}
 use Rattle.fish_rule.specs.declared.view.Label.{Label}
 use Rattle.fish_layout.specs.Cleared.{entry_at}
@@ -44,7 +44,7 @@ module _ {k : Key} {w w' : World} {start start' lane_of lane_of' : ℕ → ℕ}
         line = subst (λ (z : ℕ × ℕ). low z.0 ≡ z.1) (λ i. (sym d i, sym a i)) h.line;
         lined = subst (λ (z : ℕ × ℕ × (ℕ → ℕ)). lines_of (z.2 0) ≤ z.1 - z.0)
             (λ i. (sym a i, sym b i, sym e i)) h.lined;
-        holds = subst (λ (z : ℕ × ℕ × ℕ × (ℕ → ℕ)). Holds (kind_of k.end z.0 z.1) z.2 n (z.1 - z.0) z.3)
+        holds = subst (λ (z : ℕ × ℕ × ℕ × (ℕ → ℕ)). HoldsRegion (kind_of k.end z.0 z.1) z.2 n (z.1 - z.0) z.3)
             (λ i. (sym a i, sym b i, sym l i, sym e i)) h.holds;
       }
 
@@ -63,7 +63,7 @@ module _ {k : Key} {w w' : World} {start start' lane_of lane_of' : ℕ → ℕ}
       }
 
   -- what was read stays so
-  pub known_later : (x : Known) → IsKnown k w.count w.dir w.log start x → IsKnown k w'.count w'.dir w'.log start' x
+  pub known_later : (x : Known) → IsFactKnown k w.count w.dir w.log start x → IsFactKnown k w'.count w'.dir w'.log start' x
   known_later x h =
       let n : ℕ = h.number in
       let up = f.counts in
@@ -98,8 +98,8 @@ module _ {k : Key} {w w' : World} {start start' lane_of lane_of' : ℕ → ℕ}
       }
 
   -- an entry of a published number was one before
-  pub entry_before : (b n c p : ℕ) → n < w.count → w.dir n ≢ 0 → IsEntryOf k w'.dir w'.log (start' n) b n c p
-      → IsEntryOf k w.dir w.log (start n) b n c p
+  pub entry_before : (b n c p : ℕ) → n < w.count → w.dir n ≢ 0 → IsKeyEntryOf k w'.dir w'.log (start' n) b n c p
+      → IsKeyEntryOf k w.dir w.log (start n) b n c p
   entry_before b n c p below set h =
       let a : start' n ≡ start n = f.starts n (omega arith) in
       let e : body w'.log (start' n) ≡ body w.log (start n) = ap (body w'.log) a ∙ f.bodies n below set in
@@ -149,8 +149,8 @@ module _ {k : Key} {w w' : World} {start start' lane_of lane_of' : ℕ → ℕ}
       record {
         counted = omega arith;
         found = all_map (IsFound k w.count w.dir start) (IsFound k w'.count w'.dir start') found_later l.found h.found;
-        known = all_map (IsKnown k w.count w.dir w.log start)
-            (IsKnown k w'.count w'.dir w'.log start') known_later l.known h.known;
+        known = all_map (IsFactKnown k w.count w.dir w.log start)
+            (IsFactKnown k w'.count w'.dir w'.log start') known_later l.known h.known;
         records = all_map (IsRecorded k w.count w.dir w.log start)
             (IsRecorded k w'.count w'.dir w'.log start') recorded_later l.records h.records;
         gaps = all_map (IsGap k w.count w.dir w.log start)
@@ -168,7 +168,7 @@ module _ {k : Key} {w w' : World} {start start' lane_of lane_of' : ℕ → ℕ}
   pub flight_later : (lane : ℕ) (g : Flight) → InFlight k w.count w.dir w.log start lane_of lane g → w'.dir g.number ≡ 0
       → ((n : ℕ) → w.count ≤ n → n < w'.count → lane_of' n ≢ lane)
       → ((i : ℕ) → i < g.lines * 4 → w'.log (g.line * 4 + i) ≡ w.log (g.line * 4 + i))
-      → (0 < g.linked → Whole k w'.log lane g) → InFlight k w'.count w'.dir w'.log start' lane_of' lane g
+      → (0 < g.linked → IsWholeFlight k w'.log lane g) → InFlight k w'.count w'.dir w'.log start' lane_of' lane g
   flight_later lane g h dir unclaimed same whole =
       let up = f.counts in
       let below = h.below in

@@ -27,7 +27,7 @@ use Rattle.fish_rule.specs.Views.{AllOf, IsFlightOf, IsOver}
 use Rattle.fish_rule.specs.World.{body}
 use Rattle.fish_rule.specs.declared.view.Kind.TheVariants.{Stored}
 use Rattle.fish_rule.proofs.basics.RegistryWords.{endures_same}
-use Rattle.fish_rule.specs.Epochs.{IsCarried, Stays}
+use Rattle.fish_rule.specs.Epochs.{IsFlightCarried, Stays}
 
 module _ {k : Key} {w : World} (r : Rule k w) (id : ℕ) {v : View} (at : get_elem? w.views id ≡ some v) (f : Flight)
     (can : CanAimEntry v f) (b : ℕ) (bucket : bucket_of k.buckets (body_of f.words) f.linked ≡ b) (head' log' : ℕ → ℕ)
@@ -199,7 +199,7 @@ module _ {k : Key} {w : World} (r : Rule k w) (id : ℕ) {v : View} (at : get_el
     }
 
     -- it keeps its version, and has the keys of that version
-    own_carried : IsCarried k w.registry r.version_of v.lane v.epoch (linked_once f)
+    own_carried : IsFlightCarried k w.registry r.version_of v.lane v.epoch (linked_once f)
     own_carried = record {
       entered = (carried_is r id at f can.flying).entered;
       keyed = λ _. known_keyed r id at f can.flying own.live can.body.version can.body.entered

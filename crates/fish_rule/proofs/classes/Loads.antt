@@ -8,7 +8,7 @@ use Rattle.fish_rule.proofs.classes.PassesKnow.{each_chained}
 use Rattle.fish_rule.proofs.classes.ChainsStay.{chains_set, links_set}
 use Rattle.fish_rule.proofs.basics.Lasts.{Kept, Lasts}
 use Rattle.fish_rule.specs.Chains.{Chained}
-use Rattle.fish_rule.specs.Parts.{Rests}
+use Rattle.fish_rule.specs.Parts.{RestsAt}
 use Rattle.fish_rule.specs.Facts.{AreOpens, Facts}
 use Rattle.fish_rule.specs.Views.{AllOf}
 use Rattle.fish_rule.specs.declared.view.Position.{Position}
@@ -34,7 +34,7 @@ module _ {k : Key} {w : World} (r : Rule k w) (id : ℕ) {v : View} (at : get_el
 
   -- a load keeps the rule where the new facts hold
   learns : (l : Learned) (t : Option Position) (o : Option Round) (c : Clock)
-      → (v.lane ≡ 1 → v.out ≡ [] → Rests w.count w.line t) → Facts k w.count w.dir w.log r.start l
+      → (v.lane ≡ 1 → v.out ≡ [] → RestsAt w.count w.line t) → Facts k w.count w.dir w.log r.start l
       → AllOf (AreOpens k w.count w.dir r.lane_of) l.opens → l.settled ≤ w.settled
       → Chained k w.dir w.log (set w.views id (learner l t o c)) w.head l
       → Stays k w.count w.registry r.state r.version_of (learner l t o c)
@@ -69,7 +69,7 @@ module _ {k : Key} {w : World} (r : Rule k w) (id : ℕ) {v : View} (at : get_el
 
   -- and so all that lasts
   pub learn_lasts : (l : Learned) (t : Option Position) (o : Option Round) (c : Clock)
-      → (v.lane ≡ 1 → v.out ≡ [] → Rests w.count w.line t) → Facts k w.count w.dir w.log r.start l
+      → (v.lane ≡ 1 → v.out ≡ [] → RestsAt w.count w.line t) → Facts k w.count w.dir w.log r.start l
       → AllOf (AreOpens k w.count w.dir r.lane_of) l.opens → l.settled ≤ w.settled
       → Chained k w.dir w.log (set w.views id (learner l t o c)) w.head l
       → Stays k w.count w.registry r.state r.version_of (learner l t o c)

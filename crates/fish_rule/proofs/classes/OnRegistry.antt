@@ -5,7 +5,7 @@ use Rattle.fish_rule.proofs.basics.Context.{Clock, Epoch, Final, Flight, Key, Ru
 use Rattle.std.proofs.lemmas.List.{length-map}
 use Rattle.std.proofs.lemmas.Option.{slice_get_within}
 use Rattle.fish_catalog.proofs.RowWords.{listed_same}
-use Rattle.fish_catalog.specs.Listing.{IsListing, IsNew, listed_of}
+use Rattle.fish_catalog.specs.Listing.{IsListing, IsNewName, listed_of}
 use Rattle.fish_catalog.specs.Words.{IsWritable, row_word}
 use Rattle.fish_catalog.specs.declared.listed.Listed.{Listed}
 use Rattle.fish_catalog.specs.declared.row.CatRow.{CatRow}
@@ -19,7 +19,7 @@ use Rattle.fish_rule.proofs.basics.Bodies.{published}
 use Rattle.fish_rule.proofs.classes.ChainsStay.{chains_set, links_set}
 use Rattle.fish_rule.proofs.basics.RegistryWords.{active_later, definitions_later, definitions_next, keyed_map}
 use Rattle.fish_rule.proofs.basics.RegistryWords.{length_grows, length_registered, registered_later}
-use Rattle.fish_rule.specs.Epochs.{Carries, IsControl, IsOwned, IsUnmade, Registry, Versions}
+use Rattle.fish_rule.specs.Epochs.{Carries, IsControl, IsOwned, IsUnmade, RegistryHolds, Versions}
 use Rattle.fish_rule.specs.Registry.{AreActiveAt, Endures, IsOperation, IsRegistered, definitions_at, op_at, row_at}
 use Rattle.fish_rule.specs.Registry.{row_in, row_spelled, version_in}
 use Rattle.fish_rule.specs.Facts.{Facts}
@@ -44,7 +44,7 @@ operation_later f f' ls x same (inl h) =
     ap (λ (z : Listed). let q : CatRow = record { id = 0; name = z.name; def = z.def; from = None; to = None } in q) e in (
     inl (
       h.0,
-      subst (λ (z : Listed). IsNew ls z.name z.def) e h.1,
+      subst (λ (z : Listed). IsNewName ls z.name z.def) e h.1,
       λ i a b. sym (l i a b) ∙ h.2 i a b ∙ ap (λ (z : CatRow). row_word z i) row,
     )
     )
@@ -184,7 +184,7 @@ module _ {k : Key} {w : World} (r : Rule k w) (id : ℕ) {v : View} (at : get_el
     pub registrant_facts : Facts k w.count w.dir w.log r.start registrant.learned
     registrant_facts = (let h = r.facts id v at in assumption h)
 
-    module _ (state : ℕ → Epoch) (registry : Registry k w.count g' state r.version_of (set w.views id registrant)) where
+    module _ (state : ℕ → Epoch) (registry : RegistryHolds k w.count g' state r.version_of (set w.views id registrant)) where
       -- the rule is kept where the registry's part is
       unfoldable pub registers : Rule k registered_world
       registers = record {

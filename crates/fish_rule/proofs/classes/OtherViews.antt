@@ -10,7 +10,7 @@ use Rattle.fish_rule.specs.Chains.{Linked}
 use Rattle.fish_rule.specs.Registry.{Endures}
 use Rattle.fish_rule.specs.Parts.{Flies, Limit, MayOverflow, Space}
 use Rattle.fish_rule.specs.Views.{Each, Has, HasFlight, IsFlightOf}
-use Rattle.fish_rule.specs.Epochs.{Carries, Registry, Stays}
+use Rattle.fish_rule.specs.Epochs.{Carries, RegistryHolds, Stays}
 
 -- one place of a list has one view
 pub one_view : (vs : List View) (id : ℕ) (v u : View) → get_elem? vs id ≡ some v → get_elem? vs id ≡ some u → v ≡ u
@@ -108,9 +108,9 @@ space_still {k} {count} {line} {dir} {log} {start} {lane_of} vs id v v' at lane 
 
 -- the registry's part stays where its words do, and the stepping pass keeps to it
 pub registry_set : (k : Key) (count : ℕ) (g : ℕ → ℕ) (state : ℕ → Epoch) (version_of : ℕ → ℕ) (vs : List View) (id : ℕ)
-    (v' : View) → Registry k count g state version_of vs
+    (v' : View) → RegistryHolds k count g state version_of vs
     → Stays k count g state version_of v'
-    → Carries k g version_of v'.lane v'.epoch v'.flight → Registry k count g state version_of (set vs id v')
+    → Carries k g version_of v'.lane v'.epoch v'.flight → RegistryHolds k count g state version_of (set vs id v')
 registry_set k count g state version_of vs id v' r stays carries = record {
   epochs = r.epochs;
   versions = r.versions;

@@ -10,7 +10,7 @@ use Rattle.fish_rule.proofs.classes.OnRegistry.{registers, versions_later}
 use Rattle.fish_rule.proofs.basics.Worlds.{put-else, put-here}
 use Rattle.fish_rule.proofs.basics.Lasts.{Lasts}
 use Rattle.fish_rule.specs.Boundaries.{Lists}
-use Rattle.fish_rule.specs.Epochs.{Carries, Epochs, IsAtMost, IsOwned, Registry, Stays, StaysWith, epoch_word}
+use Rattle.fish_rule.specs.Epochs.{Carries, Epochs, IsAtMost, IsOwned, RegistryHolds, Stays, StaysWith, epoch_word}
 use Rattle.fish_rule.specs.Registry.{Endures, HasBoundary, IsLasting, definitions_at, epoch_at, row_at, version_in}
 use Rattle.fish_rule.specs.Rounds.{IsSince}
 use Rattle.fish_rule.specs.Views.{Has}
@@ -157,7 +157,7 @@ module _ {k : Key} {w : World} (r : Rule k w) (id : ℕ) {v : View} (at : get_el
     mover = record v { epoch = epoch'; learned = record v.learned { version = version }; clock = clock }
 
     -- the registry's part afterwards
-    pub move_registry : Registry k w.count g' state' r.version_of (set w.views id mover)
+    pub move_registry : RegistryHolds k w.count g' state' r.version_of (set w.views id mover)
     move_registry = record {
       epochs = epochs;
       versions = versions_later k w.registry g' endures w.count r.version_of still r.registry.versions;

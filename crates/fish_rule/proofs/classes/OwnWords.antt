@@ -15,11 +15,11 @@ use Rattle.fish_rule.proofs.classes.OtherViews.{limit_views, alone_kept, flight_
 use Rattle.fish_rule.proofs.classes.FactsStay.{chained_later, facts_later, finished_later, flight_later, keyed_kept}
 use Rattle.fish_rule.proofs.classes.ChainsStay.{whole_later}
 use Rattle.fish_rule.proofs.basics.Worlds.{put-else, put-here}
-use Rattle.fish_rule.specs.Parts.{Flies, InFlight, IsLinkedWord, Whole}
+use Rattle.fish_rule.specs.Parts.{Flies, InFlight, IsLinkedWord, IsWholeFlight}
 use Rattle.fish_rule.specs.Regions.{IsRecord, kind_of}
 use Rattle.fish_rule.specs.Views.{IsFlightOf, IsOver}
 use Rattle.fish_rule.specs.World.{body, put}
-use Rattle.fish_rule.specs.Epochs.{IsCarried}
+use Rattle.fish_rule.specs.Epochs.{IsFlightCarried}
 use Rattle.fish_rule.specs.Keys.{IsKeyed}
 use Rattle.fish_rule.specs.Registry.{AreActiveAt}
 use Rattle.fish_rule.specs.declared.view.Kind.TheVariants.{Stored, Void}
@@ -82,7 +82,7 @@ module _ {k : Key} {w : World} (r : Rule k w) (id : ℕ) {v : View} (at : get_el
           let s = becomes.same i ne less in
           put-else w.log own_word x (f.line * 4 + i) (λ h. ne (omega arith)) ∙ own.written i s.0 plain ∙ sym s.1
 
-      whole_still : 0 < f.linked → Whole k w.log v.lane f → Whole k written.log v.lane rewritten
+      whole_still : 0 < f.linked → IsWholeFlight k w.log v.lane f → IsWholeFlight k written.log v.lane rewritten
       whole_still some_ h =
           let e = own_stays r id at f flying o x words' clock becomes some_ in
           let l = (becomes.linking some_).1 in
@@ -112,7 +112,7 @@ module _ {k : Key} {w : World} (r : Rule k w) (id : ℕ) {v : View} (at : get_el
       (λ some_. whole_later k w.log written.log u.lane g (omega arith) same (h.whole some_))
 
   -- the record in flight keeps its version, and its keys once entries are linked
-  own_carried : IsCarried k w.registry r.version_of v.lane v.epoch rewritten
+  own_carried : IsFlightCarried k w.registry r.version_of v.lane v.epoch rewritten
   own_carried =
       let h = carried_is r id at f flying in
       record {

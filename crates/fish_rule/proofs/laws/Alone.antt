@@ -11,11 +11,11 @@ use Rattle.fish_rule.proofs.basics.Regions.{starts_rise}
 use Rattle.fish_rule.proofs.laws.Learning.{extends_look, found_here, learns_both, learns_self}
 use Rattle.fish_rule.specs.ClosedLog.{IsClosed, IsClosedAt, ReadsOn}
 use Rattle.fish_rule.specs.Logs.{AreKnown, Extends, Learns, KnowsAs, KnowsMark}
-use Rattle.fish_rule.specs.Parts.{Rests, quotas}
-use Rattle.fish_rule.specs.Facts.{Facts, IsFound, IsKnown, IsRecorded, Owns}
+use Rattle.fish_rule.specs.Parts.{RestsAt, quotas}
+use Rattle.fish_rule.specs.Facts.{Facts, IsFound, IsFactKnown, IsRecorded, Owns}
 use Rattle.fish_rule.specs.Regions.{code, kind_of}
 use Rattle.fish_rule.specs.LoadSteps.{IsAlone, after_look_at, kind_told}
-use Rattle.fish_rule.specs.Table.{Stands}
+use Rattle.fish_rule.specs.Table.{IsOfMoment}
 use Rattle.fish_rule.specs.Views.{AllOf, IsOver}
 use Rattle.fish_rule.specs.Gaps.{IsGap, IsLabel}
 use Rattle.fish_rule.specs.World.{high, low}
@@ -89,7 +89,7 @@ facts_back v u k count dir log start learns h =
       found = all_from _ v.learned.found (λ x m. all_among
           (IsFound k count dir start) x u.learned.found h.found (learns.found x m));
       known = all_from _ v.learned.known (λ x m. all_among
-          (IsKnown k count dir log start) x u.learned.known h.known (learns.known x m));
+          (IsFactKnown k count dir log start) x u.learned.known h.known (learns.known x m));
       records = all_from _ v.learned.records
           (λ x m. all_among (IsRecorded k count dir log start) x u.learned.records h.records (learns.records x m));
       gaps = all_from _ v.learned.gaps
@@ -125,7 +125,7 @@ knows_mark v f among is u learns w r j at = found_kind v f among u learns w r j 
 -- ---- the end
 
 -- a tail that rests at one place rests at the same
-rests_same : (a b c d : ℕ) (t : Option Position) → a ≡ c → b ≡ d → Rests a b t → Rests c d t
+rests_same : (a b c d : ℕ) (t : Option Position) → a ≡ c → b ≡ d → RestsAt a b t → RestsAt c d t
 rests_same a b c d None e f h = tt
 rests_same a b c d (Some t) e f h = (h.0 ∙ e, h.1 ∙ f)
 
@@ -140,9 +140,9 @@ closed_before v u remains on h =
     let owns = subst (λ (z : ℕ × List ℕ × List Own). Owns u.about w.count w.dir h.rule.lane_of z.0 z.1 z.2)
     (λ i. (lane i, out i, own i)) h.owns in
     let facts = facts_back v u u.about w.count w.dir w.log h.rule.start on.learns h.facts in
-    let here : Rests w.count w.line (Some (record { number = high x; line = low x })) =
-    subst (Rests w.count w.line) on.tail h.rests in
-    let there : Rests w.count w.line v.tail =
+    let here : RestsAt w.count w.line (Some (record { number = high x; line = low x })) =
+    subst (RestsAt w.count w.line) on.tail h.rests in
+    let there : RestsAt w.count w.line v.tail =
     rests_same (high x) (low x) w.count w.line v.tail here.0 here.1 on.rests in
     subst (λ (z : Key). IsClosedAt z (Learns v) v.lane v.out v.own v.rows v.tail v.learned remains) on.learns.about
     (record {
@@ -187,7 +187,7 @@ quotas_all q (suc l) h =
     omega arith
 
 -- while all lanes may still claim past the log's end, none has done so: no number is a mark
-pub no_mark : (v : View) (n : ℕ) → Stands v → IsAlone v → v.shut ≡ None → v.about.number ≤ n → ¬ KnowsMark v n
+pub no_mark : (v : View) (n : ℕ) → IsOfMoment v → IsAlone v → v.shut ≡ None → v.about.number ≤ n → ¬ KnowsMark v n
 no_mark v n s alone live above mark =
     let w : World = s.moment in
     let r = s.rule in

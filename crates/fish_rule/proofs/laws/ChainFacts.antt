@@ -16,7 +16,7 @@ use Rattle.fish_rule.specs.Regions.{code, kind_of}
 use Rattle.fish_rule.proofs.basics.Context.{Among, Key, Rule, View, World}
 use Rattle.fish_rule.specs.ChainFacts.{Always, IsClear, IsEntryIn, IsNodeIn}
 use Rattle.fish_rule.specs.within.ChainFacts.{IsNowhere}
-use Rattle.fish_rule.specs.Gaps.{IsEntryOf, IsGap, IsLabel}
+use Rattle.fish_rule.specs.Gaps.{IsKeyEntryOf, IsGap, IsLabel}
 use Rattle.fish_rule.specs.World.{body, low}
 use Rattle.fish_rule.specs.declared.view.Gap.{Gap}
 use Rattle.fish_rule.specs.declared.view.Kind.TheVariants.{Stored}
@@ -29,10 +29,10 @@ always_later v u P learns all x more = all x (learns_both v u x learns more)
 module _ {k : Key} {w : World} (r : Rule k w) where
   -- an entry of a published record, as the directory says where the record is, is one of the region there
   starts_there : (b n c p : ℕ) → n < w.count → IsEntryIn b n c p k w
-      → IsEntryOf k w.dir w.log (r.start n) b n c p
+      → IsKeyEntryOf k w.dir w.log (r.start n) b n c p
   starts_there b n c p below h =
       let finished = r.space.finished n h.above below (published (w.dir n) Stored h.stored) in
-      subst (λ (z : ℕ). IsEntryOf k w.dir w.log z b n c p) finished.line h
+      subst (λ (z : ℕ). IsKeyEntryOf k w.dir w.log z b n c p) finished.line h
 
   -- it is within its record's region
   pub within_region : (b n c p : ℕ) → n < w.count → IsEntryIn b n c p k w

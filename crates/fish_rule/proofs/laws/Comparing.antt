@@ -4,7 +4,7 @@ use Rattle.std.proofs.Math.Decide.{dec_lt}
 use Rattle.fish_rule.proofs.basics.Bodies.{code_once}
 use Rattle.fish_rule.proofs.basics.Regions.{starts_rise}
 use Rattle.fish_rule.proofs.basics.Lists.{all_among}
-use Rattle.fish_rule.specs.Comparing.{AreFound, OneLineIsOneClaim, OneNumberIsOneClaim, RegionsFollow}
+use Rattle.fish_rule.specs.Comparing.{AreBothFound, OneLineIsOneClaim, OneNumberIsOneClaim, RegionsFollow}
 use Rattle.fish_rule.specs.Facts.{IsFound}
 use Rattle.fish_rule.proofs.basics.Context.{Found, Key, Rule, View, World}
 use Rattle.fish_rule.specs.World.{high}
@@ -56,7 +56,7 @@ module _ {k : Key} {w : World} (r : Rule k w) where
       λ i. record { number = same i; kind = kind i; line = line i; lines = lines i }
 
 -- what two passes found is so in a moment of a pass that knows it all
-here : (v u x : View) (f g : Found) (h : AreFound v u x f g)
+here : (v u x : View) (f g : Found) (h : AreBothFound v u x f g)
     → Here h.stands.rule f × Here h.stands.rule g
 here v u x f g h =
     let w = h.stands.moment in

@@ -11,9 +11,9 @@ use Rattle.fish_layout.specs.declared.parts.BodyParts.{BodyParts}
 use Rattle.fish_catalog.specs.declared.entry.Entry.TheVariants as entry
 use Rattle.fish_rule.proofs.basics.Lists.{all_among}
 use Rattle.fish_rule.proofs.basics.FoundRegions.{lines_found, region_found, word_known}
-use Rattle.fish_rule.specs.Facts.{IsFound, IsKnown}
-use Rattle.fish_rule.specs.Regions.{Holds, IsRecord}
-use Rattle.fish_rule.specs.Table.{Stands}
+use Rattle.fish_rule.specs.Facts.{IsFound, IsFactKnown}
+use Rattle.fish_rule.specs.Regions.{HoldsRegion, IsRecord}
+use Rattle.fish_rule.specs.Table.{IsOfMoment}
 use Rattle.fish_rule.specs.World.{body}
 use Rattle.fish_rule.specs.declared.view.Kind.TheVariants.{Mark, Stored, Void}
 use Rattle.fish_value.specs.declared.field.Form.{Form}
@@ -40,7 +40,7 @@ module _ {v : View} (w : World) (r : Rule v.about w) (j : ℕ) (at : get_elem? w
   stands_there i less plain =
       let full = has.full in
       word_known r f i (get_or words i 0) found less
-      (all_among (IsKnown v.about w.count w.dir w.log r.start) _ v.learned.known (r.facts j v at).known
+      (all_among (IsFactKnown v.about w.count w.dir w.log r.start) _ v.learned.known (r.facts j v at).known
       (has.read i (omega arith) plain))
 
   -- its header is the first word that was read
@@ -62,7 +62,7 @@ module _ {v : View} (w : World) (r : Rule v.about w) (j : ℕ) (at : get_elem? w
       (subst (λ (z : ℕ). ¬ IsKeyWord (keys_of z) i) same plain)) ∙ stands_there i (omega arith) plain)
 
   -- the record there
-  holds_record : (kind : Kind) (lane n lines : ℕ) (e : ℕ → ℕ) → kind ≡ Stored → Holds kind lane n lines e
+  holds_record : (kind : Kind) (lane n lines : ℕ) (e : ℕ → ℕ) → kind ≡ Stored → HoldsRegion kind lane n lines e
       → IsRecord lane n lines e
   holds_record Stored lane n lines e q h = h
   holds_record Void lane n lines e q h = cc
@@ -124,7 +124,7 @@ knows_entry v f words among is has lane form payload lanes forms payloads u lear
     (has_later v u f words learns has) lane form payload lanes forms payloads
 
 -- the words of a record that was found are a record's
-pub found_body : (v : View) (f : Found) (words : List ℕ) → Stands v → Among f v.learned.found → f.kind ≡ Stored
+pub found_body : (v : View) (f : Found) (words : List ℕ) → IsOfMoment v → Among f v.learned.found → f.kind ≡ Stored
     → HasWords v f words → (q : BodyParts) × IsBody q words
 found_body v f words s among is has = (let q = body_there s.moment s.rule s.seat s.at f among is words has in
     (q.0, q.1))

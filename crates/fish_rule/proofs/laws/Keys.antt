@@ -3,7 +3,7 @@ use Rattle.std.proofs.Common.{ℕ, ◌≡◌, List, [], ◌∷◌, map, refl, ap
 use Rattle.fish_layout.specs.Cleared.{unlink, unlinked}
 use Rattle.fish_layout.specs.declared.parts.BodyParts.{BodyParts}
 use Rattle.fish_layout.specs.declared.parts.KeyPart.{KeyPart}
-use Rattle.fish_psf.specs.Keys.{keys_of}
+use Rattle.fish_psf.specs.Keys.{keys_for}
 use Rattle.fish_rule.specs.Keys.{HasKeys, property}
 
 -- keys are the same properties without their previous nodes
@@ -24,7 +24,7 @@ unlinked_keys {active} {p} h = record {
 -- a record of a version without active definitions has no keys
 pub no_keys : {active : ℕ → List (ℕ × List ℕ) → Type 0} (p : BodyParts) → active p.version [] → p.keys ≡ []
     → HasKeys active p
-unfolding keys_of
+unfolding keys_for
 no_keys p none is = record {
   defs = [];
   are = none;

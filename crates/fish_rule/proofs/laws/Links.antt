@@ -9,7 +9,7 @@ use Rattle.fish_rule.proofs.steps.LoadNode.{second_within}
 use Rattle.fish_rule.proofs.basics.Places.{one_chain}
 use Rattle.fish_rule.specs.ChainSteps.{CanAimEntry, HasNode, own_place}
 use Rattle.fish_layout.specs.Entry.{entry_number}
-use Rattle.fish_rule.specs.Table.{Stands}
+use Rattle.fish_rule.specs.Table.{IsOfMoment}
 use Rattle.fish_rule.proofs.basics.Context.{Among, Flight, Key, View}
 use Rattle.fish_rule.specs.Gaps.{IsLabel}
 use Rattle.fish_rule.specs.declared.view.Label.{Label}
@@ -20,12 +20,12 @@ use Rattle.fish_rule.proofs.basics.Bodies.{linked-key}
 use Rattle.fish_rule.proofs.steps.SwingHead.{own_unlinked}
 
 -- a place that a pass knows linked is of one bucket
-pub one_bucket : (v : View) (b c p : ℕ) → Stands v → HasNode v b p → HasNode v c p → b ≡ c
+pub one_bucket : (v : View) (b c p : ℕ) → IsOfMoment v → HasNode v b p → HasNode v c p → b ≡ c
 one_bucket v b c p s one two = one_chain s.rule b c p (node_linked s.rule s.seat s.at b p one)
     (node_linked s.rule s.seat s.at c p two)
 
 -- and within the log
-pub node_law : (k : Key) (v : View) (b p : ℕ) → v.about ≡ k → Stands v → HasNode v b p → (k.line * 4 ≤ p)
+pub node_law : (k : Key) (v : View) (b p : ℕ) → v.about ≡ k → IsOfMoment v → HasNode v b p → (k.line * 4 ≤ p)
     × (p < k.end * 4)
 node_law k v b p about s node =
     let h = place_within s.rule b p (node_linked s.rule s.seat s.at b p node) in
@@ -34,7 +34,7 @@ node_law k v b p about s node =
     subst (λ (z : Key). (z.line * 4 ≤ p) × (p < z.end * 4)) about (h.0, omega arith)
 
 -- and so is its second word
-pub second_law : (k : Key) (v : View) (b p : ℕ) → v.about ≡ k → Stands v → HasNode v b p
+pub second_law : (k : Key) (v : View) (b p : ℕ) → v.about ≡ k → IsOfMoment v → HasNode v b p
     → (k.line * 4 ≤ suc p) × (suc p < k.end * 4)
 second_law k v b p about s node =
     let h = second_within s.rule b p
@@ -44,7 +44,7 @@ second_law k v b p about s node =
     subst (λ (z : Key). (z.line * 4 ≤ suc p) × (suc p < z.end * 4)) about (h.0, omega arith)
 
 -- and so is the own entry that is next to be linked
-pub aim_law : (k : Key) (v : View) (f : Flight) → v.about ≡ k → Stands v → CanAimEntry v f
+pub aim_law : (k : Key) (v : View) (f : Flight) → v.about ≡ k → IsOfMoment v → CanAimEntry v f
     → (k.line * 4 ≤ own_place f) × (own_place f < k.end * 4)
 aim_law k v f about s can =
     let h = own_within s.rule s.seat s.at f can in
@@ -53,29 +53,29 @@ aim_law k v f about s can =
     subst (λ (z : Key). (z.line * 4 ≤ own_place f) × (own_place f < z.end * 4)) about (h.0, omega arith)
 
 -- the place of a linked entry is after the base's
-pub node_behind : (v : View) (b p : ℕ) → Stands v → HasNode v b p → v.about.line * 4 < p
+pub node_behind : (v : View) (b p : ℕ) → IsOfMoment v → HasNode v b p → v.about.line * 4 < p
 node_behind v b p s node = linked_from s.rule b p (node_linked s.rule s.seat s.at b p node)
 
 -- a number that a second word names is one of the table
-pub label_above : (v : View) (l : Label) → Stands v → Among l v.learned.labels → v.about.number ≤ entry_number l.word
+pub label_above : (v : View) (l : Label) → IsOfMoment v → Among l v.learned.labels → v.about.number ≤ entry_number l.word
 label_above v l s among = (all_among (IsLabel v.about s.moment.count s.moment.dir s.moment.log s.rule.start) l
     v.learned.labels (s.rule.facts s.seat v s.at).labels among).above
 
 -- the place of the entry is no linked place
-pub not_own : (v : View) (f : Flight) (b p : ℕ) → Stands v → CanAimEntry v f → HasNode v b p → p ≢ own_place f
+pub not_own : (v : View) (f : Flight) (b p : ℕ) → IsOfMoment v → CanAimEntry v f → HasNode v b p → p ≢ own_place f
 not_own v f b p s can node =
     own_unlinked s.rule s.seat s.at f can b p
     (node_linked s.rule s.seat s.at b p node)
 
 -- it is after the base's
-pub own_behind : (v : View) (f : Flight) → Stands v → CanAimEntry v f → v.about.line * 4 < own_place f
+pub own_behind : (v : View) (f : Flight) → IsOfMoment v → CanAimEntry v f → v.about.line * 4 < own_place f
 own_behind v f s can =
     let from = flight_from s.rule s.seat v s.at f can.flying in
     let is : own_place f ≡ f.line * 4 + (1 + 3 * f.linked) = refl in
     omega arith
 
 -- its first word is one of the record's words
-pub own_word : (v : View) (f : Flight) → Stands v → CanAimEntry v f → entry_at f.linked < length f.words
+pub own_word : (v : View) (f : Flight) → IsOfMoment v → CanAimEntry v f → entry_at f.linked < length f.words
 own_word v f s can =
     let room = own_room s.rule s.seat s.at f can in
     let full = can.full in

@@ -6,7 +6,7 @@ use Rattle.fish_rule.proofs.basics.Bodies.{kind-inside, code_once, kind-mark, ma
 use Rattle.fish_rule.proofs.basics.Regions.{starts_above, starts_rise}
 use Rattle.fish_rule.proofs.basics.Places.{lies_inside, record_at}
 use Rattle.fish_rule.specs.Chains.{Linked}
-use Rattle.fish_rule.specs.Parts.{IsOlder, first_head}
+use Rattle.fish_rule.specs.Parts.{IsOlderPlace, first_head}
 use Rattle.fish_rule.proofs.basics.Context.{Key, Rule, World, get_elem?, some}
 use Rattle.fish_rule.specs.World.{high}
 use Rattle.fish_rule.specs.declared.view.Kind.TheVariants.{Mark, Stored}
@@ -55,7 +55,7 @@ module _ {k : Key} {w : World} (r : Rule k w) where
           absurd (omega arith)
 
   -- so each head is none of the next table's places
-  pub next_heads : (b : ℕ) → IsOlder next_line (w.head b)
+  pub next_heads : (b : ℕ) → IsOlderPlace next_line (w.head b)
   next_heads b some_ = ⊎_elim
       (λ (e : w.head b ≡ first_head k b).
       let up = starts_above k w.count w.line r.start r.space.regions r.limit.first r.limit.above r.limit.within in
@@ -134,7 +134,7 @@ may_follow v remains c =
       line = omega arith;
       version = omega arith;
       heads = c.many_heads;
-      older = at_index (IsOlder remains.lines) remains.heads (λ some_. absurd (some_ refl))
-          (λ b x at. subst (λ (z : ℕ × ℕ). IsOlder z.0 z.1) (λ i. (sym line i, sym (c.heads b x at) i))
+      older = at_index (IsOlderPlace remains.lines) remains.heads (λ some_. absurd (some_ refl))
+          (λ b x at. subst (λ (z : ℕ × ℕ). IsOlderPlace z.0 z.1) (λ i. (sym line i, sym (c.heads b x at) i))
           (next_heads c.rule b));
     }

@@ -9,12 +9,12 @@ use Rattle.fish_catalog.specs.declared.page_start.PageStart.{PageStart}
 use Rattle.fish_rule.proofs.basics.Regions.{starts_rise}
 use Rattle.fish_rule.proofs.basics.Lists.{all_among, all_append, among_either, among_left, among_right}
 use Rattle.fish_rule.specs.ClosedLog.{PagesRise}
-use Rattle.fish_rule.specs.within.ClosedLog.{HasLine, HasMarkAt, HasStart, IsCovered, IsRead, IsReadUpTo}
+use Rattle.fish_rule.specs.within.ClosedLog.{HasLine, HasMarkAt, HasStart, IsEntryCovered, IsLogRead, IsReadUpTo}
 use Rattle.fish_layout.specs.Pages.{page_of}
 use Rattle.fish_rule.specs.Facts.{IsFound}
 use Rattle.fish_rule.specs.Logs.{Learns}
 use Rattle.fish_rule.specs.LoadSteps.{CanRaiseSettled}
-use Rattle.fish_rule.specs.Table.{Stands}
+use Rattle.fish_rule.specs.Table.{IsOfMoment}
 use Rattle.fish_rule.specs.declared.close.ReadLog.{ReadLog}
 
 -- what was found stays found
@@ -26,7 +26,7 @@ pub mark_later : (v u : View) (n line : ℕ) → Learns v u → HasMarkAt v n li
 mark_later v u n line learns h = (h.0, learns.found h.0 h.1, h.2, h.3, h.4)
 
 -- the lines of numbers that were found rise
-line_rises : (v : View) → Stands v → (m n a b : ℕ) → HasLine v m a → HasLine v n b → m ≤ n → a ≤ b
+line_rises : (v : View) → IsOfMoment v → (m n a b : ℕ) → HasLine v m a → HasLine v n b → m ≤ n → a ≤ b
 line_rises v s m n a b f g less =
     let w : World = s.moment in
     let r = s.rule in
@@ -61,8 +61,8 @@ rise_more (x ∷ xs) t h below = (
 -- ---- what was read
 
 -- it stays so
-covered_later : (v u : View) (starts : List PageStart) (n : ℕ) → Learns v u → IsCovered v starts n
-    → IsCovered u starts n
+covered_later : (v u : View) (starts : List PageStart) (n : ℕ) → Learns v u → IsEntryCovered v starts n
+    → IsEntryCovered u starts n
 covered_later v u starts n learns h = record {
   line = h.line;
   has = line_later v u n h.line learns h.has;
@@ -90,16 +90,16 @@ upto_later v u n read learns h =
 
 -- one number more is covered
 covers_more : (u : View) (base n : ℕ) (starts : List PageStart)
-    → ((m : ℕ) → base ≤ m → m < n → IsCovered u starts m) → IsCovered u starts n → (m : ℕ) → base ≤ m → m < suc n
-    → IsCovered u starts m
+    → ((m : ℕ) → base ≤ m → m < n → IsEntryCovered u starts m) → IsEntryCovered u starts n → (m : ℕ) → base ≤ m → m < suc n
+    → IsEntryCovered u starts m
 covers_more u base n starts old here m above below = pick (ℕ_discrete m n)
   where
-    pick : Dec (m ≡ n) → IsCovered u starts m
-    pick (yes e) = subst (IsCovered u starts) (sym e) here
+    pick : Dec (m ≡ n) → IsEntryCovered u starts m
+    pick (yes e) = subst (IsEntryCovered u starts) (sym e) here
     pick (no ne) = old m above (omega arith)
 
 -- one more entry
-module _ (u : View) (n line : ℕ) (old new : ReadLog) (s : Stands u) (h : IsReadUpTo u n old)
+module _ (u : View) (n line : ℕ) (old new : ReadLog) (s : IsOfMoment u) (h : IsReadUpTo u n old)
     (has : HasLine u n line) (added : new.number ≡ suc n) where
   -- in a page that has a start
   pub read_inside : new.starts ≡ old.starts → new.next_page ≡ old.next_page → page_of line < old.next_page
@@ -111,7 +111,7 @@ module _ (u : View) (n line : ℕ) (old new : ReadLog) (s : Stands u) (h : IsRea
       let rise = page_rises l.0.line line
       (line_rises u s l.0.number n l.0.line line at.2 has (omega arith)) in
       let next : suc (page_of l.0.line) ≡ old.next_page = l.2 in
-      let here : IsCovered u old.starts n = record {
+      let here : IsEntryCovered u old.starts n = record {
         line = line;
         has = has;
         start = l.0;
@@ -125,7 +125,7 @@ module _ (u : View) (n line : ℕ) (old new : ReadLog) (s : Stands u) (h : IsRea
         rise = subst PagesRise (sym starts) h.rise;
         sound = λ t m. (let x = h.sound t (subst (Among t) starts m) in
             let less = x.1 in (x.0, omega arith, x.2));
-        covers = subst (λ (z : List PageStart). (m : ℕ) → u.about.number ≤ m → m < suc n → IsCovered u z m) (sym starts)
+        covers = subst (λ (z : List PageStart). (m : ℕ) → u.about.number ≤ m → m < suc n → IsEntryCovered u z m) (sym starts)
             (covers_more u u.about.number n old.starts h.covers here);
         paged = λ t m. (let x = h.paged t (subst (Among t) starts m) in omega arith);
         last = subst (λ (z : List PageStart × ℕ). 0 < z.1 → (t : PageStart) × Among t z.0 × (suc (page_of t.line) ≡ z.1))
@@ -138,7 +138,7 @@ module _ (u : View) (n line : ℕ) (old new : ReadLog) (s : Stands u) (h : IsRea
   read_first starts page more =
       let t : PageStart = record { number = n; line = line } in
       let last : Among t (old.starts ++ t ∷ []) = among_right t old.starts (t ∷ []) (inl refl) in
-      let here : IsCovered u (old.starts ++ t ∷ []) n = record {
+      let here : IsEntryCovered u (old.starts ++ t ∷ []) n = record {
         line = line;
         has = has;
         start = t;
@@ -155,7 +155,7 @@ module _ (u : View) (n line : ℕ) (old new : ReadLog) (s : Stands u) (h : IsRea
             (λ (a : Among x old.starts). let y = h.sound x a in let less = y.1 in (y.0, omega arith, y.2))
             (λ (a : Among x (t ∷ [])). new_sound t x a refl refl)
             (among_either x old.starts (t ∷ []) (subst (Among x) starts m));
-        covers = subst (λ (z : List PageStart). (m : ℕ) → u.about.number ≤ m → m < suc n → IsCovered u z m) (sym starts)
+        covers = subst (λ (z : List PageStart). (m : ℕ) → u.about.number ≤ m → m < suc n → IsEntryCovered u z m) (sym starts)
             (covers_more u u.about.number n (old.starts ++ t ∷ []) (λ m up low. wider t m (h.covers m up low)) here);
         paged = λ x m. ⊎_elim (λ (a : Among x old.starts). let p = h.paged x a in omega arith)
             (λ (a : Among x (t ∷ [])). let p = new_page t x a in omega arith)
@@ -179,7 +179,7 @@ module _ (u : View) (n line : ℕ) (old new : ReadLog) (s : Stands u) (h : IsRea
       new_page t x (inl is) = ap (λ (z : PageStart). page_of z.line) (sym is)
       new_page t x (inr no_) = elim no_ [ ]
 
-      wider : (t : PageStart) (m : ℕ) → IsCovered u old.starts m → IsCovered u (old.starts ++ t ∷ []) m
+      wider : (t : PageStart) (m : ℕ) → IsEntryCovered u old.starts m → IsEntryCovered u (old.starts ++ t ∷ []) m
       wider t m c = record {
         line = c.line;
         has = c.has;
@@ -190,7 +190,7 @@ module _ (u : View) (n line : ℕ) (old new : ReadLog) (s : Stands u) (h : IsRea
       }
 
 -- of a log whose number was read, and its start
-pub read_more : (u : View) (n line : ℕ) (old new : ReadLog) → Stands u → IsReadUpTo u n old
+pub read_more : (u : View) (n line : ℕ) (old new : ReadLog) → IsOfMoment u → IsReadUpTo u n old
     → HasLine u n line → HasStart old n line new → IsReadUpTo u (suc n) new
 read_more u n line old new s h has start = pick (dec_lt (page_of line) old.next_page)
   where
@@ -210,8 +210,8 @@ settles_read v n read within h = record {
 }
 
 -- all of it stays read
-pub read_later : (v u : View) (end line : ℕ) (read : ReadLog) → Learns v u → IsRead v end line read
-    → IsRead u end line read
+pub read_later : (v u : View) (end line : ℕ) (read : ReadLog) → Learns v u → IsLogRead v end line read
+    → IsLogRead u end line read
 read_later v u end line read learns h = record {
   number = h.number;
   upto = upto_later v u h.number read learns h.upto;

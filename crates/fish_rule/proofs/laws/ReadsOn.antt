@@ -6,12 +6,12 @@ use Rattle.fish_rule.proofs.laws.Clocks.{later_ticked}
 use Rattle.fish_rule.proofs.laws.Alone.{each_more}
 use Rattle.fish_rule.proofs.laws.Learning.{learns_both, learns_self, learns_end}
 use Rattle.fish_rule.specs.ClosedLog.{ReadsOn, StaysOpen}
-use Rattle.fish_rule.specs.within.ClosedLog.{AreHeads, HasHead, IsAdded, IsReadUpTo}
+use Rattle.fish_rule.specs.within.ClosedLog.{AreSettledHeads, HasHead, IsEntryAdded, IsReadUpTo}
 use Rattle.fish_rule.specs.RegistrySteps.{after_load_version}
 use Rattle.fish_rule.specs.Epochs.{confirmed}
 use Rattle.fish_rule.specs.ChainSteps.{after_load_head}
 use Rattle.fish_rule.specs.Logs.{Extends, Learns}
-use Rattle.fish_rule.specs.Parts.{Rests, first_head}
+use Rattle.fish_rule.specs.Parts.{RestsAt, first_head}
 use Rattle.fish_rule.specs.LoadSteps.{after_load_tail, after_raise_settled}
 use Rattle.fish_rule.specs.SpaceSteps.{noted}
 use Rattle.fish_rule.specs.World.{high, low}
@@ -64,7 +64,7 @@ pub lines_else : (v : View) (n lines : ℕ) (read : ReadLog) → IsReadUpTo v n 
 lines_else v n lines read h = assumption h
 
 -- the log goes on
-pub goes_on : (v : View) (n lines : ℕ) (read : ReadLog) (goes : Bool) → goes ≡ true → IsAdded v n goes lines read
+pub goes_on : (v : View) (n lines : ℕ) (read : ReadLog) (goes : Bool) → goes ≡ true → IsEntryAdded v n goes lines read
     → IsReadUpTo v (suc n) read × (read.lines ≡ lines)
 goes_on v n lines read true e h = h
 goes_on v n lines read false e h = cc
@@ -79,7 +79,7 @@ to_version v u y e more = subst (Learns v) (sym e) (learns_version v y more)
 
 -- it reads on from where it loaded the tail, and changes in nothing else
 pub stays_open : (v t u : View) (x : ℕ) → t ≡ after_load_tail v x → v.learned.count ≤ high x
-    → Rests (high x) (low x) v.tail → Extends t u → StaysOpen v u
+    → RestsAt (high x) (low x) v.tail → Extends t u → StaysOpen v u
 stays_open v t u x e more rests ext =
     let learned = subst (Learns v) (sym e) (learns_end v x more) in
     let from : u ≡ record v {
@@ -140,7 +140,7 @@ reads_version v u w y on e more =
     }
 
 -- heads stay known
-pub heads_later : (v u : View) (settled buckets : ℕ) (heads : List ℕ) → Learns v u → AreHeads v settled buckets heads
-    → AreHeads u settled buckets heads
+pub heads_later : (v u : View) (settled buckets : ℕ) (heads : List ℕ) → Learns v u → AreSettledHeads v settled buckets heads
+    → AreSettledHeads u settled buckets heads
 heads_later v u settled buckets heads learns h =
     record { many = h.many; each = λ b x at. head_later v u settled b x learns (h.each b x at) }

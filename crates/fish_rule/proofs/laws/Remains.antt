@@ -12,14 +12,14 @@ use Rattle.fish_rule.proofs.laws.LogWords.{entries_length, entries_log}
 use Rattle.fish_rule.proofs.basics.Places.{IsFlier, RecordAt, lies_inside, record_at}
 use Rattle.fish_rule.specs.Chains.{Linked}
 use Rattle.fish_rule.specs.ClosedLog.{IsClosed}
-use Rattle.fish_rule.specs.within.ClosedLog.{HasHead, HasLine, HasMarkAt, IsRead, IsReadUpTo, IsWhole}
+use Rattle.fish_rule.specs.within.ClosedLog.{HasHead, HasLine, HasMarkAt, IsLogRead, IsReadUpTo, IsWholeLog}
 use Rattle.fish_rule.specs.Facts.{IsFound}
 use Rattle.fish_rule.specs.Logs.{IsLog}
 use Rattle.fish_rule.specs.LogWords.{entries_in}
-use Rattle.fish_rule.specs.Parts.{Flies, InFlight, IsEntryWord, Rests, first_head}
+use Rattle.fish_rule.specs.Parts.{Flies, InFlight, IsEntryWord, RestsAt, first_head}
 use Rattle.fish_rule.specs.LoadSteps.{IsAlone}
 use Rattle.fish_rule.specs.Regions.{code}
-use Rattle.fish_rule.specs.Table.{Stands}
+use Rattle.fish_rule.specs.Table.{IsOfMoment}
 use Rattle.fish_rule.specs.Gaps.{IsGap}
 use Rattle.fish_rule.specs.World.{body, high}
 use Rattle.fish_rule.specs.declared.close.ReadLog.{ReadLog}
@@ -27,7 +27,7 @@ use Rattle.fish_rule.specs.declared.close.WholeLog.{WholeLog}
 use Rattle.fish_rule.specs.declared.view.Kind.TheVariants.{Mark, Stored}
 use Rattle.fish_rule.specs.declared.view.Position.{Position}
 
-module _ (v : View) (s : Stands v) (alone : IsAlone v) where
+module _ (v : View) (s : IsOfMoment v) (alone : IsAlone v) where
   -- nothing is in flight
   none_flies : (n c : ℕ) → ¬ IsFlier s.moment n c
   none_flies n c f =
@@ -105,7 +105,7 @@ module _ (v : View) (s : Stands v) (alone : IsAlone v) where
 
 -- ---- lines
 
-module _ (v : View) (s : Stands v) where
+module _ (v : View) (s : IsOfMoment v) where
   -- what was found is so
   found_at : (f : Found) → Among f v.learned.found → IsFound v.about s.moment.count s.moment.dir s.rule.start f
   found_at f m = all_among (IsFound v.about s.moment.count s.moment.dir s.rule.start) f v.learned.found
@@ -125,7 +125,7 @@ module _ (v : View) (s : Stands v) where
 -- ---- all of it
 
 -- the numbers that were read each have an entry
-pub entry_words : (v : View) (s : Stands v) (n : ℕ) (read : ReadLog) → IsReadUpTo v n read → (m : ℕ)
+pub entry_words : (v : View) (s : IsOfMoment v) (n : ℕ) (read : ReadLog) → IsReadUpTo v n read → (m : ℕ)
     → v.about.number ≤ m → m < n → IsEntryWord (s.moment.dir m)
 entry_words v s n read h m above below =
     let c = (h.covers m above below).has in
@@ -137,16 +137,16 @@ entry_words v s n read h m above below =
     }
 
 -- where all was read, the entries that the words spell are the log
-pub closes_log : (v : View) (tail : Position) (read : ReadLog) (s : Stands v) → IsAlone v → v.tail ≡ Some tail
-    → IsRead v tail.number tail.line read
+pub closes_log : (v : View) (tail : Position) (read : ReadLog) (s : IsOfMoment v) → IsAlone v → v.tail ≡ Some tail
+    → IsLogRead v tail.number tail.line read
     → IsLog v.about s.moment (entries_in s.moment.dir s.moment.log v.about.number (read.number - v.about.number))
 closes_log v tail read s alone is_tail h =
     let w : World = s.moment in
     let upto = h.upto in
     let from = upto.from in
     let many = upto.many in
-    let rests : Rests w.count w.line (Some tail) =
-    subst (Rests w.count w.line) is_tail (s.rule.tails s.seat v s.at alone.control alone.all) in
+    let rests : RestsAt w.count w.line (Some tail) =
+    subst (RestsAt w.count w.line) is_tail (s.rule.tails s.seat v s.at alone.control alone.all) in
     let count : tail.number ≡ w.count = rests.0 in
     let end : v.about.number + (read.number - v.about.number) ≡ h.number = omega arith in
     entries_log s.rule (read.number - v.about.number)
@@ -158,8 +158,8 @@ closes_log v tail read s alone is_tail h =
     inr (ap (λ (z : ℕ). high (w.dir z)) end ∙ (mark_at v s h.number read.lines m.1).1)) h.ends)
 
 -- what was read is what is left of the log
-pub closes : (v : View) (whole : WholeLog) (base : ℕ) (entries : List Entry) (s : Stands v)
-    → IsAlone v → IsWhole v whole → base ≡ v.about.number
+pub closes : (v : View) (whole : WholeLog) (base : ℕ) (entries : List Entry) (s : IsOfMoment v)
+    → IsAlone v → IsWholeLog v whole → base ≡ v.about.number
     → entries ≡ entries_in s.moment.dir s.moment.log v.about.number (whole.read.number - v.about.number)
     → IsClosed v (record {
       opened = true;
@@ -180,8 +180,8 @@ closes v whole base entries s alone all base_is entries_are =
     let from = upto.from in
     let many = upto.many in
     let far = all.far in
-    let rests : Rests w.count w.line (Some tail) =
-    subst (Rests w.count w.line) all.rests (r.tails s.seat v s.at alone.control alone.all) in
+    let rests : RestsAt w.count w.line (Some tail) =
+    subst (RestsAt w.count w.line) all.rests (r.tails s.seat v s.at alone.control alone.all) in
     let count : tail.number ≡ w.count = rests.0 in
     let line : tail.line ≡ w.line = rests.1 in
     let log : IsLog v.about w entries =

@@ -6,10 +6,10 @@ use Rattle.fish_rule.proofs.basics.Lists.{all_among}
 use Rattle.fish_layout.specs.Header.{lines_of}
 use Rattle.fish_rule.proofs.basics.FoundRegions.{head_known, lines_found, region_found}
 use Rattle.fish_rule.proofs.basics.Flights.{flight_is}
-use Rattle.fish_rule.specs.Parts.{Fits}
-use Rattle.fish_rule.specs.Facts.{IsFound, IsKnown}
+use Rattle.fish_rule.specs.Parts.{FitsTable}
+use Rattle.fish_rule.specs.Facts.{IsFound, IsFactKnown}
 use Rattle.fish_rule.specs.LoadSteps.{CanLookAt, CanReadWord}
-use Rattle.fish_rule.specs.Table.{Stands}
+use Rattle.fish_rule.specs.Table.{IsOfMoment}
 use Rattle.fish_rule.proofs.basics.Context.{Among, Flight, Found, Key, View, World}
 use Rattle.fish_rule.specs.World.{slots}
 use Rattle.fish_rule.specs.declared.view.Kind.TheVariants.{Mark}
@@ -25,7 +25,7 @@ pub record FlightLaw (k : Key) (f : Flight) : Type 0 where
   pub low_line : f.line + f.lines < 68719476736
 
 -- it is within the table
-pub flight_law : (k : Key) (v : View) (f : Flight) → v.about ≡ k → Stands v → v.flight ≡ Some f → FlightLaw k f
+pub flight_law : (k : Key) (v : View) (f : Flight) → v.about ≡ k → IsOfMoment v → v.flight ≡ Some f → FlightLaw k f
 flight_law key v f about s is =
     let k : Key = v.about in
     let w : World = s.moment in
@@ -53,7 +53,7 @@ flight_law key v f about s is =
     })
 
 -- the number that a pass may look at has a directory word
-pub look_law : (k : Key) (v : View) (n : ℕ) → v.about ≡ k → Stands v → CanLookAt v n → (k.number ≤ n)
+pub look_law : (k : Key) (v : View) (n : ℕ) → v.about ≡ k → IsOfMoment v → CanLookAt v n → (k.number ≤ n)
     × (n - k.number < slots k) × (n < 268435456)
 look_law k v n about s can =
     let w : World = s.moment in
@@ -67,7 +67,7 @@ look_law k v n about s can =
     (above, omega arith, omega arith)
 
 -- the word that a pass may read is within the log
-pub read_law : (k : Key) (v : View) (f : Found) (i : ℕ) → v.about ≡ k → Stands v → CanReadWord v f i
+pub read_law : (k : Key) (v : View) (f : Found) (i : ℕ) → v.about ≡ k → IsOfMoment v → CanReadWord v f i
     → (k.line ≤ f.line) × (f.line + f.lines ≤ k.end) × (i < f.lines * 4)
 read_law key v f i about s can =
     let k : Key = v.about in
@@ -84,11 +84,11 @@ read_law key v f i about s can =
     (omega arith, omega arith, can.inside)
 
 -- the key of a table that a view stands in
-pub fits_law : (v : View) → Stands v → Fits v.about
+pub fits_law : (v : View) → IsOfMoment v → FitsTable v.about
 fits_law v s = s.rule.key_fits
 
 -- the header of a region that was found tells its lines
-pub header_law : (v : View) (f : Found) (h : ℕ) → Stands v → Among f v.learned.found → f.kind ≢ Mark
+pub header_law : (v : View) (f : Found) (h : ℕ) → IsOfMoment v → Among f v.learned.found → f.kind ≢ Mark
     → Among (record { place = f.line * 4; value = h }) v.learned.known → lines_of h ≡ f.lines
 header_law v f h s among words read =
     let k : Key = v.about in
@@ -97,11 +97,11 @@ header_law v f h s among words read =
     let facts = r.facts s.seat v s.at in
     let found = all_among (IsFound k w.count w.dir r.start) f v.learned.found facts.found among in
     let head = head_known r f h found
-    (all_among (IsKnown k w.count w.dir w.log r.start) _ v.learned.known facts.known read) in
+    (all_among (IsFactKnown k w.count w.dir w.log r.start) _ v.learned.known facts.known read) in
     ap lines_of (sym head) ∙ lines_found r f found words
 
 -- a region that was found has a line
-pub found_law : (v : View) (f : Found) → Stands v → Among f v.learned.found → 1 ≤ f.lines
+pub found_law : (v : View) (f : Found) → IsOfMoment v → Among f v.learned.found → 1 ≤ f.lines
 found_law v f s among =
     let w : World = s.moment in
     let r = s.rule in
@@ -113,7 +113,7 @@ found_law v f s among =
     omega arith
 
 -- the count that a pass loaded has 28 bits
-pub count_law : (v : View) → Stands v → v.learned.count < 268435456
+pub count_law : (v : View) → IsOfMoment v → v.learned.count < 268435456
 count_law v s =
     let w : World = s.moment in
     let r = s.rule in
@@ -122,7 +122,7 @@ count_law v s =
     omega arith
 
 -- and so is a count
-pub counted_law : (v : View) → Stands v → v.learned.count ≤ 268435455
+pub counted_law : (v : View) → IsOfMoment v → v.learned.count ≤ 268435455
 counted_law v s =
     let counted = (s.rule.facts s.seat v s.at).counted in
     let numbers = few_numbers s.rule in

@@ -11,7 +11,7 @@ use Rattle.fish_rule.specs.Registry.{KnowsDefinitions, KnowsRow, definitions_at,
 use Rattle.fish_rule.proofs.basics.RegistryWords.{length_grows}
 use Rattle.fish_catalog.specs.Listing.{IsListing}
 use Rattle.fish_catalog.specs.declared.listed.Listed.{Listed}
-use Rattle.fish_rule.specs.Table.{Stands}
+use Rattle.fish_rule.specs.Table.{IsOfMoment}
 use Rattle.fish_rule.specs.World.{heads_at}
 use Rattle.fish_rule.proofs.basics.Context.{Key, View}
 use Rattle.fish_rule.proofs.basics.Regions.{few_numbers}
@@ -20,39 +20,39 @@ use Rattle.fish_rule.specs.declared.view.Epoch.TheVariants.{Confirmed}
 use Rattle.fish_rule.specs.declared.view.Round.{Round}
 
 -- a word that may be loaded is one of the registry's
-pub registry_law : (k : Key) (v : View) (p : ℕ) → v.about ≡ k → Stands v → CanLoadRegistry v p
+pub registry_law : (k : Key) (v : View) (p : ℕ) → v.about ≡ k → IsOfMoment v → CanLoadRegistry v p
     → (2 ≤ p) × (p < heads_at)
 registry_law k v p about s can = lasting_within s.rule p (lasts_there s.rule s.seat s.at refl p can)
 
 -- and so is one that may be stored
-pub define_law : (k : Key) (v : View) (p x : ℕ) → v.about ≡ k → Stands v → CanDefineWord v p x
+pub define_law : (k : Key) (v : View) (p x : ℕ) → v.about ≡ k → IsOfMoment v → CanDefineWord v p x
     → (2 ≤ p) × (p < heads_at)
 define_law k v p x about s can = unmade_within v.about s.moment p
     (unmade_here s.rule s.seat s.at can.control p x can)
 
 -- nor is the last one that it knows of before that with which the table begins
-pub version_from : (k : Key) (v : View) → v.about ≡ k → 1 ≤ v.lane → Stands v → k.version ≤ v.learned.version
+pub version_from : (k : Key) (v : View) → v.about ≡ k → 1 ≤ v.lane → IsOfMoment v → k.version ≤ v.learned.version
 version_from k v about live s = subst (λ (z : Key). z.version ≤ v.learned.version) about
     ((s.rule.registry.each s.seat v s.at).from live)
 
 -- nor is the one at which it is entered
-pub entered_from : (k : Key) (v : View) (version : ℕ) → v.about ≡ k → Stands v → v.epoch ≡ Confirmed version
+pub entered_from : (k : Key) (v : View) (version : ℕ) → v.about ≡ k → IsOfMoment v → v.epoch ≡ Confirmed version
     → k.version ≤ version
 entered_from k v version about s entered = subst (λ (z : Key). z.version ≤ version) about
     (subst (IsSince v.about.version) entered (s.rule.registry.each s.seat v s.at).since)
 
 -- no pass has a lane above 16
-pub lane_law : (v : View) → Stands v → v.lane ≤ 16
+pub lane_law : (v : View) → IsOfMoment v → v.lane ≤ 16
 lane_law v s = s.rule.seats.few s.seat v s.at
 
 -- the definitions that the control pass knows are a listing
-pub control_law : (v : View) → Stands v → v.lane ≡ 1 → IsListing v.rows
+pub control_law : (v : View) → IsOfMoment v → v.lane ≡ 1 → IsListing v.rows
 control_law v s control =
     subst IsListing ((s.rule.registry.each s.seat v s.at).control control).definitions
     (s.rule.registry.versions.listings (version_in s.moment.registry) (omega arith))
 
 -- a row that is not made has no boundary, as the control pass knows
-pub unset_law : (v : View) → Stands v → v.lane ≡ 1 → (id i : ℕ) → length v.rows ≤ id → id < 256 → i < 2
+pub unset_law : (v : View) → IsOfMoment v → v.lane ≡ 1 → (id i : ℕ) → length v.rows ≤ id → id < 256 → i < 2
     → control_word v.control_words (row_at id i) ≡ 0
 unset_law v s control id i more few bound =
     let its = (s.rule.registry.each s.seat v s.at).control control in
@@ -62,7 +62,7 @@ unset_law v s control id i more few bound =
     ∙ s.rule.registry.boundaries.unmade id i (omega arith) few bound
 
 -- a row that is known is one of 256
-pub row_law : (v : View) (id : ℕ) → Stands v → KnowsRow v.about v.learned id → id < 256
+pub row_law : (v : View) (id : ℕ) → IsOfMoment v → KnowsRow v.about v.learned id → id < 256
 row_law v id s h =
     let w = s.moment in
     let stays = s.rule.registry.each s.seat v s.at in
@@ -74,7 +74,7 @@ row_law v id s h =
     omega arith
 
 -- definitions that are known are a listing
-pub listing_law : (v : View) (u : ℕ) (ls : List Listed) → Stands v
+pub listing_law : (v : View) (u : ℕ) (ls : List Listed) → IsOfMoment v
     → KnowsDefinitions v.about v.learned u ls → IsListing ls
 listing_law v u ls s h =
     let w = s.moment in
@@ -85,7 +85,7 @@ listing_law v u ls s h =
     (s.rule.registry.versions.listings u (omega arith))
 
 -- where the definitions of two versions are known, those of the older are among the others, in their places, with their texts
-pub texts_law : (v : View) (older newer : ℕ) (ls ms : List Listed) → Stands v → older ≤ newer
+pub texts_law : (v : View) (older newer : ℕ) (ls ms : List Listed) → IsOfMoment v → older ≤ newer
     → KnowsDefinitions v.about v.learned older ls → KnowsDefinitions v.about v.learned newer ms
     → (id : ℕ) (l : Listed) → slice_get ls id ≡ Some l → (m : Listed) × (slice_get ms id ≡ Some m) × (m.def ≡ l.def)
 texts_law v older newer ls ms s le known more id l there =
@@ -97,13 +97,13 @@ texts_law v older newer ls ms s le known more id l there =
     (found.0, ap (λ (z : List Listed). slice_get z id) (sym (more.are g read)) ∙ found.1, found.2)
 
 -- a registration that waits is of one of 256 rows
-pub round_law : (v : View) (o : Round) → Stands v → v.round ≡ Some o → o.id < 256
+pub round_law : (v : View) (o : Round) → IsOfMoment v → v.round ≡ Some o → o.id < 256
 round_law v o s waits =
     (subst (Waits v.about s.moment.count s.moment.registry s.rule.state s.rule.version_of v.lane) waits
     (s.rule.registry.each s.seat v s.at).waits).few
 
 -- where its index begins is a number
-pub bound_law : (v : View) (o : Round) (n : ℕ) → Stands v → v.round ≡ Some o → o.bound ≡ Some n → n ≤ 268435455
+pub bound_law : (v : View) (o : Round) (n : ℕ) → IsOfMoment v → v.round ≡ Some o → o.bound ≡ Some n → n ≤ 268435455
 bound_law v o n s waits bound =
     let round = subst (Waits v.about s.moment.count s.moment.registry s.rule.state s.rule.version_of v.lane) waits
     (s.rule.registry.each s.seat v s.at).waits in

@@ -21,7 +21,7 @@ use Rattle.fish_layout.proofs.Clearing.{cleared_head, cleared_same}
 use Rattle.fish_rule.specs.Told.{told_aim_entry}
 use Rattle.fish_rule.specs.Parts.{InFlight}
 use Rattle.fish_rule.specs.SpaceSteps.{ticked}
-use Rattle.fish_rule.specs.Table.{Ruled, Sat, Stands}
+use Rattle.fish_rule.specs.Table.{Ruled, Sat, IsOfMoment}
 use Rattle.fish_rule.specs.World.{body, log_at, log_size, put, world}
 use Rattle.fish_rule.specs.declared.view.Kind.TheVariants.{Mark, Stored, Void}
 use Rattle.fish_rule.specs.Flying.{region_in}
@@ -142,7 +142,7 @@ aim_entry_allowed given k same size id me f i x about can is =
           record {
             view = ap (λ (z : Flight). after_aim_entry me.0 z x) e;
             held = refl;
-            stands = subst (λ (z : Flight). Stands (after_aim_entry me.0 z x)) e
+            stands = subst (λ (z : Flight). IsOfMoment (after_aim_entry me.0 z x)) e
                 (stands k _ id v' kept about (there vs id me.0 v' at));
           },
     ))

@@ -15,11 +15,11 @@ use Rattle.fish_rule.proofs.classes.OpensStay.{opens_later}
 use Rattle.fish_rule.specs.Facts.{Facts, IsStoredBy}
 use Rattle.fish_rule.specs.SpaceSteps.{CanClaimLines, after_claim_lines}
 use Rattle.fish_rule.specs.World.{high, low, slots, world}
-use Rattle.fish_rule.specs.Epochs.{Registry}
+use Rattle.fish_rule.specs.Epochs.{RegistryHolds}
 use Rattle.fish_rule.specs.declared.view.Epoch.TheVariants.{Confirmed}
 use Rattle.atomic_table.specs.Table.{Allows, step}
 use Rattle.fish_rule.proofs.basics.Regions.{few_lines, few_numbers, few_slots}
-use Rattle.fish_rule.specs.Table.{Ruled, Sat, Stands}
+use Rattle.fish_rule.specs.Table.{Ruled, Sat, IsOfMoment}
 use Rattle.fish_rule.specs.Told.{ToldClaimLines}
 use Rattle.fish_rule.proofs.classes.Allowed.{allowed, stands, there}
 use Rattle.fish_rule.proofs.steps.ClaimSpace.{claim_final, claim_limit, claim_space, lane_of', none_linked, start'}
@@ -53,7 +53,7 @@ module _ {k : Key} {w : World} (r : Rule k w) (id : ℕ) {v : View} (at : get_el
   stored_old l n h = keyed_old r id at can n h.stored
 
   -- the registry's part afterwards
-  registry : Registry k (suc w.count) w.registry r.state (version_of' r id at can) (set w.views id claimer)
+  registry : RegistryHolds k (suc w.count) w.registry r.state (version_of' r id at can) (set w.views id claimer)
   registry = record {
     epochs = r.registry.epochs;
     versions = versions r id at can;
@@ -158,7 +158,7 @@ claim_lines_allowed given k same size id me x m about can some_lines few is =
         told = record {
           view = ap (λ (z : ℕ). after_claim_lines me.0 z w.count w.line) (sym lines);
           held = refl;
-          stands = subst (λ (z : ℕ). Stands (after_claim_lines me.0 z w.count w.line)) (sym lines)
+          stands = subst (λ (z : ℕ). IsOfMoment (after_claim_lines me.0 z w.count w.line)) (sym lines)
               (stands k _ id v' kept about (there vs id me.0 v' at));
         };
         counted = (r.facts id me.0 at).counted;

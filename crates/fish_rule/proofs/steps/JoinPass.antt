@@ -12,13 +12,13 @@ use Rattle.fish_rule.proofs.classes.ChainsStay.{chains_views, linking_from, link
 use Rattle.fish_rule.proofs.classes.FactsStay.{chained_later}
 use Rattle.fish_rule.specs.Chains.{Chained, IsLinking, LinksAt}
 use Rattle.fish_rule.specs.Parts.{MayOverflow}
-use Rattle.fish_rule.specs.Facts.{AreOpens, Facts, IsFound, IsKnown, IsRecorded, Owns}
+use Rattle.fish_rule.specs.Facts.{AreOpens, Facts, IsFound, IsFactKnown, IsRecorded, Owns}
 use Rattle.fish_rule.specs.SeatSteps.{CanJoinPass, join_both, spent, without}
 use Rattle.fish_rule.specs.Views.{Each, Has}
 use Rattle.fish_rule.specs.Gaps.{IsGap, IsLabel}
 use Rattle.fish_rule.proofs.basics.RegistryWords.{endures_same}
 use Rattle.fish_rule.specs.Boundaries.{IsUnended}
-use Rattle.fish_rule.specs.Epochs.{Registry, Stays}
+use Rattle.fish_rule.specs.Epochs.{RegistryHolds, Stays}
 use Rattle.fish_rule.specs.Registry.{IsRegistered}
 use Rattle.fish_rule.specs.declared.view.Epoch.TheVariants.{Out}
 use Rattle.atomic_table.specs.Table.{Joins}
@@ -104,7 +104,7 @@ module _ {k : Key} {w : World} (r : Rule k w) (id other : ℕ) {v u : View} (at 
       record {
         counted = (let x = a.counted in let y = b.counted in omega arith);
         found = all_append (IsFound k w.count w.dir r.start) v.learned.found u.learned.found a.found b.found;
-        known = all_append (IsKnown k w.count w.dir w.log r.start) v.learned.known u.learned.known a.known b.known;
+        known = all_append (IsFactKnown k w.count w.dir w.log r.start) v.learned.known u.learned.known a.known b.known;
         records = all_append
             (IsRecorded k w.count w.dir w.log r.start) v.learned.records u.learned.records a.records b.records;
         gaps = all_append (IsGap k w.count w.dir w.log r.start) v.learned.gaps u.learned.gaps a.gaps b.gaps;
@@ -176,7 +176,7 @@ module _ {k : Key} {w : World} (r : Rule k w) (id other : ℕ) {v u : View} (at 
       }
 
   -- the registry's part afterwards
-  join_registry : Registry k w.count w.registry r.state r.version_of (set taken other spent)
+  join_registry : RegistryHolds k w.count w.registry r.state r.version_of (set taken other spent)
   join_registry = record {
     epochs = r.registry.epochs;
     versions = r.registry.versions;

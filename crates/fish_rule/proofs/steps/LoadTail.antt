@@ -2,7 +2,7 @@
 use Rattle.std.proofs.Common.{◌≡◌, ℕ, ◌≤◌, [], set, sym, refl, subst, arith, get_or}
 use Rattle.fish_rule.proofs.basics.Context.{Key, Rule, View, World, get_elem?, none, some}
 use Rattle.fish_rule.proofs.basics.Lasts.{Lasts}
-use Rattle.fish_rule.specs.Parts.{Rests}
+use Rattle.fish_rule.specs.Parts.{RestsAt}
 use Rattle.fish_rule.proofs.classes.OpensStay.{opens_begin}
 use Rattle.fish_rule.specs.LoadSteps.{after_load_tail}
 use Rattle.fish_rule.specs.World.{high, low, world}
@@ -35,8 +35,8 @@ module _ {k : Key} {w : World} (r : Rule k w) (id : ℕ) {v : View} (at : get_el
   end_settled x count = (let a = r.floors id v at in let b = r.settling.within in omega arith)
 
   -- while no lane is out, the tail is as it was left
-  pub end_rests : (x : ℕ) → high x ≡ w.count → low x ≡ w.line → v.lane ≡ 1 → v.out ≡ [] → Rests (high x) (low x) v.tail
-  end_rests x count line control all = subst (λ (z : ℕ × ℕ). Rests z.0 z.1 v.tail)
+  pub end_rests : (x : ℕ) → high x ≡ w.count → low x ≡ w.line → v.lane ≡ 1 → v.out ≡ [] → RestsAt (high x) (low x) v.tail
+  end_rests x count line control all = subst (λ (z : ℕ × ℕ). RestsAt z.0 z.1 v.tail)
       (λ d. (sym count d, sym line d)) (r.tails id v at control all)
 
 -- a load of the tail

@@ -13,17 +13,17 @@ use Rattle.fish_rule.proofs.basics.Worlds.{area-behind, area-in}
 use Rattle.std.proofs.lemmas.List.{get_or_past}
 use Rattle.fish_rule.specs.Chains.{Chained, IsLinking, IsStoredAt, Linked, LinksAt}
 use Rattle.fish_rule.specs.declared.view.Kind.TheVariants.{Stored}
-use Rattle.fish_rule.specs.Parts.{Fits, Flies, Limit, Regions, Rests, Space, first_head, quotas}
+use Rattle.fish_rule.specs.Parts.{FitsTable, Flies, Limit, Regions, RestsAt, Space, first_head, quotas}
 use Rattle.fish_rule.specs.Facts.{AreOpens, Facts, Owns, ShutOk}
 use Rattle.fish_rule.specs.Start.{IsOpening, empty_world}
 use Rattle.fish_rule.specs.within.Start.{IsEmpty}
-use Rattle.fish_rule.specs.Table.{Ruled, Stands, first_view}
+use Rattle.fish_rule.specs.Table.{Ruled, IsOfMoment, first_view}
 use Rattle.fish_rule.specs.Views.{AllOf, Each}
 use Rattle.fish_rule.specs.World.{area, dir_at, heads_at, high, log_at, log_size, low, registry_size, slots}
 use Rattle.fish_rule.specs.World.{world}
 use Rattle.fish_catalog.proofs.Listings.{listing_of_catalog}
 use Rattle.fish_catalog.specs.Listing.{IsListing}
-use Rattle.fish_rule.specs.Epochs.{Carries, Registry, Stays, Versions}
+use Rattle.fish_rule.specs.Epochs.{Carries, RegistryHolds, Stays, Versions}
 use Rattle.fish_rule.specs.declared.view.Epoch.TheVariants.{Out}
 
 -- where all words from an index on are 0, so is an area of them
@@ -47,7 +47,7 @@ at_one v u (suc j) at = absurd (some-ne-none u (sym at))
 each_one : (P : View → Type 0) (v : View) → P v → Each P (v ∷ [])
 each_one P v here j u at = subst P (at_one v u j at).1 here
 
-module _ (k : Key) (ws : List ℕ) (fits : Fits k) (empty : IsEmpty k ws) where
+module _ (k : Key) (ws : List ℕ) (fits : FitsTable k) (empty : IsEmpty k ws) where
   -- the tail as its two parts
   packed : slice_index ws 0 ≡ k.line + k.number * 68719476736
   packed = (let e : k.number * 68719476736 + k.line ≡ k.line + k.number * 68719476736 = omega arith in empty.tail ∙ e)
@@ -96,7 +96,7 @@ module _ (k : Key) (ws : List ℕ) (fits : Fits k) (empty : IsEmpty k ws) where
     views = first_view k ∷ [];
   }
 
-module _ (k : Key) (g : ℕ → ℕ) (fits : Fits k) (opening_ : IsOpening k.version k.number k.rows.value g) where
+module _ (k : Key) (g : ℕ → ℕ) (fits : FitsTable k) (opening_ : IsOpening k.version k.number k.rows.value g) where
   -- the world at the start
   abbrev w : World
   w = empty_world k g
@@ -184,7 +184,7 @@ module _ (k : Key) (g : ℕ → ℕ) (fits : Fits k) (opening_ : IsOpening k.ver
   }
 
   -- the registry's part
-  registry : Registry k k.number g state version_of w.views
+  registry : RegistryHolds k k.number g state version_of w.views
   registry = record {
     epochs = record { words = λ l above below. opening_.out l above below; past = λ l above below. tt };
     versions = versions;
@@ -217,7 +217,7 @@ module _ (k : Key) (g : ℕ → ℕ) (fits : Fits k) (opening_ : IsOpening k.ver
       apart = λ i j v u l at_i at_j _ _. (at_one (first_view k) v i at_i).0 ∙ sym (at_one (first_view k) u j at_j).0;
       few = each_one (λ v. v.lane ≤ 16) (first_view k) (omega arith);
     };
-    tails = each_one (λ v. v.lane ≡ 1 → v.out ≡ [] → Rests w.count w.line v.tail) (first_view k) (λ _ _. (refl, refl));
+    tails = each_one (λ v. v.lane ≡ 1 → v.out ≡ [] → RestsAt w.count w.line v.tail) (first_view k) (λ _ _. (refl, refl));
     space = space;
     limit = limit;
     settling = record { from = omega arith; within = omega arith; below = λ n above below. absurd (omega arith) };
@@ -250,7 +250,7 @@ module _ (k : Key) (g : ℕ → ℕ) (fits : Fits k) (opening_ : IsOpening k.ver
   }
 
 -- the table of an empty log meets the rule
-pub begins : (k : Key) → Fits k → (ws : List ℕ) → IsEmpty k ws → Ruled k (opening ws [] (first_view k))
+pub begins : (k : Key) → FitsTable k → (ws : List ℕ) → IsEmpty k ws → Ruled k (opening ws [] (first_view k))
 begins k fits ws empty = record {
   wide = empty.wide;
   rule = subst (Rule k) (sym (empty_words k ws fits empty))
@@ -258,7 +258,7 @@ begins k fits ws empty = record {
 }
 
 -- the first pass's view stands
-pub first_stands : (k : Key) → Fits k → (ws : List ℕ) → IsEmpty k ws → Stands (first_view k)
+pub first_stands : (k : Key) → FitsTable k → (ws : List ℕ) → IsEmpty k ws → IsOfMoment (first_view k)
 first_stands k fits ws empty = record {
   moment = empty_world k (area ws 2 2 registry_size);
   rule = empty_rule k (area ws 2 2 registry_size) fits empty.registry;

@@ -28,7 +28,7 @@ use Rattle.fish_rule.specs.Registry.{AreActiveAt, KnowsActive}
 use Rattle.fish_rule.specs.declared.view.Epoch.TheVariants.{Confirmed}
 use Rattle.atomic_table.specs.Table.{Allows, step}
 use Rattle.fish_rule.proofs.basics.Regions.{few_slots}
-use Rattle.fish_rule.specs.Table.{Ruled, Sat, Stands}
+use Rattle.fish_rule.specs.Table.{Ruled, Sat, IsOfMoment}
 use Rattle.fish_rule.specs.Told.{told_publish_region}
 use Rattle.fish_rule.proofs.classes.Allowed.{allowed, stands, there}
 use Rattle.fish_rule.proofs.classes.PassesKnow.{each_chained, each_facts, each_opens, each_shut}
@@ -277,7 +277,7 @@ publish_region_allowed given k same size id me f i x about can is word =
           record {
             view = ap (after_publish_region me.0) e;
             held = refl;
-            stands = subst (λ (z : Flight). Stands (after_publish_region me.0 z)) e
+            stands = subst (λ (z : Flight). IsOfMoment (after_publish_region me.0 z)) e
                 (stands k _ id v' kept about (there vs id me.0 v' at));
           },
     ))

@@ -16,7 +16,7 @@ use Rattle.fish_rule.proofs.basics.ToPublish.{filled, own_body, small_line}
 use Rattle.fish_rule.proofs.basics.Worlds.{put-else, put-here}
 use Rattle.fish_rule.specs.Chains.{Linked, LinksAt, Shows, Chain}
 use Rattle.fish_rule.specs.Parts.{Flies, InFlight, IsEntryWord, IsPublishedRegion, Settled, Space, first_head}
-use Rattle.fish_rule.specs.Regions.{Holds, code, dir_word, kind_of}
+use Rattle.fish_rule.specs.Regions.{HoldsRegion, code, dir_word, kind_of}
 use Rattle.fish_rule.specs.SpaceSteps.{IsReady, learned_after, own_after, shut_after, ticked}
 use Rattle.fish_rule.specs.Views.{HasFlight, IsFlightOf}
 use Rattle.fish_rule.specs.World.{body, high, low, put}
@@ -183,9 +183,9 @@ module _ {k : Key} {w : World} (r : Rule k w) (id : ℕ) {v : View} (at : get_el
         line = ap low dir_here ∙ low-pack (code kind) f.line (small_line r f v.lane own) ∙ sym a;
         lined = subst (λ (z : ℕ × ℕ). lines_of (body w.log z.0 0) ≤ z.1 - z.0) (λ i. (sym a i, sym b i))
             (subst (λ (z : ℕ). lines_of (body w.log f.line 0) ≤ z) (sym size) h.0);
-        holds = subst (λ (z : ℕ × ℕ × ℕ). Holds (kind_of k.end z.0 z.1) z.2 f.number (z.1 - z.0)
+        holds = subst (λ (z : ℕ × ℕ × ℕ). HoldsRegion (kind_of k.end z.0 z.1) z.2 f.number (z.1 - z.0)
             (body w.log z.0)) (λ i. (sym a i, sym b i, sym own.owner i))
-            (subst (λ (z : Kind × ℕ). Holds z.0 v.lane f.number z.1 (body w.log f.line))
+            (subst (λ (z : Kind × ℕ). HoldsRegion z.0 v.lane f.number z.1 (body w.log f.line))
             (λ i. (sym is_kind i, sym size i)) h.1);
       }
 

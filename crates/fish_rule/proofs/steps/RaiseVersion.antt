@@ -16,7 +16,7 @@ use Rattle.fish_rule.proofs.basics.Worlds.{world-registry}
 use Rattle.fish_rule.proofs.basics.Lasts.{Lasts}
 use Rattle.fish_rule.specs.Boundaries.{Boundaries, IsOpenIn}
 use Rattle.fish_rule.specs.RegistrySteps.{CanRaiseVersion, after_raise_version, next_operation, round_after}
-use Rattle.fish_rule.specs.Epochs.{IsAtMost, IsOwned, IsUnmade, Registry, Stays}
+use Rattle.fish_rule.specs.Epochs.{IsAtMost, IsOwned, IsUnmade, RegistryHolds, Stays}
 use Rattle.fish_rule.specs.Registry.{definitions_at, epoch_at, made, op_at, row_at, version_in}
 use Rattle.fish_rule.specs.Rounds.{IsSince, Waits}
 use Rattle.fish_rule.specs.SpaceSteps.{ticked}
@@ -206,7 +206,7 @@ module _ {k : Key} {w : World} (r : Rule k w) (id : ℕ) {v : View} (at : get_el
       away q h e = (let far = owned_far k w.registry q h in omega arith)
 
   -- the registry's part afterwards
-  bump_registry : Registry k w.count bumped r.state r.version_of (set w.views id bumper)
+  bump_registry : RegistryHolds k w.count bumped r.state r.version_of (set w.views id bumper)
   bump_registry = record {
     epochs = record {
       words = λ l above below. else_ r id at control can (epoch_at l) (λ e. omega arith) ∙ r.registry.epochs.words

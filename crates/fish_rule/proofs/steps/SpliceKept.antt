@@ -23,7 +23,7 @@ use Rattle.fish_rule.proofs.basics.Worlds.{put-else, put-here}
 use Rattle.fish_rule.proofs.basics.Lasts.{Kept, Lasts}
 use Rattle.fish_rule.specs.Chains.{Chain, Chained, Linked}
 use Rattle.fish_rule.specs.ChainSteps.{CanSpliceEntry, own_place, spliced}
-use Rattle.fish_rule.specs.Parts.{Flies, InFlight, Whole, first_head}
+use Rattle.fish_rule.specs.Parts.{Flies, InFlight, IsWholeFlight, first_head}
 use Rattle.fish_rule.specs.Facts.{Facts}
 use Rattle.fish_rule.specs.Regions.{IsRecord}
 use Rattle.fish_rule.specs.Views.{IsFlightOf}
@@ -167,7 +167,7 @@ module _ {k : Key} {w : World} (r : Rule k w) (id : ℕ) {v : View} (at : get_el
           (subst (λ (n : ℕ). lines_of (body w.log n 0) ≤ r.start (suc g.number) - r.start g.number)
           (sym start_is) (omega arith)))
 
-      whole_stays : 0 < g.linked → Whole k log' u.lane g
+      whole_stays : 0 < g.linked → IsWholeFlight k log' u.lane g
       whole_stays some_ = (let whole = h.whole some_ in let e = body_stays some_ in record {
         kind = whole.kind;
         full = whole.full;

@@ -16,10 +16,10 @@ use Rattle.fish_rule.specs.Facts.{Owns}
 use Rattle.fish_rule.specs.SeatSteps.{CanSplitPass, of_lane, split_left, split_right}
 use Rattle.fish_rule.specs.Views.{Each, Has, IsFlightOf}
 use Rattle.fish_rule.proofs.basics.RegistryWords.{endures_same}
-use Rattle.fish_rule.specs.Epochs.{Registry, Stays}
+use Rattle.fish_rule.specs.Epochs.{RegistryHolds, Stays}
 use Rattle.fish_rule.specs.declared.view.Epoch.TheVariants.{Out}
 use Rattle.atomic_table.specs.Table.{Splits}
-use Rattle.fish_rule.specs.Table.{Ruled, Stands}
+use Rattle.fish_rule.specs.Table.{Ruled, IsOfMoment}
 
 module _ {k : Key} {w : World} (r : Rule k w) (id : ℕ) {v : View} (at : get_elem? w.views id ≡ some v) (l : ℕ)
     (can : CanSplitPass v l) where
@@ -160,7 +160,7 @@ module _ {k : Key} {w : World} (r : Rule k w) (id : ℕ) {v : View} (at : get_el
       }
 
   -- the registry's part afterwards
-  split_registry : Registry k w.count w.registry r.state r.version_of (cut ++ right ∷ [])
+  split_registry : RegistryHolds k w.count w.registry r.state r.version_of (cut ++ right ∷ [])
   split_registry = record {
     epochs = r.registry.epochs;
     versions = r.registry.versions;
@@ -224,12 +224,12 @@ splits k id v l can s ruled at = record {
 }
 
 -- the moment after a split
-split_moment : (v : View) (s : Stands v) (l : ℕ) → CanSplitPass v l
+split_moment : (v : View) (s : IsOfMoment v) (l : ℕ) → CanSplitPass v l
     → Rule v.about (record s.moment { views = set s.moment.views s.seat (split_left l v) ++ split_right l v ∷ [] })
 split_moment v s l can = split_kept s.rule s.seat s.at l can
 
 -- at that moment the control pass has its new view
-pub left_stands : (v : View) (l : ℕ) → Stands v → CanSplitPass v l → Stands (split_left l v)
+pub left_stands : (v : View) (l : ℕ) → IsOfMoment v → CanSplitPass v l → IsOfMoment (split_left l v)
 left_stands v l s can = record {
   moment = record s.moment { views = set s.moment.views s.seat (split_left l v) ++ split_right l v ∷ [] };
   rule = split_moment v s l can;
@@ -239,7 +239,7 @@ left_stands v l s can = record {
 }
 
 -- and the new pass its own
-pub right_stands : (v : View) (l : ℕ) → Stands v → CanSplitPass v l → Stands (split_right l v)
+pub right_stands : (v : View) (l : ℕ) → IsOfMoment v → CanSplitPass v l → IsOfMoment (split_right l v)
 right_stands v l s can = record {
   moment = record s.moment { views = set s.moment.views s.seat (split_left l v) ++ split_right l v ∷ [] };
   rule = split_moment v s l can;

@@ -16,7 +16,7 @@ use Rattle.fish_rule.specs.declared.view.Kind.TheVariants.{Void}
 use Rattle.atomic_table.specs.Table.{Allows, step}
 use Rattle.fish_rule.proofs.basics.Regions.{starts_above}
 use Rattle.fish_rule.proofs.basics.Worlds.{world-log}
-use Rattle.fish_rule.specs.Table.{Ruled, Sat, Stands}
+use Rattle.fish_rule.specs.Table.{Ruled, Sat, IsOfMoment}
 use Rattle.fish_rule.specs.Told.{told_store_word}
 use Rattle.fish_rule.proofs.classes.Allowed.{allowed, stands, there}
 
@@ -87,7 +87,7 @@ store_word_allowed given k same size id me f i x about can is =
           record {
             view = ap (λ (z : Flight). after_store_word me.0 z x) e;
             held = refl;
-            stands = subst (λ (z : Flight). Stands (after_store_word me.0 z x)) e
+            stands = subst (λ (z : Flight). IsOfMoment (after_store_word me.0 z x)) e
                 (stands k _ id v' kept about (there vs id me.0 v' at));
           },
     ))

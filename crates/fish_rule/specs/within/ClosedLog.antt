@@ -29,12 +29,12 @@ abbrev pub HasMarkAt : View → ℕ → ℕ → Type 0
 HasMarkAt v n line = (f : Found) × Among f v.learned.found × (f.number ≡ n) × (f.kind ≡ Mark) × (f.line ≡ line)
 
 -- what was found at a number, and the line at which it begins
-abbrev pub IsNext : View → ℕ → Next → Type 0
-IsNext v n (next.Entry line) = HasLine v n line
-IsNext v n (next.Mark line) = HasMarkAt v n line
+abbrev pub IsNextEntry : View → ℕ → Next → Type 0
+IsNextEntry v n (next.Entry line) = HasLine v n line
+IsNextEntry v n (next.Mark line) = HasMarkAt v n line
 
 -- of a number that was read, one of the starts begins its page
-pub record IsCovered (v : View) (starts : List PageStart) (n : ℕ) : Type 0 where
+pub record IsEntryCovered (v : View) (starts : List PageStart) (n : ℕ) : Type 0 where
   pub line : ℕ
   pub has : HasLine v n line
   pub start : PageStart
@@ -49,7 +49,7 @@ pub record IsReadUpTo (v : View) (n : ℕ) (read : ReadLog) : Type 0 where
   pub rise : PagesRise read.starts
   pub sound : (s : PageStart) → Among s read.starts
       → (v.about.number ≤ s.number) × (s.number < n) × HasLine v s.number s.line
-  pub covers : (m : ℕ) → v.about.number ≤ m → m < n → IsCovered v read.starts m
+  pub covers : (m : ℕ) → v.about.number ≤ m → m < n → IsEntryCovered v read.starts m
   pub paged : (s : PageStart) → Among s read.starts → page_of s.line < read.next_page
   pub last : 0 < read.next_page → (s : PageStart) × Among s read.starts × (suc (page_of s.line) ≡ read.next_page)
 
@@ -62,12 +62,12 @@ pub record HasStart (r : ReadLog) (n line : ℕ) (r' : ReadLog) : Type 0 where
   pub other : page_of line < r.next_page → (r'.starts ≡ r.starts) × (r'.next_page ≡ r.next_page)
 
 -- what a number is was added, and the log goes on, or ends at a mark
-abbrev pub IsAdded : View → ℕ → Bool → ℕ → ReadLog → Type 0
-IsAdded v n true lines read = IsReadUpTo v (suc n) read × (read.lines ≡ lines)
-IsAdded v n false lines read = IsReadUpTo v n read × HasMarkAt v n read.lines
+abbrev pub IsEntryAdded : View → ℕ → Bool → ℕ → ReadLog → Type 0
+IsEntryAdded v n true lines read = IsReadUpTo v (suc n) read × (read.lines ≡ lines)
+IsEntryAdded v n false lines read = IsReadUpTo v n read × HasMarkAt v n read.lines
 
 -- all was read: up to the end, whose line is this one, or up to a mark before it
-pub record IsRead (v : View) (end line : ℕ) (read : ReadLog) : Type 0 where
+pub record IsLogRead (v : View) (end line : ℕ) (read : ReadLog) : Type 0 where
   pub number : ℕ
   pub upto : IsReadUpTo v number read
   pub ends : ((number ≡ end) × (read.lines ≡ line)) ⊎ ((number < end) × HasMarkAt v number read.lines)
@@ -81,16 +81,16 @@ pub record HasHead (v : View) (settled b x : ℕ) : Type 0 where
   pub first : x ≤ v.about.line * 4 → x ≡ first_head v.about b
 
 -- these are the heads of so many buckets
-pub record AreHeads (v : View) (settled buckets : ℕ) (heads : List ℕ) : Type 0 where
+pub record AreSettledHeads (v : View) (settled buckets : ℕ) (heads : List ℕ) : Type 0 where
   pub many : length heads ≡ buckets
   pub each : (b x : ℕ) → get_elem? heads b ≡ some x → HasHead v settled b x
 
 -- all of a log was read, up to its tail: which numbers it has, its heads after these, and its version
-pub record IsWhole (v : View) (whole : WholeLog) : Type 0 where
+pub record IsWholeLog (v : View) (whole : WholeLog) : Type 0 where
   pub tail : Position
   pub rests : v.tail ≡ Some tail
-  pub read : IsRead v tail.number tail.line whole.read
+  pub read : IsLogRead v tail.number tail.line whole.read
   pub settled : ℕ
   pub far : whole.read.number ≤ settled
-  pub heads : AreHeads v settled v.about.buckets whole.heads
+  pub heads : AreSettledHeads v settled v.about.buckets whole.heads
   pub version : whole.version ≡ v.learned.version

@@ -1,8 +1,8 @@
 -- What a commit of all of the log leaves, whether it succeeds or not.
 use Rattle.std.specs.Prelude.{ℕ, ◌≡◌, ◌≤◌, [], ◌∷◌, Result}
 use Rattle.fish_disk.specs.declared.disk.Disk.{Ghosts as Disks}
-use Rattle.fish_flush.specs.Carrying.{Reads}
-use Rattle.fish_lanes.specs.Ending.{HasEnd}
+use Rattle.fish_flush.specs.Carrying.{ReadsLog}
+use Rattle.fish_lanes.specs.Ending.{EndsAlone}
 use Rattle.fish_rule.specs.Passes.{view}
 use Rattle.fish_run.specs.declared.fault.RunFault.{RunFault}
 use Rattle.fish_run.specs.within.Runs.{CanClose}
@@ -19,8 +19,8 @@ pub record Commits {D : Type 0} (disks : Disks D) (disk : D) (s : Store) (disk' 
   pub registrar : t.registrar ≡ s.registrar
   pub close : CanClose t
   pub later : Later (view s.pass) (view t.pass)
-  pub reads : Reads (view s.pass) (view t.pass)
+  pub reads : ReadsLog (view s.pass) (view t.pass)
   pub goes : GoesOnHere disks (point_at disk s) (point_at disk' t)
-  pub end : (to : ℕ) → HasEnd (view s.pass) to → HasEnd (view t.pass) to
+  pub end : (to : ℕ) → EndsAlone (view s.pass) to → EndsAlone (view t.pass) to
   pub rows : LeavesRows disks disk disk' (by_checkpoint result s.registrar.catalog) (s.registrar.catalog ∷ [])
   pub rises : disks.faults disk ≤ disks.faults disk'

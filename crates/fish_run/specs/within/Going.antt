@@ -2,7 +2,8 @@
 use Rattle.std.specs.Prelude.{ℕ, ◌≡◌, ◌⊎◌, ◌++◌, List, [], ◌∷◌, Bool, true, false, Option, Some, None, length, ⊤}
 use Rattle.fish_disk.specs.declared.disk.Disk.{Ghosts as Disks}
 use Rattle.fish_feed.specs.Queues.{both}
-use Rattle.fish_feed.specs.Works.{AreAnewAfterFirst, Pairs, Triples}
+use Rattle.fish_feed.specs.Works.{AreAnewAfterFirst, Triples}
+use Rattle.fish_script.specs.Laws.{Pairs}
 use Rattle.fish_lanes.specs.Blocks.{IsNewLane}
 use Rattle.fish_lanes.specs.Controlling.{bound_items}
 use Rattle.fish_lanes.specs.Registering.{registry_of}
@@ -13,9 +14,9 @@ use Rattle.fish_lanes.specs.declared.work.Work.{Work}
 use Rattle.fish_report.specs.declared.item.Item.{Item}
 use Rattle.fish_rule.specs.Passes.{view}
 use Rattle.fish_run.specs.Blocks.{Round, with_cut}
-use Rattle.fish_run.specs.Reports.{end_of, first_number}
+use Rattle.fish_run.specs.Reports.{end_of_rounds, first_number}
 use Rattle.fish_run.specs.Joins.{block_said, goes_on, lanes_after, said_after}
-use Rattle.fish_run.specs.Rounds.{AreAll, FollowOn, GoesOnWith, IsCutFile, IsRest, given_in}
+use Rattle.fish_run.specs.Rounds.{AreAll, FollowOn, GoesOnWith, IsCutFile, IsRestOfWorks, given_in}
 use Rattle.fish_run.specs.within.Runs.{CanGoOn}
 use Rattle.fish_run.specs.within.Steps.{HasRounds, StopsRounds}
 use Rattle.fish_run.specs.Tables.{AreRenewed}
@@ -32,7 +33,7 @@ use Rattle.fish_store.specs.declared.store.Store.{Store}
 -- the rest of its last file, if it goes on with one
 abbrev pub RestOf : Lane → Option Work → Type 0
 RestOf x None = IsCutFile x → ⊥
-RestOf x (Some w) = IsRest x (w ∷ x.left)
+RestOf x (Some w) = IsRestOfWorks x (w ∷ x.left)
 
 -- what it said is kept, and it has no item, and the statements that it goes on with
 pub record StepsLane (full fresh : Bool) (bound : List Item) (s t : Said) (x y : Lane) : Type 0 where
@@ -54,8 +55,8 @@ WereGiven given [] = ⊤
 WereGiven given (a ∷ rounds) = given_in (a ∷ rounds) ≡ given
 
 -- what a lane has and what it is given, the next round of it begins with
-abbrev pub HasNext : Lane → List Work → Lane → Type 0
-HasNext x given y = (to_do y ≡ x.works ++ given) × ((x.works ≡ []) ⊎ (given ≡ [])) × AreAnewAfterFirst given
+abbrev pub HasNextWorks : Lane → List Work → Lane → Type 0
+HasNextWorks x given y = (to_do y ≡ x.works ++ given) × ((x.works ≡ []) ⊎ (given ≡ [])) × AreAnewAfterFirst given
 
 -- the rounds so far of a block, from its first moment on: over them lanes were given this, and they go on with what
 -- they have; what they said is kept, but for the boundary that was found last
@@ -67,7 +68,7 @@ pub record GoesIn {D : Type 0} (disks : Disks D) (disk : D) (s : Store) (from : 
   pub renewed : AreRenewed (view s.pass).about.number rounds a.fresh a.fresh
   pub follow : FollowOn rounds
   pub were : WereGiven given rounds
-  pub next : (b : Round) → b.fresh ≡ a.fresh → AreNumbered b.lanes → Triples HasNext lanes b.given b.lanes
+  pub next : (b : Round) → b.fresh ≡ a.fresh → AreNumbered b.lanes → Triples HasNextWorks lanes b.given b.lanes
       → FollowOn (rounds ++ b ∷ [])
   pub gives : (b : Round) → length b.given ≡ length lanes → given_in (rounds ++ b ∷ []) ≡ both given b.given
   pub many : length given ≡ length lanes
@@ -76,7 +77,7 @@ pub record GoesIn {D : Type 0} (disks : Disks D) (disk : D) (s : Store) (from : 
       → block_said (rounds ++ b ∷ []) ≡ lanes_after b.fresh (bound_items a.bound) said b.lanes
 
 -- the same before a round for which lanes were given this, where it is of all that they were given
-pub record IsReady {D : Type 0} (disks : Disks D) (disk : D) (s : Store) (from : ℕ) (disk' : D) (a : RoundStart)
+pub record AreLanesReady {D : Type 0} (disks : Disks D) (disk : D) (s : Store) (from : ℕ) (disk' : D) (a : RoundStart)
     (lanes : List Lane) (said : List Said) (now given : List (List Work)) : Type 0 where
   pub rounds : List Round
   pub ran : HasRounds disks (point_at disk s) (point_at disk' a.store) from (registry_of (view s.pass) s.registrar)
@@ -102,7 +103,7 @@ pub record EndsRounds {D : Type 0} (disks : Disks D) (disk : D) (s : Store) (fro
       rounds false end.to (registry_of (view t.pass) t.registrar)
   pub renewed : AreRenewed (view s.pass).about.number rounds false false
   pub first : first_number rounds ≡ from
-  pub last : end_of rounds ≡ end
+  pub last : end_of_rounds rounds ≡ end
   pub said_are : said ≡ block_said rounds
 
 -- a fault stopped them

@@ -2,8 +2,9 @@
 -- fault stopped it.
 use Rattle.std.specs.Prelude.{ℕ, ◌≡◌, ◌+◌, ◌≤◌, List, [], Option, length}
 use Rattle.fish_disk.specs.declared.disk.Disk.{Ghosts as Disks}
-use Rattle.fish_feed.specs.Queues.{AllFree, AllRunnable, AreIdle, IsQueue, MayEnd}
-use Rattle.fish_feed.specs.Works.{AreDone, Pairs, Triples}
+use Rattle.fish_feed.specs.Queues.{OthersAreFree, AllRunnable, AreIdle, IsQueue, MayEndFeed}
+use Rattle.fish_feed.specs.Works.{AreStatementsDone, Triples}
+use Rattle.fish_script.specs.Laws.{Pairs}
 use Rattle.fish_feed.specs.declared.queue.Queue.{Queue}
 use Rattle.fish_lanes.specs.Blocks.{AreLanes, EachLane, IsNewLane}
 use Rattle.fish_lanes.specs.declared.block.BlockEnd.{BlockEnd}
@@ -37,7 +38,7 @@ pub record AreTexts (texts : List (List Statement)) : Type 0 where
   pub some : 1 ≤ length texts
   pub few : length texts ≤ 16
   pub runnable : AllRunnable texts
-  pub free : AllFree texts
+  pub free : OthersAreFree texts
 
 -- the lanes of these queues were given nothing yet
 abbrev pub AreUngiven
@@ -50,7 +51,8 @@ pub record EndsParts {D F : Type 0} (disks : Disks D) (disk : D) (s : Store) (fr
     (said : List Said) : Type 0 where
   pub given : List (List Work)
   pub rounds : EndsRounds disks disk s from disk' t end said given
-  pub done : (texts : List (List Statement)) → AreUngiven before left texts queues → Pairs (AreDone now) texts given
+  pub done : (texts : List (List Statement)) → AreUngiven before left texts queues
+      → Pairs (AreStatementsDone now) texts given
 
 abbrev pub EndsBlock : {D F : Type 0} → Disks D → D → Store → ℕ → (F → Option (List ℕ)) → Option Files → List (Queue F)
     → D → Option Files → Ended → Type 0
@@ -64,7 +66,7 @@ pub record StopsParts {D F : Type 0} (disks : Disks D) (disk : D) (s : Store) (f
   pub given : List (List Work)
   pub stops : StopsBlock disks disk s from given disk' e
   pub may : (texts : List (List Statement)) → AreUngiven before left texts queues
-      → Triples (MayEnd now left) texts given queues'
+      → Triples (MayEndFeed now left) texts given queues'
 
 -- ---- a block with these statements
 
@@ -73,7 +75,7 @@ pub record EndsLanes {D : Type 0} (disks : Disks D) (disk : D) (s : Store) (from
     (disk' : D) (told : Option Files) (e : Ended) : Type 0 where
   pub given : List (List Work)
   pub rounds : EndsRounds disks disk s from disk' e.store e.end e.said.items given
-  pub done : Pairs (AreDone told) texts given
+  pub done : Pairs (AreStatementsDone told) texts given
 
 -- a fault stopped it, perhaps after some of its rounds
 pub record StopsLanes {D : Type 0} (disks : Disks D) (disk : D) (s : Store) (from : ℕ) (texts : List (List Statement))

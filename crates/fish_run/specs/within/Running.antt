@@ -14,7 +14,7 @@ use Rattle.fish_run.specs.Joins.{block_said}
 use Rattle.fish_run.specs.Rounds.{AreRounds}
 use Rattle.fish_run.specs.within.Runs.{CanClose, CanGoOn, IsAllKept}
 use Rattle.fish_run.specs.within.Steps.{HasRounds, RunsAll, RunsSome, StopsRounds}
-use Rattle.fish_run.specs.within.Counting.{Counts}
+use Rattle.fish_run.specs.within.Counting.{FaultCounts}
 use Rattle.fish_run.specs.within.Faults.{IsWriteFault}
 use Rattle.fish_run.specs.Tables.{AreRenewed}
 use Rattle.fish_run.specs.declared.fault.RunFault.{RunFault}
@@ -26,7 +26,7 @@ use Rattle.fish_store.specs.Points.{point_at}
 use Rattle.fish_store.specs.declared.store.Store.{Store}
 
 -- the counts of faults of a host, an output and a disk
-abbrev pub counts_of : {H W D : Type 0} → (H → ℕ) → (W → ℕ) → (D → ℕ) → H → W → D → Counts
+abbrev pub counts_of : {H W D : Type 0} → (H → ℕ) → (W → ℕ) → (D → ℕ) → H → W → D → FaultCounts
 counts_of host out disk h w d = record { host = host h; out = out w; disk = disk d }
 
 -- ---- one block
@@ -68,7 +68,7 @@ pub record StopsOne {D : Type 0} (disks : Disks D) (disk disk' : D) (a : Lasts) 
 -- ---- a run
 
 -- all blocks ran and were written; and where it is so, all of the log is committed, with its definitions
-pub record EndsRun {D : Type 0} (disks : Disks D) (disk disk' : D) (s : Store) (first : ℕ) (begin : Item)
+pub record EndsRunning {D : Type 0} (disks : Disks D) (disk disk' : D) (s : Store) (first : ℕ) (begin : Item)
     (told : Option Files) (text : List script.Block) (old new : Option (List ℕ)) (refused lasts : Bool) (b : Lasts)
     : Type 0 where
   pub close : CanClose b.store

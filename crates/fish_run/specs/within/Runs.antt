@@ -2,7 +2,7 @@
 use Rattle.std.specs.Prelude.{ℕ, ◌≡◌, ◌+◌, ◌^◌, List, None}
 use Rattle.fish_flush.specs.Reading.{IsLineAt}
 use Rattle.fish_lanes.specs.Controlling.{CanControl}
-use Rattle.fish_lanes.specs.Ending.{HasEnd}
+use Rattle.fish_lanes.specs.Ending.{EndsAlone}
 use Rattle.fish_lanes.specs.Registering.{KnowsRegistry, registry_of}
 use Rattle.fish_rule.specs.LoadSteps.{IsAlone}
 use Rattle.fish_rule.specs.Passes.{IsPassOf, view}
@@ -30,7 +30,7 @@ pub record CanGoOn {D : Type 0} (images : D → List ℕ → Type 0) (disk : D) 
   pub can : CanControl s.log s.pass s.registrar
   pub commit : MayGoOn images (point_at disk s)
   pub below : IsBelow s.log.key s.file.cold
-  pub end : HasEnd (view s.pass) from
+  pub end : EndsAlone (view s.pass) from
   pub known : KnowsRegistry (view s.pass) (registry_of (view s.pass) s.registrar)
   pub settled : s.registrar.waiting ≡ None
   pub table : IsTable s.log
@@ -45,7 +45,7 @@ pub record IsNewStore {D : Type 0} (images : D → List ℕ → Type 0) (disk : 
 -- all of the log is committed, as the control pass knows its end and its last line; and every image has that line, and
 -- the registrar's definitions
 pub record IsAllKept {D : Type 0} (images : D → List ℕ → Type 0) (disk : D) (s : Store) : Type 0 where
-  pub end : HasEnd (view s.pass) s.file.flusher.count
+  pub end : EndsAlone (view s.pass) s.file.flusher.count
   pub line : IsLineAt (view s.pass) s.file.flusher.count s.file.flusher.line
   pub catalog : (i : List ℕ) → images disk i
       → KeepsCatalog s.log.shape s.registrar.catalog s.file.flusher.line i

@@ -2,13 +2,13 @@
 use Rattle.std.specs.Prelude.{ℕ, ◌≡◌, ◌≢◌, ◌⊎◌, ◌<◌, ◌≤◌, List, [], ◌∷◌, ◌++◌, Bool, false, true, Option, Some, None}
 use Rattle.std.specs.Prelude.{IfSome, length, slice_get}
 use Rattle.fish_disk.specs.declared.disk.Disk.{Ghosts as Disks}
-use Rattle.fish_feed.specs.Works.{Pairs}
+use Rattle.fish_script.specs.Laws.{Pairs}
 use Rattle.fish_lanes.specs.Blocks.{AreEnded, HasRegistered, IsBlockSpan, NameMarks, SaysBlock}
-use Rattle.fish_lanes.specs.Controlling.{IsCommitted}
+use Rattle.fish_lanes.specs.Controlling.{IsCheckpointAtMost}
 use Rattle.fish_lanes.specs.Outcome.{HandsBack, IsFullIn, LanesSayPlans, SayFullLast, SaysShutBy}
-use Rattle.fish_lanes.specs.Ending.{HasEnd}
+use Rattle.fish_lanes.specs.Ending.{EndsAlone}
 use Rattle.fish_lanes.specs.Gains.{WasShut}
-use Rattle.fish_lanes.specs.Plans.{KnowsRows}
+use Rattle.fish_lanes.specs.Plans.{KnowsListed}
 use Rattle.fish_lanes.specs.Registering.{Registry, registry_of}
 use Rattle.fish_lanes.specs.Spans.{Span}
 use Rattle.fish_lanes.specs.declared.block.BlockEnd.{BlockEnd}
@@ -24,10 +24,10 @@ use Rattle.fish_rule.specs.declared.view.View.{View}
 use Rattle.fish_run.specs.Blocks.{AreAcknowledged, AreFullSince, AreInOne, Block, HasFoundFull, Round}
 use Rattle.fish_run.specs.Blocks.{SaysCut, SaysFirst}
 use Rattle.fish_run.specs.within.Blocks.{AreMarked}
-use Rattle.fish_run.specs.Blocks.{SaysOne, SaysOneLane, SaysRounds, after_round, after_rounds, begun, first_items}
+use Rattle.fish_run.specs.Blocks.{SaysOne, SaysOneLane, SaysRounds, after_round, after_rounds, begun_anew, first_items}
 use Rattle.fish_run.specs.Blocks.{in_table, last_table, left_table, rounds_of, with_cut}
 use Rattle.fish_run.specs.CommitRows.{by_roll, last_rows, recent_rows, rows_through}
-use Rattle.fish_run.specs.Faults.{IsFirstFault, IsUndamaged}
+use Rattle.fish_run.specs.Faults.{IsFirstFault, IsRunUndamaged}
 use Rattle.fish_run.specs.Ran.{AreFirst, AreNextOf, IsBlockOf}
 use Rattle.fish_run.specs.Reports.{are_refused, report_of}
 use Rattle.fish_run.specs.within.Runs.{CanClose}
@@ -38,7 +38,7 @@ use Rattle.fish_run.specs.declared.lasting.Stopped.{Stopped}
 use Rattle.fish_script.specs.declared.script.Block as script
 use Rattle.fish_store.specs.CommitRows.{LeavesRows}
 use Rattle.fish_store.specs.Points.{point_at}
-use Rattle.fish_store.specs.Sound.{IsSoundBehind, Point, Runs}
+use Rattle.fish_store.specs.Sound.{IsSoundBehind, Point, StoreRuns}
 use Rattle.fish_whole.specs.Whole.{Whole, WillHold}
 
 -- ---- one round
@@ -58,7 +58,7 @@ pub record HasRunOne (Past : Whole → Type 0) (count : ℕ) (fresh : Bool) (ful
   pub ends : b.span.to ≡ to
   pub tells : (past : Whole) → Past past → WillHold past u (λ w. SaysOne w from r b)
   pub marks : NameMarks u b.lanes
-  pub committed : AllOf (IsCommitted count) (first_items b.lanes)
+  pub committed : AllOf (IsCheckpointAtMost count) (first_items b.lanes)
   pub after : t ≡ after_round r b
 
 -- a round ran, and a lane stopped at a fault
@@ -71,7 +71,7 @@ pub record HasCutOne (Past : Whole → Type 0) (count : ℕ) (fresh : Bool) (ful
   pub ends : b.span.to ≡ to
   pub tells : (past : Whole) → Past past → WillHold past u (λ w. SaysCut w from r b)
   pub marks : NameMarks u b.lanes
-  pub committed : AllOf (IsCommitted count) (first_items b.lanes)
+  pub committed : AllOf (IsCheckpointAtMost count) (first_items b.lanes)
 
 -- what a round left after a number of the log: what its lanes tell is so of each whole that the control pass may leave
 -- later, after such a past
@@ -79,7 +79,7 @@ pub record Leaves (Past : Whole → Type 0) (count : ℕ) (v u : View) (r s : Re
     (end : BlockEnd)
     : Type 0 where
   pub some : 0 < length lanes
-  pub begins : HasEnd v from
+  pub begins : EndsAlone v from
   pub tells : (past : Whole) → Past past → (k : Span) → IsBlockSpan v u end.to k → k.lanes ≡ length lanes
       → (k.from ≤ k.to) × WillHold past u (λ w. SaysBlock w k lanes)
   pub has : (x : Lane) → slice_get lanes 0 ≡ Some x → HasRegistered v u r s x end
@@ -88,14 +88,14 @@ pub record Leaves (Past : Whole → Type 0) (count : ℕ) (v u : View) (r s : Re
   pub alone : (x : Lane) → lanes ≡ x ∷ [] → SaysOneLane r.catalog v.shut from x
   pub shuts : SaysShutBy v u lanes
   pub last : SayFullLast v lanes
-  pub plans : LanesSayPlans (KnowsRows u) (registry_of v r) s.catalog from lanes
-  pub committed : AllOf (IsCommitted count) (first_items lanes)
+  pub plans : LanesSayPlans (KnowsListed u) (registry_of v r) s.catalog from lanes
+  pub committed : AllOf (IsCheckpointAtMost count) (first_items lanes)
   pub left : HandsBack v u lanes
   pub stays : WasShut v → end.to ≤ from
 
 -- no lane stopped at a fault
-abbrev pub AreWhole : List Lane → Type 0
-AreWhole lanes = (i : ℕ) (x : Lane) → slice_get lanes i ≡ Some x → x.fault ≡ cause.None
+abbrev pub AreWholeLanes : List Lane → Type 0
+AreWholeLanes lanes = (i : ℕ) (x : Lane) → slice_get lanes i ≡ Some x → x.fault ≡ cause.None
 
 -- ---- rounds
 
@@ -109,8 +109,8 @@ pub record IsTableAfter (v u : View) (rounds : List Round) (fresh : Bool) : Type
 -- numbers and the registry was this; then it has so many, and this one; and perhaps a new table was begun since
 pub record HasRounds {D : Type 0} (disks : Disks D) (p q : Point D) (from : ℕ) (r : Registry) (rounds : List Round)
     (fresh : Bool) (to : ℕ) (t : Registry) : Type 0 where
-  pub runs : Runs disks p q (λ w. SaysRounds w from r rounds to)
-  pub after : t ≡ begun fresh to (after_rounds r rounds)
+  pub runs : StoreRuns disks p q (λ w. SaysRounds w from r rounds to)
+  pub after : t ≡ begun_anew fresh to (after_rounds r rounds)
   pub committed : AreAcknowledged q.flusher.count rounds
   pub fulls : (before : List Round) → HasFoundFull before p.view.shut → AreFullSince before rounds
   pub full : (before : List Round) → HasFoundFull before p.view.shut
@@ -124,14 +124,14 @@ pub record HasRounds {D : Type 0} (disks : Disks D) (p q : Point D) (from : ℕ)
   pub table : IsTableAfter p.view q.view rounds fresh
 
 -- the same, and perhaps one more ran, which was cut; after them the log has so many numbers
-pub record HasRunFirst {D : Type 0} (disks : Disks D) (p q : Point D) (from : ℕ) (r : Registry) (rounds : List Round)
+pub record HasRunRounds {D : Type 0} (disks : Disks D) (p q : Point D) (from : ℕ) (r : Registry) (rounds : List Round)
     (fresh : Bool) (cut : Option Round) (end : ℕ) : Type 0 where
-  pub runs : Runs disks p q (λ w. SaysFirst w from r rounds cut end)
+  pub runs : StoreRuns disks p q (λ w. SaysFirst w from r rounds cut end)
   pub committed : AreAcknowledged q.flusher.count (with_cut rounds cut)
   pub fulls : (before : List Round) → HasFoundFull before p.view.shut → AreFullSince before (with_cut rounds cut)
   pub marks : (before : List Round) → AreMarked p.view before → AreMarked q.view (left_table fresh before rounds cut)
   pub rows : LeavesRows disks p.disk q.disk (last_rows r (with_cut rounds cut)) (rows_through r (with_cut rounds cut))
-  pub ends : HasEnd q.view end
+  pub ends : EndsAlone q.view end
   pub shape : q.shape ≡ p.shape
   pub table : IsTableAfter p.view q.view (with_cut rounds cut) fresh
 
@@ -148,8 +148,8 @@ pub record StopsRounds {D : Type 0} (disks : Disks D) (p : Point D) (disk : D) (
   pub fresh : Bool
   pub end : ℕ
   pub cut_by : IfSome cut (λ b. IsFirstFault b.lanes s.why)
-  pub ran : HasRunFirst disks p at from r rounds fresh cut end
-  pub whole : (past : Whole) → IsSoundBehind disks p (disks.content disk) past → IsUndamaged s.why
+  pub ran : HasRunRounds disks p at from r rounds fresh cut end
+  pub whole : (past : Whole) → IsSoundBehind disks p (disks.content disk) past → IsRunUndamaged s.why
 
 -- ---- blocks
 
@@ -170,7 +170,7 @@ pub record RunsAll {D : Type 0} (disks : Disks D) (p q : Point D) (from : ℕ) (
     : Type 0 where
   pub blocks : List Block
   pub all : Pairs (IsBlockOf told) text blocks
-  pub ran : HasRunFirst disks p q from r (rounds_of blocks) false None end
+  pub ran : HasRunRounds disks p q from r (rounds_of blocks) false None end
   pub rows_are : q.rows ≡ (after_rounds r (rounds_of blocks)).rows
   pub renewed : AreRenewed p.view.about.number (rounds_of blocks) false false
   pub written : Gained old new (report_text (report_of begin blocks))

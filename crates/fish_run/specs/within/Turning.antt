@@ -19,7 +19,7 @@ use Rattle.fish_run.specs.declared.rounds.RoundStart.{RoundStart}
 use Rattle.fish_run.specs.declared.rounds.Turned.{Turned}
 use Rattle.fish_run.specs.declared.saying.Said.{Said}
 use Rattle.fish_store.specs.declared.store.Store.{Store}
-use Rattle.fish_run.specs.within.Going.{EndsRounds, GoesIn, IsReady, StopsBlock}
+use Rattle.fish_run.specs.within.Going.{EndsRounds, GoesIn, AreLanesReady, StopsBlock}
 
 -- ---- a full table
 
@@ -67,10 +67,10 @@ pub record TurnsOn {D : Type 0} (disks : Disks D) (disk : D) (a : RoundStart) (l
   pub less : t.more ≡ true → tables_left t.next.store < tables_left a.store
   pub idle : t.more ≡ false → AreIdle lanes'
   pub goes : (d : D) (s : Store) (from : ℕ) (now given : List (List Work))
-      → IsReady disks d s from disk a lanes said now given
+      → AreLanesReady disks d s from disk a lanes said now given
       → GoesIn disks d s from disk' t.next lanes' said' given
   pub ends : t.more ≡ false → (d : D) (s : Store) (from : ℕ) (now given : List (List Work))
-      → IsReady disks d s from disk a lanes said now given
+      → AreLanesReady disks d s from disk a lanes said now given
       → EndsRounds disks d s from disk' t.next.store t.end said' given
 
 -- the same of rounds up to one after which none goes on
@@ -82,14 +82,14 @@ pub record TurnsAll {D : Type 0} (disks : Disks D) (disk : D) (a : RoundStart) (
   pub same : length lanes' ≡ length lanes
   pub idle : AreIdle lanes'
   pub goes : (d : D) (s : Store) (from : ℕ) (now given : List (List Work))
-      → IsReady disks d s from disk a lanes said now given
+      → AreLanesReady disks d s from disk a lanes said now given
       → GoesIn disks d s from disk' t.next lanes' said' given
   pub ends : (d : D) (s : Store) (from : ℕ) (now given : List (List Work))
-      → IsReady disks d s from disk a lanes said now given
+      → AreLanesReady disks d s from disk a lanes said now given
       → EndsRounds disks d s from disk' t.next.store t.end said' given
 
 -- a fault stopped them
 abbrev pub StopsTurn : {D : Type 0} → Disks D → D → RoundStart → List Lane → List Said → D → Stopped → Type 0
 StopsTurn disks disk a lanes said disk' e = (d : _) (s : Store) (from : ℕ) (now given : List (List Work))
-    → IsReady disks d s from disk a lanes said now given
+    → AreLanesReady disks d s from disk a lanes said now given
     → StopsBlock disks d s from given disk' e

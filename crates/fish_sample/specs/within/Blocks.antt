@@ -6,7 +6,7 @@ use Rattle.fish_disk.specs.declared.disk.Disk.{Ghosts as Disks}
 use Rattle.fish_lang.specs.Canonical.{definition_text}
 use Rattle.fish_lanes.specs.Blocks.{EachLane, EachLanePair, SaysBlock}
 use Rattle.fish_lanes.specs.Controlling.{CanControl}
-use Rattle.fish_lanes.specs.Ending.{HasEnd}
+use Rattle.fish_lanes.specs.Ending.{EndsAlone}
 use Rattle.fish_lanes.specs.Registering.{ItemsFit, KnowsRegistry, after_all, registry_of}
 use Rattle.fish_lanes.specs.Spans.{Span, answers}
 use Rattle.fish_lanes.specs.declared.lane.Lane.{Lane}
@@ -18,8 +18,8 @@ use Rattle.fish_rule.specs.Passes.{view}
 use Rattle.fish_rule.specs.declared.close.Remains.{Remains}
 use Rattle.fish_rule.specs.declared.view.View.{View}
 use Rattle.fish_sample.specs.Logs.{IsSampleLog}
-use Rattle.fish_sample.specs.within.Parts.{Each, HasRecords, IsVoid, part}
-use Rattle.fish_sample.specs.Sample.{AreDefined, Asked, Definitions, count_of, summary_text}
+use Rattle.fish_sample.specs.within.Parts.{EachEntry, HasRecords, IsVoid, log_part}
+use Rattle.fish_sample.specs.Sample.{AreDefined, SampleQuestion, Definitions, asked_count, summary_text}
 use Rattle.fish_scan.specs.Colder.{IsBelow}
 use Rattle.fish_scan.specs.Older.{selectable}
 use Rattle.fish_store.specs.Points.{point_at}
@@ -34,11 +34,11 @@ IsAlwaysShown {D} content = (d : D) → IsSome (content d)
 -- ---- between blocks
 
 -- a block may follow after so many entries
-pub record IsBetween {D : Type 0} (images : D → List ℕ → Type 0) (disk : D) (s : Store) (from : ℕ) : Type 0 where
+pub record IsBetweenRuns {D : Type 0} (images : D → List ℕ → Type 0) (disk : D) (s : Store) (from : ℕ) : Type 0 where
   pub can : CanControl s.log s.pass s.registrar
   pub commit : MayGoOn images (point_at disk s)
   pub below : IsBelow s.log.key s.file.cold
-  pub end : HasEnd (view s.pass) from
+  pub end : EndsAlone (view s.pass) from
   pub known : KnowsRegistry (view s.pass) (registry_of (view s.pass) s.registrar)
 
 -- it is the store that was opened, which was made
@@ -52,15 +52,15 @@ pub record IsOfMade (o : Opened) (s : Store) : Type 0 where
   pub cold : s.file.cold ≡ o.cold
 
 -- a store was made: nothing is in it, and nothing was before it
-pub record IsNewStore {D : Type 0} (disks : Disks D) (disk : D) (s : Store) : Type 0 where
-  pub between : IsBetween disks.images disk s 0
+pub record IsSampleStore {D : Type 0} (disks : Disks D) (disk : D) (s : Store) : Type 0 where
+  pub between : IsBetweenRuns disks.images disk s 0
   pub rows : s.registrar.catalog ≡ []
   pub past : Whole
   pub nothing : past.log ≡ []
   pub sound : Sound disks (point_at disk s) past
 
 -- the store went on in its table
-pub record Goes {D : Type 0} (disks : Disks D) (disk : D) (s : Store) (disk' : D) (t : Store) : Type 0 where
+pub record GoesLater {D : Type 0} (disks : Disks D) (disk : D) (s : Store) (disk' : D) (t : Store) : Type 0 where
   pub later : Later (view s.pass) (view t.pass)
   pub sound : (past : Whole) → Sound disks (point_at disk s) past
       → Sound disks (point_at disk' t) past
@@ -79,10 +79,10 @@ span_of v u from to lanes = record {
 }
 
 -- the lanes did all that they were to do, and what their items say is so of each whole log that may be in the end
-pub record HasRun {D : Type 0} (disks : Disks D) (disk : D) (s : Store) (from : ℕ) (old : List Lane) (disk' : D)
+pub record HasRunBlock {D : Type 0} (disks : Disks D) (disk : D) (s : Store) (from : ℕ) (old : List Lane) (disk' : D)
     (t : Store) (to : ℕ) (new : List Lane) : Type 0 where
-  pub between : IsBetween disks.images disk' t to
-  pub goes : Goes disks disk s disk' t
+  pub between : IsBetweenRuns disks.images disk' t to
+  pub goes : GoesLater disks disk s disk' t
   pub kept : EachLanePair (λ i x y. y.works ≡ x.works) old new
   pub many : length new ≡ length old
   pub ended : EachLane (λ i x. length (answers x.items) ≡ length x.works) new
@@ -113,10 +113,10 @@ pub record HasDefinitions (rows : List CatRow) : Type 0 where
 -- a store without a definition has them, and no record was stored
 pub record HasDefined {D : Type 0} (disks : Disks D) (disk : D) (s : Store) (from : ℕ) (disk' : D) (t : Store) (to : ℕ)
     : Type 0 where
-  pub between : IsBetween disks.images disk' t to
-  pub goes : Goes disks disk s disk' t
+  pub between : IsBetweenRuns disks.images disk' t to
+  pub goes : GoesLater disks disk s disk' t
   pub told : (past : Whole) → Sound disks (point_at disk s) past → (from ≤ to)
-      × WillHold past (view t.pass) (λ w. Each IsVoid (part from to w.log)
+      × WillHold past (view t.pass) (λ w. EachEntry IsVoid (log_part from to w.log)
       × (s.registrar.catalog ≡ [] → HasDefinitions t.registrar.catalog))
 
 -- ---- the records
@@ -124,8 +124,8 @@ pub record HasDefined {D : Type 0} (disks : Disks D) (disk : D) (s : Store) (fro
 -- each lane stored its share, and the definitions are the same
 pub record HasStored {D : Type 0} (disks : Disks D) (number : ℕ) (disk : D) (s : Store) (from : ℕ) (disk' : D)
     (t : Store) (to : ℕ) : Type 0 where
-  pub between : IsBetween disks.images disk' t to
-  pub goes : Goes disks disk s disk' t
+  pub between : IsBetweenRuns disks.images disk' t to
+  pub goes : GoesLater disks disk s disk' t
   pub rows : t.registrar.catalog ≡ s.registrar.catalog
   pub told : (past : Whole) → Sound disks (point_at disk s) past → (from ≤ to)
       × WillHold past (view t.pass) (λ w. HasRecords number from to w.log)
@@ -134,18 +134,18 @@ pub record HasStored {D : Type 0} (disks : Disks D) (number : ℕ) (disk : D) (s
 
 -- over each range with all numbers below one, as many records are selected as have the value
 abbrev pub AreSelected : ℕ → ℕ → Whole → Type 0
-AreSelected number below w = (a : Asked) (from to : ℕ)
+AreSelected number below w = (a : SampleQuestion) (from to : ℕ)
     → ((n : ℕ) → n < below → n < length w.log → (from ≤ n) × (n < to))
-    → length (select (map selectable w.log) (evaluation a.definition) a.value from to []) ≡ count_of number a
+    → length (select (map selectable w.log) (evaluation a.definition) a.value from to []) ≡ asked_count number a
 
 -- no record was stored, and a text is the summary by these definitions, where selections are as they have to be
 pub record HasCounted {D : Type 0} (disks : Disks D) (number : ℕ) (disk : D) (s : Store) (from : ℕ) (disk' : D)
     (t : Store) (text : List ℕ) : Type 0 where
   pub to : ℕ
-  pub between : IsBetween disks.images disk' t to
-  pub goes : Goes disks disk s disk' t
+  pub between : IsBetweenRuns disks.images disk' t to
+  pub goes : GoesLater disks disk s disk' t
   pub told : (past : Whole) → Sound disks (point_at disk s) past → (from ≤ to)
-      × WillHold past (view t.pass) (λ w. Each IsVoid (part from to w.log)
+      × WillHold past (view t.pass) (λ w. EachEntry IsVoid (log_part from to w.log)
       × ((d : Definitions) → AreDefined d → AreRows d s.registrar.catalog → AreSelected number from w
       → text ≡ summary_text d number))
 
@@ -159,8 +159,8 @@ pub record IsSummary (number : ℕ) (text : List ℕ) : Type 0 where
 pub record HasFilled {D : Type 0} (disks : Disks D) (number : ℕ) (disk : D) (s : Store) (disk' : D) (t : Store)
     (text : List ℕ) : Type 0 where
   pub to : ℕ
-  pub between : IsBetween disks.images disk' t to
-  pub goes : Goes disks disk s disk' t
+  pub between : IsBetweenRuns disks.images disk' t to
+  pub goes : GoesLater disks disk s disk' t
   pub told : (past : Whole) → Sound disks (point_at disk s) past
       → WillHold past (view t.pass) (λ w. length w.log ≡ to → IsSampleLog number w.log × IsSummary number text)
 

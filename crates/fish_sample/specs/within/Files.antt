@@ -8,5 +8,5 @@ abbrev pub line_of : ℕ → List ℕ
 line_of i = sample_text i ++ 10 ∷ []
 
 -- those of records, in order
-abbrev pub lines_of : List ℕ → List ℕ
-lines_of numbers = flat_map line_of numbers
+abbrev pub sample_lines : List ℕ → List ℕ
+sample_lines numbers = flat_map line_of numbers

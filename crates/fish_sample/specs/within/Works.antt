@@ -10,7 +10,7 @@ use Rattle.fish_lanes.specs.declared.lane.Lane.{Lane}
 use Rattle.fish_lanes.specs.declared.work.Work.{Work}
 use Rattle.fish_lanes.specs.declared.work.Work.TheVariants as work
 use Rattle.fish_lines.specs.declared.resuming.Begin.TheVariants.{Start}
-use Rattle.fish_sample.specs.within.Files.{lines_of}
+use Rattle.fish_sample.specs.within.Files.{sample_lines}
 use Rattle.fish_sample.specs.Sample.{AreDefined, Definitions, share}
 use Rattle.fish_scan.specs.declared.ask.How.TheVariants.{Auto}
 use Rattle.fish_value.specs.declared.field.Form.TheVariants.{Json}
@@ -23,15 +23,15 @@ use Rattle.fish_value.specs.declared.value.Value.TheVariants as value
 abbrev pub Naming : Type 0
 Naming = List ℕ × Def
 
-abbrev pub register_of : Naming → Work
-register_of g = work.Register g.0 g.1
+abbrev pub register_work : Naming → Work
+register_work g = work.Register g.0 g.1
 
 -- these are the definitions, each by its name
 pub record AreNamings (d : Definitions) (works : List Work) : Type 0 where
   pub kind : Def
   pub late : Def
   pub band : Def
-  pub are : works ≡ map register_of ((codes "kind", kind) ∷ (codes "late", late) ∷ (codes "band", band) ∷ [])
+  pub are : works ≡ map register_work ((codes "kind", kind) ∷ (codes "late", late) ∷ (codes "band", band) ∷ [])
   pub kind_is : definition_of kind ≡ d.kind
   pub late_is : definition_of late ≡ d.late
   pub band_is : definition_of band ≡ d.band
@@ -46,7 +46,7 @@ pub record AreDefining (works : List Work) : Type 0 where
 pub record Defines (name source : List ℕ) (old new : List Work) : Type 0 where
   pub def : Def
   pub accepted : IsAccepted source (definition_of def)
-  pub more : new ≡ old ++ register_of (name, def) ∷ []
+  pub more : new ≡ old ++ register_work (name, def) ∷ []
 
 -- a lane that is to register them
 pub record IsDefiningLane (x : Lane) : Type 0 where
@@ -55,17 +55,17 @@ pub record IsDefiningLane (x : Lane) : Type 0 where
 
 -- ---- shares
 
-abbrev pub ingest_of : List ℕ → List ℕ → Work
-ingest_of name file = work.Ingest Json (Start false) name file
+abbrev pub ingest_work : List ℕ → List ℕ → Work
+ingest_work name file = work.Ingest Json (Start false) name file
 
 abbrev pub IsShareWork : ℕ → ℕ → Work → Type 0
-IsShareWork number lane w = (name : List ℕ) × (w ≡ ingest_of name (lines_of (share number lane)))
+IsShareWork number lane w = (name : List ℕ) × (w ≡ ingest_work name (sample_lines (share number lane)))
 
 -- a lane is to store its share
 pub record IsShareLane (number lane : ℕ) (x : Lane) : Type 0 where
   pub new : IsNewLane lane x
   pub name : List ℕ
-  pub works : x.works ≡ ingest_of name (lines_of (share number lane)) ∷ []
+  pub works : x.works ≡ ingest_work name (sample_lines (share number lane)) ∷ []
 
 -- one more lane is to
 pub record HasPushed (number count : ℕ) (old new : List Lane) : Type 0 where

@@ -56,11 +56,12 @@ IsValued v value node (Some payload) = Always v (HasValue node.number node.key v
     × ((lane : ℕ) × (form : Form) × KnowsAs v node.number (entry.Stored lane form payload))
 
 -- the row of an entry that has the value came after others
-pub record IsRowOf (v : View) (value : Value) (node : Node) (payload : List ℕ) (before after : List Row) : Type 0 where
+pub record IsNodeRowOf (v : View) (value : Value) (node : Node) (payload : List ℕ)
+    (before after : List Row) : Type 0 where
   pub valued : IsValued v value node (Some payload)
   pub added : after ≡ before ++ record { number = node.number; payload = payload } ∷ []
 
 -- or none where it has another value
 abbrev pub AddsNode : View → Value → Node → List Row → List Row → Type 0
-AddsNode v value node before after = ((payload : List ℕ) × IsRowOf v value node payload before after)
+AddsNode v value node before after = ((payload : List ℕ) × IsNodeRowOf v value node payload before after)
     ⊎ ((after ≡ before) × IsValued v value node None)

@@ -7,7 +7,7 @@ use Rattle.fish_rule.specs.Logs.{Extends}
 use Rattle.fish_rule.specs.Registry.{row_at}
 use Rattle.fish_rule.specs.Views.{Among}
 use Rattle.fish_rule.specs.declared.view.View.{View}
-use Rattle.fish_scan.specs.Intervals.{HasEndKnown, IsBegun}
+use Rattle.fish_scan.specs.Intervals.{HasEndKnown, IsBegunInterval}
 
 -- the second view is the first but for boundary words that were loaded
 pub record OnlyBoundaries (v u : View) : Type 0 where
@@ -23,13 +23,13 @@ IsUnbegun v id = (from : ℕ) → ¬ Among (record { index = row_at id 0; value 
 -- the interval of a row, if its index has begun
 abbrev pub IsTaken : View → View → ℕ → Option Interval → Type 0
 IsTaken v u id None = IsUnbegun v id
-IsTaken v u id (Some x) = IsBegun u v.learned.settled id x × HasEndKnown v id x
+IsTaken v u id (Some x) = IsBegunInterval u v.learned.settled id x × HasEndKnown v id x
 
 -- the interval of a row with the text came after others
 pub record IsAdded (v u : View) (row : Listed) (text : List ℕ) (before after : List Interval) : Type 0 where
   pub interval : Interval
   pub text_is : row.def ≡ text
-  pub begun : IsBegun u v.learned.settled row.id interval
+  pub begun : IsBegunInterval u v.learned.settled row.id interval
   pub ended : HasEndKnown v row.id interval
   pub added : after ≡ before ++ interval ∷ []
 

@@ -4,7 +4,7 @@ use Rattle.std.specs.Prelude.{ℕ, ◌≡◌, ◌+◌, ◌<◌, ◌≤◌, List,
 use Rattle.fish_catalog.specs.declared.entry.Entry.TheVariants.{Stored}
 use Rattle.fish_catalog.specs.declared.entry.Entry.{Entry}
 use Rattle.fish_lang.specs.Definition.{Definition}
-use Rattle.fish_psf.specs.Records.{Gives}
+use Rattle.fish_psf.specs.Records.{GivesValue}
 use Rattle.fish_psf.specs.SelectLaw.{FallsBelow}
 use Rattle.fish_rule.specs.Views.{Among}
 use Rattle.fish_value.specs.declared.field.Form.{Form}
@@ -15,7 +15,7 @@ use Rattle.fish_value.specs.declared.value.Value.{Value}
 abbrev pub IsOlderMatch : List Entry → Definition → Value → Row → Type 0
 IsOlderMatch entries def value row = (lane : ℕ) × (form : Form)
     × (slice_get entries row.number ≡ Some (Stored lane form row.payload))
-    × Gives def form row.payload value
+    × GivesValue def form row.payload value
 
 -- the rows are exactly the records from a number on and below another for which the definition gives the value, newest
 -- first

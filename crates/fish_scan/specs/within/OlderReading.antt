@@ -37,7 +37,7 @@ pub record IsPayloadAt (p : BodyParts) (payload : List ℕ) (before now : ℕ) :
   pub few : now ≤ before + body_lines p * 4
 
 -- the entry's record came after others, with a payload of which something is told
-pub record Takes (node : ColdNode) (id : ℕ) (value : Value) (to : ℕ) (before after : List Row) (old new : ℕ)
+pub record TakesNode (node : ColdNode) (id : ℕ) (value : Value) (to : ℕ) (before after : List Row) (old new : ℕ)
     (told : List ℕ → ℕ → ℕ → Type 0) (last : ℕ) : Type 0 where
   pub below : node.number < to
   pub id_is : node.id ≡ id
@@ -56,7 +56,7 @@ pub record Passes (node : ColdNode) (id : ℕ) (value : Value) (to : ℕ) (befor
   pub none : new ≡ old
 
 abbrev pub IsVisit : ColdNode → ℕ → Value → ℕ → List Row → List Row → ℕ → ℕ → (List ℕ → ℕ → ℕ → Type 0) → ℕ → Type 0
-IsVisit node id value to before after old new told last = Takes node id value to before after old new told last
+IsVisit node id value to before after old new told last = TakesNode node id value to before after old new told last
     ⊎ Passes node id value to before after old new last
 
 -- the place is that of the newest key entry of a bucket below the base

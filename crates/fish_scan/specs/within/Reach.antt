@@ -8,7 +8,7 @@ use Rattle.fish_rule.specs.declared.view.View.{View}
 use Rattle.fish_scan.specs.Reach.{IsExact, IsRange, Rise, WasOpen}
 use Rattle.fish_scan.specs.declared.reach.Reach.{Reach}
 use Rattle.fish_walk.specs.Looks.{HasOpens, IsLookAt}
-use Rattle.fish_walk.specs.Settling.{IsEnd, StopsAt}
+use Rattle.fish_walk.specs.Settling.{IsEnd, SettlesAt}
 use Rattle.fish_walk.specs.declared.outcome.Look.TheVariants.{Overflow, Unfinished}
 use Rattle.fish_walk.specs.declared.outcome.Look.{Look}
 
@@ -46,8 +46,8 @@ pub record AreLooks (v u : View) (first end count : ℕ) (looks : List Look) (op
   pub rise : Rise first (first + length looks) opens
 
 -- the end of a range, or the number at which the settled ones stop, which is a mark before it
-abbrev pub IsCut : View → ℕ → ℕ → ℕ → ℕ → Type 0
-IsCut v stop from end found = (found ≡ end) ⊎ ((stop < from) × (stop < end) × (found ≡ stop) × KnowsMark v stop)
+abbrev pub IsCutAt : View → ℕ → ℕ → ℕ → ℕ → Type 0
+IsCutAt v stop from end found = (found ≡ end) ⊎ ((stop < from) × (stop < end) × (found ≡ stop) × KnowsMark v stop)
 
 -- ---- the range of a scan
 
@@ -58,7 +58,7 @@ pub record IsReach (v u : View) (from : ℕ) (to : Option ℕ) (reach : Reach) :
   pub reached : IsReached u reach
   pub opened : (n : ℕ) → Among n reach.opens → u.about.number ≤ n
   -- it is settled as far as this call found: up to the count, or to a number at which it loaded no entry's word
-  pub stops_at : StopsAt IsEnd v u reach.settled range.count
+  pub stops_at : SettlesAt IsEnd v u reach.settled range.count
   -- and at least as far as the pass knew
   pub settled : v.learned.settled ≤ reach.settled
   pub reaches : reach.settled ≤ u.learned.settled

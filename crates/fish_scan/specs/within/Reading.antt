@@ -3,7 +3,7 @@ use Rattle.std.specs.Prelude.{ℕ, ◌≡◌, List, ◌++◌, Option, Some, None
 use Rattle.fish_catalog.specs.declared.entry.Entry.TheVariants as entry
 use Rattle.fish_catalog.specs.declared.entry.Entry.{Entry}
 use Rattle.fish_lang.specs.Definition.{Definition}
-use Rattle.fish_psf.specs.Records.{Gives, is_record}
+use Rattle.fish_psf.specs.Records.{GivesValue, is_record}
 use Rattle.fish_rule.specs.declared.view.View.{View}
 use Rattle.fish_scan.specs.Matching.{Finds}
 use Rattle.fish_value.specs.declared.row.Row.{Row}
@@ -17,8 +17,8 @@ IsParsable entry.Void = ⊤
 -- the payload of a record for which the definition gives the value, and none of any other entry
 abbrev pub IsMatching : Definition → Value → Entry → Option (List ℕ) → Type 0
 IsMatching def value (entry.Stored lane form payload) (Some found) =
-    (payload ≡ found) × Gives def form payload value
-IsMatching def value (entry.Stored lane form payload) None = ¬ Gives def form payload value
+    (payload ≡ found) × GivesValue def form payload value
+IsMatching def value (entry.Stored lane form payload) None = ¬ GivesValue def form payload value
 IsMatching def value entry.Void (Some found) = ⊥
 IsMatching def value entry.Void None = ⊤
 

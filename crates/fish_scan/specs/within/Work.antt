@@ -7,7 +7,7 @@ use Rattle.fish_rule.specs.Views.{Among}
 use Rattle.fish_rule.specs.declared.view.Found.{Found}
 use Rattle.fish_rule.specs.declared.view.Kind.TheVariants.{Stored}
 use Rattle.fish_rule.specs.declared.view.View.{View}
-use Rattle.fish_scan.specs.Work.{AreAllowed, IsAllowed, IsFullAllowed, IsIndexAllowed, RisesBy, words_of}
+use Rattle.fish_scan.specs.Work.{AreAllowed, IsAllowed, IsFullAllowed, IsIndexAllowed, RisesBy, words_of_found}
 use Rattle.fish_value.specs.declared.row.Row.{Row}
 use Rattle.fish_value.specs.declared.value.Value.{Value}
 
@@ -33,7 +33,7 @@ ArePiecesWork v u value opens rows pieces old new = (most : ℕ) × AreAllowed u
     × RisesBy v u old new most
 
 -- the record of a number, as it was found
-pub record IsRecordAt (v : View) (n : ℕ) (f : Found) : Type 0 where
+pub record IsFoundAt (v : View) (n : ℕ) (f : Found) : Type 0 where
   pub among : Among f v.learned.found
   pub number_is : f.number ≡ n
   pub kind : f.kind ≡ Stored
@@ -41,13 +41,13 @@ pub record IsRecordAt (v : View) (n : ℕ) (f : Found) : Type 0 where
 -- the value of an entry was compared, and where it was the one asked for its record was loaded
 abbrev pub IsComparison : View → View → Node → Option (List ℕ) → ℕ → ℕ → Type 0
 IsComparison v u node None old new = RisesBy v u old new 36
-IsComparison v u node (Some payload) old new = (f : Found) × IsRecordAt u node.number f
+IsComparison v u node (Some payload) old new = (f : Found) × IsFoundAt u node.number f
     × RisesBy v u old new (36 + f.lines * 4)
 
 -- the rows' records, one of each
 abbrev pub AreRecordsOf : View → List Row → List Found → Type 0
 AreRecordsOf v [] [] = ⊤
-AreRecordsOf v (row ∷ rows) (f ∷ found) = IsRecordAt v row.number f × AreRecordsOf v rows found
+AreRecordsOf v (row ∷ rows) (f ∷ found) = IsFoundAt v row.number f × AreRecordsOf v rows found
 AreRecordsOf v rows found = ⊥
 
 -- the rows that came after others took at most so many loads beside those of the words of their records
@@ -56,4 +56,4 @@ pub record HasLoadedRows (v u : View) (before after : List Row) (old new most : 
   pub added : after ≡ before ++ rows
   pub records : List Found
   pub are : AreRecordsOf u rows records
-  pub rises : RisesBy v u old new (most + words_of records)
+  pub rises : RisesBy v u old new (most + words_of_found records)

@@ -1,10 +1,10 @@
 -- A script while its lines are read.
 use Rattle.std.specs.Prelude.{◌≡◌, ℕ, zero, suc, ◌+◌, ◌≤◌, List, [], ◌∷◌, ◌++◌, false, count_by, length, if◌then◌else◌}
 use Rattle.fish_script.specs.Limits.{most_feeds, most_lanes}
-use Rattle.fish_script.specs.Lines.{lines}
+use Rattle.fish_script.specs.Lines.{script_lines}
 use Rattle.fish_script.specs.Positions.{AllStand, position_of}
 use Rattle.fish_script.specs.Refusals.{AllSay, HasFault, IsFeedTooMany, IsLate, Says}
-use Rattle.fish_script.specs.Script.{AreBlocks, AreLanes, AreRead, OthersFree, feeds_of, is_feed}
+use Rattle.fish_script.specs.Script.{AreBlocks, AreLaneLines, AreStatementsRead, OthersFree, feeds_of, is_feed}
 use Rattle.fish_script.specs.declared.builder.ScriptBuilder.{ScriptBuilder}
 use Rattle.fish_script.specs.declared.builder.Position.{Position}
 use Rattle.fish_script.specs.declared.builder.Position.TheVariants.{Outside, Inside}
@@ -22,8 +22,8 @@ pub record IsBegun (ws : List ScriptLine) (more feeds : ℕ) (lanes : List (List
   pub ended : List ScriptLine
   pub own : List ScriptLine
   pub lines : ws ≡ ended ++ said.Lane ∷ own
-  pub are : AreLanes ended lanes
-  pub read : AreRead own lane
+  pub are : AreLaneLines ended lanes
+  pub read : AreStatementsRead own lane
   pub count : more ≡ length lanes
   pub few : suc more ≤ most_lanes
   pub files : feeds ≡ feeds_of lanes + count_by is_feed lane
@@ -31,35 +31,35 @@ pub record IsBegun (ws : List ScriptLine) (more feeds : ℕ) (lanes : List (List
   pub free : OthersFree (lanes ++ lane ∷ [])
 
 -- the lines after `lanes` are those of an open block
-abbrev pub IsOpen : List ScriptLine → ℕ → ℕ → List (List Statement) → List Statement → Type 0
-IsOpen ws zero feeds lanes lane = (ws ≡ []) × (feeds ≡ 0) × (lanes ≡ []) × (lane ≡ [])
-IsOpen ws (suc more) feeds lanes lane = IsBegun ws more feeds lanes lane
+abbrev pub IsBlockOpen : List ScriptLine → ℕ → ℕ → List (List Statement) → List Statement → Type 0
+IsBlockOpen ws zero feeds lanes lane = (ws ≡ []) × (feeds ≡ 0) × (lanes ≡ []) × (lane ≡ [])
+IsBlockOpen ws (suc more) feeds lanes lane = IsBegun ws more feeds lanes lane
 
 -- the lines are those of the blocks, and of the open one
-abbrev pub IsWritten : List ScriptLine → Position → List Block → List (List Statement) → List Statement → Type 0
-IsWritten ws Outside blocks lanes lane = AreBlocks ws blocks × (lanes ≡ []) × (lane ≡ [])
-IsWritten ws (Inside begun feeds) blocks lanes lane = (front : List ScriptLine) × (inside : List ScriptLine)
-    × (ws ≡ front ++ said.Lanes ∷ inside) × AreBlocks front blocks × IsOpen inside begun feeds lanes lane
+abbrev pub IsScriptWritten : List ScriptLine → Position → List Block → List (List Statement) → List Statement → Type 0
+IsScriptWritten ws Outside blocks lanes lane = AreBlocks ws blocks × (lanes ≡ []) × (lane ≡ [])
+IsScriptWritten ws (Inside begun feeds) blocks lanes lane = (front : List ScriptLine) × (inside : List ScriptLine)
+    × (ws ≡ front ++ said.Lanes ∷ inside) × AreBlocks front blocks × IsBlockOpen inside begun feeds lanes lane
 
 -- the builder is that of these lines, which are all in order
 pub record HasBuilt (ws : List ScriptLine) (d : ScriptBuilder) : Type 0 where
   pub position : position_of ws ≡ d.position
   pub stand : AllStand Outside ws
-  pub written : IsWritten ws d.position d.blocks d.lanes d.lane
+  pub written : IsScriptWritten ws d.position d.blocks d.lanes d.lane
 
 -- one line more
 abbrev pub Takes : ScriptLine → ScriptBuilder → ScriptBuilder → Type 0
 Takes w old new = (ws : List ScriptLine) → HasBuilt ws old → HasBuilt (ws ++ w ∷ []) new
 
 -- one line more, which may be skipped
-abbrev pub TakesLine : List ℕ → ScriptBuilder → ScriptBuilder → Type 0
-TakesLine b old new = (ws : List ScriptLine) → HasBuilt ws old
+abbrev pub TakesScriptLine : List ℕ → ScriptBuilder → ScriptBuilder → Type 0
+TakesScriptLine b old new = (ws : List ScriptLine) → HasBuilt ws old
     → (own : List ScriptLine) × Says b own × HasBuilt (ws ++ own) new
 
 -- the line is refused for this, or memory ran out
-abbrev pub UnlessMemory : (ScriptRefusal → Type 0) → ScriptRefusal → Type 0
-UnlessMemory P refusal.OutOfMemory = Unit {0}
-UnlessMemory P e = P e
+abbrev pub UnlessOutOfMemory : (ScriptRefusal → Type 0) → ScriptRefusal → Type 0
+UnlessOutOfMemory P refusal.OutOfMemory = Unit {0}
+UnlessOutOfMemory P e = P e
 
 -- the statement came after the others
 abbrev pub Pushes : Position → Statement → ScriptBuilder → ScriptBuilder → Type 0
@@ -92,7 +92,7 @@ IsNoDefinition w n e = ⊥
 -- so many lines of the text were read, and what is left
 pub record IsSoFar (text rest : List ℕ) (number : ℕ) (d : ScriptBuilder) : Type 0 where
   pub before : List (List ℕ)
-  pub splits : lines text ≡ before ++ lines rest
+  pub splits : script_lines text ≡ before ++ script_lines rest
   pub count : length before ≡ number
   pub ws : List ScriptLine
   pub say : AllSay before ws

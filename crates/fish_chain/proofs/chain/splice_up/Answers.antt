@@ -7,14 +7,14 @@ use Rattle.fish_chain.specs.within.Links.{CanLinkBelow, Tried}
 use Rattle.fish_rule.proofs.laws.Links.{one_bucket}
 use Rattle.fish_rule.specs.ChainSteps.{aimed_at}
 use Rattle.fish_rule.specs.Passes.{view}
-use Rattle.fish_rule.specs.Table.{Stands}
+use Rattle.fish_rule.specs.Table.{IsOfMoment}
 use Rattle.fish_rule.specs.declared.view.Flight.{Flight}
 use Rattle.fish_rule.specs.declared.view.View.{View}
 use Rattle.fish_chain.proofs.chain.splice_up.Goals as goal
 
 -- what was tried for the record in flight and the bucket of the higher entry holds of any that can be shown to
 -- be these
-tried_each : (v u : View) (q place x : ℕ) (s : IsSplicing v q place x u) (o : Option ℕ) (w : View) → Stands v
+tried_each : (v u : View) (q place x : ℕ) (s : IsSplicing v q place x u) (o : Option ℕ) (w : View) → IsOfMoment v
     → Tried v s.flight s.bucket o w
     → (f : Flight) → (b : ℕ) → CanLinkBelow v f b q place → Tried v f b o w
 tried_each v u q place x s o w stands tried f b under =

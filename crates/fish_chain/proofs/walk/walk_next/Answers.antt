@@ -5,7 +5,7 @@ use Rattle.fish_chain.proofs.Descents.{behind_known, clear_past, clear_same, giv
 use Rattle.fish_chain.proofs.Descents.{next_same, numbered, passed_at, passed_by, past_known, stands_at}
 use Rattle.fish_chain.proofs.Passing.{below_or_on, bounded_ended, bounded_given, passed_last, passed_more}
 use Rattle.fish_rule.proofs.laws.Learning.{extends_both}
-use Rattle.fish_chain.specs.Walks.{IsNextNode, IsPast, IsWalking}
+use Rattle.fish_chain.specs.Walks.{IsNextNode, IsPastPlace, IsWalking}
 use Rattle.fish_chain.specs.declared.walk.Node.{Node}
 use Rattle.fish_layout.specs.Entry.{entry_number}
 use Rattle.fish_rule.specs.Logs.{Extends}
@@ -168,6 +168,6 @@ returns-clause-gave g c =
       clear_same (view c.keep_walk-2.new.pass) walk (walk_of c.args.pass.now) 0 inv.range inv.given
           (subst (λ (z : View). Always z (IsClear walk.bucket walk.from walk.to walk.given 0))
           (sym c.keep_walk-2.ensures.view) clear),
-      subst (λ (z : View × Walk). IsPast z.0 z.1.place)
+      subst (λ (z : View × Walk). IsPastPlace z.0 z.1.place)
           (λ i. (sym c.keep_walk-2.ensures.view i, sym c.keep_walk-2.ensures.walk i)) past,
     )

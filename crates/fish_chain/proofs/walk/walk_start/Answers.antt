@@ -1,7 +1,7 @@
 -- The head that was seen is where the walk begins.
 use Rattle.std.proofs.Common.{◌≡◌, ℕ, ◌+◌, ◌*◌, ◌≤◌, sym, ap, ◌∙◌, subst, ⊎_elim, arith}
 use Rattle.fish_chain.proofs.Descents.{begun_at, first_known}
-use Rattle.fish_chain.specs.Walks.{HasBegun, IsPast}
+use Rattle.fish_chain.specs.Walks.{HasBegunWalk, IsPastPlace}
 use Rattle.fish_rule.proofs.laws.Descents.{head_here}
 use Rattle.fish_rule.proofs.laws.Links.{node_law}
 use Rattle.fish_rule.specs.ChainSteps.{HasNode, after_load_head}
@@ -13,7 +13,7 @@ use Rattle.fish_rule.specs.declared.view.View.{View}
 use Rattle.fish_chain.proofs.walk.walk_start.Goals as goal
 
 -- a place that is none of the table's is at most the base's
-past_bound : (k : Key) (v : View) (x : ℕ) → v.about ≡ k → IsPast v x → x ≤ k.line * 4
+past_bound : (k : Key) (v : View) (x : ℕ) → v.about ≡ k → IsPastPlace v x → x ≤ k.line * 4
 past_bound k v x about past = subst (λ (z : Key). x ≤ z.line * 4) about past
 
 pub overflow_add-walk : goal.overflow_add-walk
@@ -26,7 +26,7 @@ overflow_add-walk g c =
     let here = head_here v c.from.result x in
     let some_ = c.args.log.now.fits.some_lines in
     let first = past_bound key v x c.requires.pass.about in
-    ⊎_elim (λ (e : IsPast v x). let least = first e in omega arith)
+    ⊎_elim (λ (e : IsPastPlace v x). let least = first e in omega arith)
     (λ (m : HasNode (after_load_head v c.from.result x) c.from.result x).
     let node : HasNode u c.from.result x =
     subst (λ (z : View). HasNode z c.from.result x) (sym c.load_head-place.ensures.view) m in
@@ -59,7 +59,7 @@ returns-clause-begun g c =
       given = x + 1;
       place = x;
     }) in
-    subst (λ (z : View × Walk). HasBegun z.0 z.1 c.args.bucket c.args.from c.args.to) (λ i. (sym same i, sym walk i))
+    subst (λ (z : View × Walk). HasBegunWalk z.0 z.1 c.args.bucket c.args.from c.args.to) (λ i. (sym same i, sym walk i))
     (begun_at v c.args.bucket c.args.from c.args.to x c.requires.settled
     (first_known c.args.log.now.key v c.args.bucket x c.requires.pass.about
     (subst (λ (z : ℕ). x ≤ c.args.log.now.key.line * 4 → x ≡ first_head c.args.log.now.key z) bucket

@@ -2,7 +2,7 @@
 use Rattle.std.proofs.Common.{◌*◌, ◌∙◌, ap, arith, drop, subst}
 use Rattle.std.proofs.lemmas.Option.{get_or_from_slice_get}
 use Rattle.fish_layout.proofs.Outlines.{range_from}
-use Rattle.fish_cold.specs.Answers.{Answers, LoadsWords}
+use Rattle.fish_cold.specs.Answers.{AnswersEntry, LoadsWords}
 use Rattle.fish_cold.proofs.RegionHeads.{leads_within}
 use Rattle.fish_cold.proofs.decoding.entry_in.Goals as goal
 
@@ -15,7 +15,7 @@ returns-then-words-line-clause-entry g c first line regions leads =
 pub returns-clause-entry : goal.returns-clause-entry
 returns-clause-entry g c first line regions leads =
     let is = get_or_from_slice_get c.args.regions.now c.args.at line 0 (regions c.args.at line leads) in
-    subst (λ l. Answers c.args.number l c.entry_at.result)
+    subst (λ l. AnswersEntry c.args.number l c.entry_at.result)
     (range_from c.args.words.now _ ∙ ap (λ n. drop (4 * n) c.args.words.now) is) c.entry_at.ensures.entry
 
 pub returns-clause-loads : goal.returns-clause-loads

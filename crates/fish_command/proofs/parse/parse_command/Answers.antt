@@ -3,7 +3,7 @@ use Rattle.std.proofs.Common.{ap, refl, ◌∙◌, rules}
 use Rattle.std.specs.Prelude.{Some, Ok}
 use Rattle.std.proofs.lemmas.Result.{IfErr-weaker, IfOk-weaker}
 use Rattle.fish_command.specs.Command.{asked_of}
-use Rattle.fish_command.proofs.Outcomes.{IsCommand-none, IsCommand-read, IsRefused-read, request_of-parts}
+use Rattle.fish_command.proofs.Outcomes.{IsCommand-none, IsCommand-read, IsCommandRefused-read, request_of-parts}
 use Rattle.fish_command.proofs.parse.parse_command.Goals as goal
 
 pub returns-in-Some-Select-clause-ok : goal.returns-in-Some-Select-clause-ok
@@ -17,7 +17,7 @@ pub returns-in-Some-Select-clause-refused : goal.returns-in-Some-Select-clause-r
 returns-in-Some-Select-clause-refused c =
     let parts = request_of-parts c.args.words.now c.in_ok-def.field-0 _ c.in_ok-def.ensures.parts
     (c.in-Some-Select.is ∙ ap Some c.in-Some-Select.field-0-is) in
-    IfErr-weaker c.read_select.result _ _ (λ refusal refused. IsRefused-read _ _ refusal parts refused)
+    IfErr-weaker c.read_select.result _ _ (λ refusal refused. IsCommandRefused-read _ _ refusal parts refused)
     c.read_select.ensures.refused
 
 pub returns-in-Some-Run-clause-ok : goal.returns-in-Some-Run-clause-ok

@@ -9,7 +9,7 @@ use Rattle.fish_rule.specs.declared.view.Key.{Key}
 use Rattle.fish_rule.specs.declared.view.View.{View}
 use Rattle.fish_epoch.proofs.Reading.{known_listing, made_registered, operation_read, reads_both, reads_word}
 use Rattle.fish_epoch.proofs.Reading.{registered_known}
-use Rattle.fish_epoch.specs.Rows.{OnlyReads}
+use Rattle.fish_epoch.specs.Rows.{OnlyLearns}
 use Rattle.fish_epoch.specs.within.Rows.{HasRow}
 use Rattle.fish_epoch.proofs.rows.make.Goals as goal
 
@@ -24,7 +24,7 @@ from_here : (k : Key) (v : View) (n : ℕ) → v.about ≡ k → k.version ≤ n
 from_here k v n about from = subst (λ (z : Key). z.version ≤ n) (sym about) from
 
 -- to read the operation and then the row only reads
-reads_row : (v u t : View) (p x : ℕ) → u ≡ Rattle.fish_rule.specs.RegistrySteps.after_load_registry v p x → OnlyReads u t → OnlyReads v t
+reads_row : (v u t : View) (p x : ℕ) → u ≡ Rattle.fish_rule.specs.RegistrySteps.after_load_registry v p x → OnlyLearns u t → OnlyLearns v t
 reads_row v u t p x e = reads_both v u t (reads_word v u p x e)
 
 pub registered_row-requires-clause-row : goal.registered_row-requires-clause-row

@@ -6,7 +6,7 @@ use Rattle.fish_feed.proofs.Lists.{get_at, pairs_push}
 use Rattle.fish_feed.proofs.Opening.{free_at}
 use Rattle.fish_feed.proofs.Queues.{dues_later}
 use Rattle.fish_feed.specs.Queues.{AreFitTodos, IsDue}
-use Rattle.fish_feed.specs.Works.{Pairs}
+use Rattle.fish_script.specs.Laws.{Pairs}
 use Rattle.fish_feed.specs.declared.queue.Todo.{Todo}
 use Rattle.fish_outside.proofs.ContentLemmas.{SameFiles_trans}
 use Rattle.fish_script.specs.declared.script.Statement.{Statement}

@@ -1,7 +1,7 @@
 -- The statements so far are to be given, over files that are still told.
 use Rattle.std.proofs.Common.{◌≡◌, ◌≤◌, Bool, false, take}
 use Rattle.fish_feed.specs.Queues.{AreFitTodos, IsDue}
-use Rattle.fish_feed.specs.Works.{Pairs}
+use Rattle.fish_script.specs.Laws.{Pairs}
 use Rattle.fish_outside.specs.Content.{SameFiles}
 use Rattle.fish_script.specs.Script.{AreFree}
 use Rattle.fish_feed.proofs.building.open_lane.Given as goal

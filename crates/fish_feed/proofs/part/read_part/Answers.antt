@@ -2,8 +2,8 @@
 use Rattle.std.proofs.Common.{rules, ◌≡◌, ◌≤◌, None, Option, false, subst, sym}
 use Rattle.std.specs.Prelude.{IfSome}
 use Rattle.fish_feed.specs.OpenFiles.{GivesPart}
-use Rattle.fish_feed.specs.Parts.{longest_read}
-use Rattle.fish_feed.specs.Works.{bytes_in}
+use Rattle.fish_feed.specs.Parts.{longest_csv_read}
+use Rattle.fish_feed.specs.Works.{bytes_in_work}
 use Rattle.fish_lanes.specs.declared.work.Work.{Work}
 use Rattle.fish_feed.proofs.Reading.{can_none, gives_later, read_both, rest_full}
 use Rattle.fish_feed.proofs.part.read_part.Goals as goal
@@ -18,7 +18,7 @@ returns-clause-part g c =
     let none_2 : c.in_ok-part-2.field-0 ≡ None = search rules in
     let well : n.failed ≡ false = search rules in
     record {
-      few = subst (λ (w : Work). bytes_in w ≤ longest_read) (sym c.in_ok-work.ensures.work) c.in_ok-part-2.ensures.can.short;
+      few = subst (λ (w : Work). bytes_in_work w ≤ longest_csv_read) (sym c.in_ok-work.ensures.work) c.in_ok-part-2.ensures.can.short;
       one = λ last. absurd cc;
       rest = λ last. rest_full left o n c.rest_of.new.file c.in_ok-work.work
           (read_both left o m n (c.in_ok-part.ensures.none none) (c.in_ok-part-2.ensures.none none_2)) c.in_ok-part-2.ensures.can.short

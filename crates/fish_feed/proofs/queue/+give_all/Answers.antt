@@ -2,7 +2,7 @@
 use Rattle.std.proofs.Common.{rules, ◌≡◌, ◌∷◌, List, ap, arith, length, subst, sym}
 use Rattle.fish_feed.proofs.Giving.{both_none, idle_given, idle_may, no_elements}
 use Rattle.fish_feed.proofs.GivingAll.{causes_all, gives_all}
-use Rattle.fish_feed.specs.Giving.{Gives}
+use Rattle.fish_feed.specs.Giving.{GivesWorks}
 use Rattle.fish_feed.specs.Queues.{IsQueue, both, left_of_all, works_of}
 use Rattle.fish_feed.specs.Works.{Triples}
 use Rattle.fish_feed.specs.declared.queue.Queue.{Queue}
@@ -46,10 +46,10 @@ returns-clause-gives g t c =
     let all_lanes : c.args.lanes.now ≡ x ∷ xs = search rules in
     let one = c.give_one-first.ensures in
     let others = c.give_all-others.ensures in
-    subst (λ (z : List (Queue g.row.H-Feed.Denot)). Gives left faults old new z (r ∷ rs) c.args.lanes.now (y ∷ ys) c.and.result)
+    subst (λ (z : List (Queue g.row.H-Feed.Denot)). GivesWorks left faults old new z (r ∷ rs) c.args.lanes.now (y ∷ ys) c.and.result)
     (sym all)
-    (subst (λ (z : List Lane). Gives left faults old new (q ∷ qs) (r ∷ rs) z (y ∷ ys) c.and.result) (sym all_lanes)
-    (subst (Gives left faults old new (q ∷ qs) (r ∷ rs) (x ∷ xs) (y ∷ ys)) (sym c.and.ensures)
+    (subst (λ (z : List Lane). GivesWorks left faults old new (q ∷ qs) (r ∷ rs) z (y ∷ ys) c.and.result) (sym all_lanes)
+    (subst (GivesWorks left faults old new (q ∷ qs) (r ∷ rs) (x ∷ xs) (y ∷ ys)) (sym c.and.ensures)
     (gives_all left faults old mid new one.content others.content q r qs rs x y xs ys c.give_one-first.result
     c.give_all-others.result one.given one.failed one.lane one.fit one.less others.gives)))
 

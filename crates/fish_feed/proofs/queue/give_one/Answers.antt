@@ -5,9 +5,9 @@ use Rattle.std.specs.Prelude.{IfSome, is_some, option_to_list}
 use Rattle.fish_feed.proofs.Fit.{anew_more, bytes_push, first_or_anew, given_more, may_push, may_queue, none_or_full}
 use Rattle.fish_feed.proofs.Giving.{lane_with}
 use Rattle.fish_feed.proofs.Told.{still_self}
-use Rattle.fish_feed.specs.Queues.{IsQueue, MayDo, MayDoAll, MayEnd, left_of}
-use Rattle.fish_feed.specs.Parts.{longest_read}
-use Rattle.fish_feed.specs.Works.{AreAnew, AreAnewAfterFirst, IsAnew, bytes_in, bytes_of}
+use Rattle.fish_feed.specs.Queues.{IsQueue, MayDo, MayDoAll, MayEndFeed, left_of}
+use Rattle.fish_feed.specs.Parts.{longest_csv_read}
+use Rattle.fish_feed.specs.Works.{AreAnew, AreAnewAfterFirst, IsAnew, bytes_in_work, bytes_in_works}
 use Rattle.fish_lanes.specs.declared.work.Work.{Work}
 use Rattle.fish_outside.proofs.ContentLemmas.{SameFiles_trans}
 use Rattle.fish_feed.proofs.queue.give_one.Goals as goal
@@ -20,8 +20,8 @@ loop-most-init g c = record {
   lane = refl;
   fit = λ first h. (h, subst (MayDoAll first) (sym c.requires.empty) tt);
   one = subst AreAnewAfterFirst (sym c.requires.empty) tt;
-  room = λ some. (let none = ap bytes_of c.requires.empty in omega (none, arith));
-  few = (let none = ap bytes_of c.requires.empty in omega (none, arith));
+  room = λ some. (let none = ap bytes_in_works c.requires.empty in omega (none, arith));
+  few = (let none = ap bytes_in_works c.requires.empty in omega (none, arith));
   last = inl c.requires.empty;
   down = omega arith;
   falls = inl refl;
@@ -54,12 +54,12 @@ loop-most-preserved g c =
     let q = c.next.new.queue in
     let is : c.in-Ok-Some.field-0 ≡ Some w = c.in-Ok-Some.field-0-is in
     let pushed : c.push.new.self ≡ works ++ w ∷ [] = c.in-Ok.ensures.ok in
-    let took : (bytes_in w ≤ longest_read) × (left_of q < left_of c.loop-most.queue) =
-    subst (λ (z : Option Work). IfSome z (λ x. (bytes_in x ≤ longest_read) × (left_of q < left_of c.loop-most.queue))) is
+    let took : (bytes_in_work w ≤ longest_csv_read) × (left_of q < left_of c.loop-most.queue) =
+    subst (λ (z : Option Work). IfSome z (λ x. (bytes_in_work x ≤ longest_csv_read) × (left_of q < left_of c.loop-most.queue))) is
     c.in-Ok-Some.ensures.some in
     let less = took.1 in
     let size = took.0 in
-    let sum = ap bytes_of pushed ∙ bytes_push works w in
+    let sum = ap bytes_in_works pushed ∙ bytes_push works w in
     let down = inv.down in
     let sub = c.room_after-most.ensures.less in
     let test = c.loop-most-test.true in
@@ -101,7 +101,7 @@ returns-in-Err-push-clause-failed g c = λ ss given h.
     let left = g.H.Feed.Source.left in
     let works = c.loop-most.lane.works in
     let q = c.next.new.queue in
-    subst (λ (z : List Work). MayEnd new left ss (given ++ z) q) (sym c.in-Err-push.ensures.err)
+    subst (λ (z : List Work). MayEndFeed new left ss (given ++ z) q) (sym c.in-Err-push.ensures.err)
     (may_queue new left ss (given ++ works) q (option_to_list c.in-Ok-Some.field-0)
     (c.in-Ok-Some.ensures.given ss (given ++ works) (c.loop-most.invariant.given ss given h)))
 

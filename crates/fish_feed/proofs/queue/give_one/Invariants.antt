@@ -1,8 +1,8 @@
 -- The lane has what was given so far, and the queue the rest.
 use Rattle.std.proofs.Common.{◌≡◌, ◌+◌, ◌<◌, ◌≤◌, ◌⊎◌, ◌++◌, [], List, Bool, None}
-use Rattle.fish_feed.specs.Queues.{IsFit, IsQueue, MayDoAll, left_of}
+use Rattle.fish_feed.specs.Queues.{IsFitQueue, IsQueue, MayDoAll, left_of}
 use Rattle.fish_feed.specs.Parts.{longest_given}
-use Rattle.fish_feed.specs.Works.{AreAnewAfterFirst, bytes_of}
+use Rattle.fish_feed.specs.Works.{AreAnewAfterFirst, bytes_in_works}
 use Rattle.fish_lanes.specs.declared.work.Work.{Work}
 use Rattle.fish_outside.specs.Content.{SameFiles}
 use Rattle.fish_script.specs.declared.script.Statement.{Statement}
@@ -14,11 +14,11 @@ invariant-loop-most g l = record {
       → IsQueue (g.H.Host.files l.host) g.H.Feed.Source.left ss (given ++ l.lane.works) l.queue;
   most : l.most ≤ 1048576;
   lane : l.lane ≡ record l.fn.lane { works = l.lane.works };
-  fit : (first : Bool) → IsFit g.H.Feed.Source.faults first l.fn.queue
-      → IsFit g.H.Feed.Source.faults first l.queue × MayDoAll first l.lane.works;
+  fit : (first : Bool) → IsFitQueue g.H.Feed.Source.faults first l.fn.queue
+      → IsFitQueue g.H.Feed.Source.faults first l.queue × MayDoAll first l.lane.works;
   one : AreAnewAfterFirst l.lane.works;
-  room : 0 < l.most → bytes_of l.lane.works + l.most ≤ 1048576;
-  few : bytes_of l.lane.works ≤ longest_given;
+  room : 0 < l.most → bytes_in_works l.lane.works + l.most ≤ 1048576;
+  few : bytes_in_works l.lane.works ≤ longest_given;
   last : (l.lane.works ≡ []) ⊎ ((l.most ≡ 0) ⊎ (l.queue.current ≡ None));
   down : left_of l.queue ≤ left_of l.fn.queue;
   falls : (l.most ≡ 1048576) ⊎ (left_of l.queue < left_of l.fn.queue);

@@ -2,7 +2,7 @@
 use Rattle.std.proofs.Common.{rules, ◌≡◌, ◌<◌, ◌++◌, ◌∙◌, List, None, append-nil, ap, arith, subst}
 use Rattle.std.specs.Prelude.{IfSome, Option, Some, option_to_list}
 use Rattle.fish_feed.proofs.Fit.{if_err, if_ok, stores_anew, stores_bytes}
-use Rattle.fish_feed.specs.Queues.{IsQueue, MayDoAll, MayEnd, left_of}
+use Rattle.fish_feed.specs.Queues.{IsQueue, MayDoAll, MayEndFeed, left_of}
 use Rattle.fish_feed.specs.Works.{AreAnew, StoresNone}
 use Rattle.fish_lanes.specs.declared.work.Work.{Work}
 use Rattle.fish_script.specs.declared.script.Statement.{Statement}
@@ -18,7 +18,7 @@ returns-in_err-read_open-clause-failed g c =
     let m = c.open_next.new.queue in
     let none : c.open_next.result ≡ None = search rules in
     if_err c.from_residual.result ((ss : List Statement) (given : List Work) → IsQueue told left ss given c.args.queue.now
-    → MayEnd (g.H.Host.files c.read_open.new.host) left ss given c.read_open.new.queue)
+    → MayEndFeed (g.H.Host.files c.read_open.new.host) left ss given c.read_open.new.queue)
     (λ ss given h. c.in_err-read_open.ensures.failed ss given
     (subst (λ (z : List Work). IsQueue told left ss z m)
     (ap (λ (z : Option Work). given ++ option_to_list z) none ∙ append-nil given) (c.open_next.ensures.queue told ss given h)))

@@ -4,7 +4,7 @@ use Rattle.std.proofs.lemmas.Result.{on_ok_weaker}
 use Rattle.fish_disk.specs.Crash.{TornFrom}
 use Rattle.fish_disk.proofs.Moments.{leaves_more, leaves_then}
 use Rattle.fish_slots.specs.Offsets.{gate_at}
-use Rattle.fish_slots.specs.Slots.{line_count, lines_of}
+use Rattle.fish_slots.specs.Slots.{line_count, lines_in_slot}
 use Rattle.fish_slots.proofs.Keeping.{one_gates, other_gate}
 use Rattle.fish_flush.specs.within.Writing.{EitherCommit, IsSealed}
 use Rattle.fish_flush.proofs.Images.{closed_new, closing_gates, closing_new, sealed_either, sealed_gate, sealed_gates}
@@ -21,7 +21,7 @@ open_gate-requires-clause-sealed g c = λ e f here there.
     let one = h.4.each e here in
     let other = h.4.each f there in (
       one.new_body ∙ sym other.new_body,
-      subst (λ (l : List ℕ). lines_of (line_count l) e ≡ lines_of (line_count l) f) (sym other.new_body)
+      subst (λ (l : List ℕ). lines_in_slot (line_count l) e ≡ lines_in_slot (line_count l) f) (sym other.new_body)
           (one.new_lines ∙ sym other.new_lines),
     )
 

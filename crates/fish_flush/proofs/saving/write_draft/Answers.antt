@@ -11,7 +11,7 @@ use Rattle.fish_flush.specs.within.Writing.{EitherCommit, GrowsBy}
 use Rattle.fish_image.proofs.Spelling.{told_length}
 use Rattle.fish_rule.specs.Passes.{view}
 use Rattle.fish_rule.specs.declared.view.Key.{Key}
-use Rattle.fish_slots.specs.Commits.{Rests}
+use Rattle.fish_slots.specs.Commits.{SlotRests}
 use Rattle.fish_slots.specs.Offsets.{lines_at}
 use Rattle.fish_flush.proofs.saving.write_draft.Goals as goal
 
@@ -101,7 +101,7 @@ returns-clause-saved g c =
     c.args.flusher.now c.args.draft.now c.write_settled.new.batch done.0 crash.0 c.write_settled.ensures.extends
     c.write_settled.ensures.pass.stands done.1 done.2 crash.1 rows e old h
     c.put_body.new.disk
-    (λ i here. subst (λ (z : List ℕ). Rests (1 - f.slot) z (h.rest.lines ++ done.0) i) c.as_bytes.ensures
+    (λ i here. subst (λ (z : List ℕ). SlotRests (1 - f.slot) z (h.rest.lines ++ done.0) i) c.as_bytes.ensures
     (put f.line h.rest.body h.rest.lines done.0
     (subst (λ (z : List ℕ). GrowsBy disk.content disk.images c.write_settled.new.disk (1 - f.slot) f.line h.rest.body h.rest.lines z
     done.0) (sym c.as_bytes.ensures)

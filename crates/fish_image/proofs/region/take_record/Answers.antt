@@ -6,15 +6,15 @@ use Rattle.fish_layout.proofs.Once.{body_once}
 use Rattle.fish_layout.specs.Body.{IsBody}
 use Rattle.fish_layout.specs.declared.parts.BodyParts.{BodyParts}
 use Rattle.fish_image.specs.Log.{IsKeptAt, IsRecordAt, behind_record}
-use Rattle.fish_image.specs.within.Progress.{Took}
+use Rattle.fish_image.specs.within.Progress.{TookRegion}
 use Rattle.fish_image.specs.Reached.{Reached}
 use Rattle.fish_image.specs.declared.progress.Progress.{Progress}
 use Rattle.fish_image.proofs.region.take_record.Goals as goal
 
 -- what is asked of the parts is asked of the record
 of_parts : (yes : Bool) (c : Commit) (s : Reached) (lines : ℕ) (r : List ℕ) (p : BodyParts) (new : Progress) → length r ≡ 4 * lines
-    → IsBody p r → p.number ≡ s.number → Took yes c (λ n. IsKeptAt c s lines p × (n ≡ behind_record c s lines p)) new
-    → Took yes c (λ n. (q : BodyParts) × IsRecordAt c s lines r q × (n ≡ behind_record c s lines q)) new
+    → IsBody p r → p.number ≡ s.number → TookRegion yes c (λ n. IsKeptAt c s lines p × (n ≡ behind_record c s lines p)) new
+    → TookRegion yes c (λ n. (q : BodyParts) × IsRecordAt c s lines r q × (n ≡ behind_record c s lines q)) new
 of_parts true c s lines r p new size body number = λ took.
     (took.0, (p, record { size = size; body = body; number = number; kept = took.1.0 }, took.1.1), took.2)
 of_parts false c s lines r p new size body number = λ none n follows.

@@ -8,7 +8,7 @@ use Rattle.fish_claim.specs.Fills.{CanFill}
 use Rattle.fish_ingest.proofs.PlacementBody.{numbered}
 use Rattle.fish_ingest.proofs.PlacementWords.{IsWriting, can_fill, parts_at, writing_done, writing_links, writing_more}
 use Rattle.fish_ingest.proofs.PlacementWords.{writing_stored}
-use Rattle.fish_ingest.specs.Placement.{HasWritten}
+use Rattle.fish_ingest.specs.Placement.{HasWrittenRegion}
 use Rattle.fish_layout.proofs.Sizes.{few_keys_of}
 use Rattle.fish_layout.specs.Body.{IsBody}
 use Rattle.fish_layout.specs.Hash.{bucket_in, key_hash_of}
@@ -17,7 +17,7 @@ use Rattle.fish_rule.proofs.laws.Regions.{one_flight}
 use Rattle.fish_rule.proofs.laws.Steps.{flight_law}
 use Rattle.fish_rule.specs.Flying.{region_in}
 use Rattle.fish_rule.specs.Passes.{view}
-use Rattle.fish_rule.specs.Table.{Stands}
+use Rattle.fish_rule.specs.Table.{IsOfMoment}
 use Rattle.fish_rule.specs.declared.table.Region.{Region}
 use Rattle.fish_rule.specs.declared.view.Flight.{Flight}
 use Rattle.fish_rule.specs.declared.view.Key.{Key}
@@ -31,7 +31,7 @@ number_is v f r o flying is kept =
     ap (λ (z : Region). z.number) (in_region v.flight f r flying (sym is ∙ kept))
 
 -- it has 28 bits
-few_number : (v : View) (f : Flight) (r : Region) (o : Option Region) → Stands v → v.flight ≡ Some f → o ≡ Some r
+few_number : (v : View) (f : Flight) (r : Region) (o : Option Region) → IsOfMoment v → v.flight ≡ Some f → o ≡ Some r
     → o ≡ region_in v.flight → r.number < 2 ^ 28
 few_number v f r o stands flying is kept =
     let few = (flight_law v.about v f refl stands flying).number in
@@ -126,7 +126,7 @@ returns-clause-written c f flying =
     let size = ap length (c.as_slice-key-items.ensures ∙ can.fits.made.1) in
     let all : c.loop-position.position ≡ length p.keys =
     (let t = c.loop-position-test.false in let e = c.loop-position.auto.position-end in omega arith) in
-    subst (λ (z : Flight). HasWritten v z (view c.loop-position.pass)) same
+    subst (λ (z : Flight). HasWrittenRegion v z (view c.loop-position.pass)) same
     (writing_done v g p c.loop-position.position (view c.loop-position.pass) s all)
 
 -- its words are those of the record that was prepared

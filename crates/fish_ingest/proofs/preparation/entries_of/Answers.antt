@@ -3,11 +3,11 @@ use Rattle.std.proofs.Common.{All, List, subst, sym}
 use Rattle.fish_lang.specs.Definition.{definition_of}
 use Rattle.fish_value.specs.declared.value.Value.{Value}
 use Rattle.fish_ingest.proofs.PreparationKeys.{entries_more, values_short}
-use Rattle.fish_ingest.specs.within.Preparation.{AreMore, IsShort}
+use Rattle.fish_ingest.specs.within.Preparation.{AreMore, IsShortValue}
 use Rattle.fish_ingest.proofs.preparation.entries_of.Goals as goal
 
 pub push_given-requires : goal.push_given-requires
-push_given-requires g c = subst (All IsShort) (sym c.in_ok-evaluate.ensures)
+push_given-requires g c = subst (All IsShortValue) (sym c.in_ok-evaluate.ensures)
     (values_short (definition_of c.active-item.result.def) (g.R.Parsed.fields c.args.found.now))
 
 pub loop-active-preserved : goal.loop-active-preserved

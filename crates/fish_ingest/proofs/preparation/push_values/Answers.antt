@@ -4,7 +4,7 @@ use Rattle.std.proofs.lemmas.List.Elements.{All-head, All-tail}
 use Rattle.std.specs.Vec.Iter.{into_iter_items}
 use Rattle.fish_value.specs.declared.value.Value.{Value}
 use Rattle.fish_ingest.proofs.PreparationKeys.{more_more, none_more}
-use Rattle.fish_ingest.specs.within.Preparation.{AreMore, IsShort}
+use Rattle.fish_ingest.specs.within.Preparation.{AreMore, IsShortValue}
 use Rattle.fish_ingest.proofs.preparation.push_values.Goals as goal
 
 nothing_left : {X : Type 0} (l : List X) → length l ≡ 0 → l ≡ []
@@ -14,7 +14,7 @@ nothing_left (x ∷ xs) h = absurd (omega arith)
 pub push_entry-requires : goal.push_entry-requires
 push_entry-requires c =
     let steps = c.in-Some.ensures.steps.0 in
-    All-head IsShort c.in-Some.value (into_iter_items c.next.new.self) (subst (All IsShort) steps c.loop-value.invariant.3)
+    All-head IsShortValue c.in-Some.value (into_iter_items c.next.new.self) (subst (All IsShortValue) steps c.loop-value.invariant.3)
 
 pub loop-value-preserved : goal.loop-value-preserved
 loop-value-preserved c =
@@ -27,7 +27,7 @@ loop-value-preserved c =
           let gone = c.in-Some.ensures.steps.1 in
           let short = ap length steps in
           omega arith,
-      All-tail IsShort x (into_iter_items c.next.new.self) (subst (All IsShort) steps at.invariant.3),
+      All-tail IsShortValue x (into_iter_items c.next.new.self) (subst (All IsShortValue) steps at.invariant.3),
     )
 
 pub returns : goal.returns

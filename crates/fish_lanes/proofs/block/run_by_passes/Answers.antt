@@ -11,7 +11,7 @@ use Rattle.fish_lanes.proofs.Lanes.{seated_ready}
 use Rattle.fish_lanes.proofs.Lists.{at_places}
 use Rattle.fish_lanes.proofs.Moments.{get_there}
 use Rattle.fish_lanes.specs.CommitRows.{LeavesRowsOf}
-use Rattle.fish_lanes.specs.Controlling.{IsCommitted}
+use Rattle.fish_lanes.specs.Controlling.{IsCheckpointAtMost}
 use Rattle.fish_lanes.specs.Outcome.{Stops}
 use Rattle.fish_lanes.specs.Registering.{Registry, registry_of}
 use Rattle.fish_lanes.specs.within.Course.{AllRan}
@@ -188,7 +188,8 @@ returns g c =
             (stops_later Was Past mid high high x.0.fault (omega arith)
             (behind_run disk before gave then read gives did.still.goes reads key did.still.can.of.about)
             (c.finish_others.ensures.stops i x.0 x.1))));
-        committed = subst (λ (f : Flusher). AllOf (IsCommitted f.count) items) (sym c.finish_others.ensures.reads.flusher) did.committed;
+        committed = subst (λ (f : Flusher). AllOf (IsCheckpointAtMost f.count) items)
+            (sym c.finish_others.ensures.reads.flusher) did.committed;
         rows = left_read disk c.args.disk.now (registry_of v c.args.registrar.now) c.run_all.new.disk c.finish_others.new.disk items
             (subst (λ (z : Registry). LeavesRowsOf disk c.args.disk.now c.run_all.new.disk z items)
             (given_registry v m c.args.registrar.now given.learned) did.rows)

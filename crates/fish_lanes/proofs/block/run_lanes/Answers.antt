@@ -10,8 +10,8 @@ use Rattle.fish_lanes.proofs.Single.{only_end}
 use Rattle.fish_lanes.proofs.Stepping.{stays_pass}
 use Rattle.fish_lanes.specs.Blocks.{HasRegistered}
 use Rattle.fish_lanes.specs.CommitRows.{LeavesRowsOf}
-use Rattle.fish_lanes.specs.Controlling.{IsCommitted}
-use Rattle.fish_lanes.specs.Ending.{HasEnd}
+use Rattle.fish_lanes.specs.Controlling.{IsCheckpointAtMost}
+use Rattle.fish_lanes.specs.Ending.{EndsAlone}
 use Rattle.fish_lanes.specs.Outcome.{SaysAloneBy}
 use Rattle.fish_lanes.specs.Registering.{registry_of}
 use Rattle.fish_lanes.specs.declared.lane.Lane.{Lane}
@@ -69,7 +69,8 @@ returns-clause-store g c =
       again = λ fine. may_stays disk ran after stays (did.still.again (fine first refl));
       ends = has_end course.run course.back ended c.requires.end stands;
       later = is_later course.run course.back ended c.requires.end stands;
-      committed = first_there (λ (z : Lane). AllOf (IsCommitted c.run_by_passes.new.file.flusher.count) z.items) first others did.committed;
+      committed = first_there (λ (z : Lane). AllOf
+          (IsCheckpointAtMost c.run_by_passes.new.file.flusher.count) z.items) first others did.committed;
       rows = first_there (λ (z : Lane). LeavesRowsOf disk c.args.disk.now c.run_by_passes.new.disk
           (registry_of (view c.args.control.now) c.args.registrar.now) z.items) first others did.rows;
     }
@@ -138,7 +139,7 @@ returns-clause-items g c =
             closed = first.controlled.closed (subst IsAlone (sym given) c.requires.end.1.alone);
             only = λ end e wait. only_end Past v course.run.control course.ran (view c.run_by_passes.new.control) ended.bound t r.catalog
                 end y.works y.works y.items given (course.back.takes.none (omega arith)) ended.changes ended.settles refl
-                (first.controlled.only end (subst (λ (z : View). HasEnd z end) (sym given) e) wait);
+                (first.controlled.only end (subst (λ (z : View). EndsAlone z end) (sym given) e) wait);
           });
       plans = all_plans course.run course.back ended c.requires.end stands c.requires.run.can.knows c.requires.known;
     }

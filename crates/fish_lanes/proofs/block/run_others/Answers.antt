@@ -3,7 +3,7 @@ use Rattle.std.proofs.Common.{sym, subst}
 use Rattle.std.proofs.Crossing.{crosses}
 use denote.Param.Send.{sendable}
 use Rattle.fish_lanes.proofs.Crossing.{lane_send}
-use Rattle.fish_lanes.specs.within.Running.{IsReady}
+use Rattle.fish_lanes.specs.within.Running.{IsLaneReady}
 use Rattle.fish_rule.proofs.laws.Crossing.{log_sync}
 use Rattle.fish_lanes.proofs.block.run_others.Goals as goal
 
@@ -18,4 +18,4 @@ for_each_mut-requires-sync-F g c κs within =
 
 pub for_each_mut-requires-clause-accepts : goal.for_each_mut-requires-clause-accepts
 for_each_mut-requires-clause-accepts g c κs within i p less is _ _ _ _ _ _ _ _ _ _ =
-    subst (IsReady c.args.log.now) (sym is) (c.requires.ready i p.now less)
+    subst (IsLaneReady c.args.log.now) (sym is) (c.requires.ready i p.now less)

@@ -3,7 +3,7 @@ use Rattle.std.proofs.Common.{◌≡◌, ◌≤◌, ◌⊎◌, ◌++◌, ◌∙�
 use Rattle.fish_lanes.proofs.Finished.{on_ended, on_far, short_stops}
 use Rattle.fish_lanes.proofs.Kept.{all_answers, handed_cause, handed_last, handed_left, handed_parts, handed_whole, on_handed}
 use Rattle.fish_lanes.proofs.Pages.{reads_none}
-use Rattle.fish_lanes.specs.within.Advancing.{IsOn, IsSoFar}
+use Rattle.fish_lanes.specs.within.Advancing.{IsOn, IsWorkSoFar}
 use Rattle.fish_lanes.specs.Gains.{WasShut}
 use Rattle.fish_lanes.specs.within.Pasts.{WasHere}
 use Rattle.fish_lanes.specs.Spans.{answers}
@@ -70,7 +70,7 @@ returns-clause-finished g c =
       number = refl;
       run = λ start on. on_handed Past start u works kept left items why last
           (subst (λ (w : List Work). IsOn Past start u w items why) c.as_slice.ensures
-          (run.goes start (subst (λ (w : List Work). IsSoFar Past start v w lane.items) (sym c.as_slice.ensures)
+          (run.goes start (subst (λ (w : List Work). IsWorkSoFar Past start v w lane.items) (sym c.as_slice.ensures)
           (on_far Past start v works lane.items lane.fault c.in-None.is (on content k cold later))))) handed;
       cut = λ all some.
           let past = handed_left works kept left many why last handed some in

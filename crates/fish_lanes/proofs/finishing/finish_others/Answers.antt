@@ -6,10 +6,10 @@ use Rattle.fish_lanes.proofs.Finished.{finished_fewer, stops_before, stops_later
 use Rattle.fish_lanes.proofs.Lists.{get_set_else, get_set_here, read_at, some_once}
 use Rattle.fish_lanes.proofs.Moments.{get_there}
 use Rattle.fish_lanes.proofs.Pages.{here_on, reads_both, reads_none, reads_told}
-use Rattle.fish_lanes.specs.within.Advancing.{HasFinished, IsShort}
+use Rattle.fish_lanes.specs.within.Advancing.{HasFinished, IsShortFault}
 use Rattle.fish_lanes.specs.Outcome.{Stops}
 use Rattle.fish_lanes.specs.within.Pasts.{WasHere}
-use Rattle.fish_lanes.specs.within.Running.{IsReady}
+use Rattle.fish_lanes.specs.within.Running.{IsLaneReady}
 use Rattle.fish_lanes.specs.declared.lane.Lane.{Lane}
 use Rattle.fish_whole.specs.Whole.{Whole}
 use Rattle.fish_lanes.proofs.finishing.finish_others.Goals as goal
@@ -45,7 +45,7 @@ finish_lane-requires-clause-ready g c =
     let fn = c.args.lanes.now in
     let at_fn : slice_get fn i ≡ Some r = c.loop-i.invariant.rest i (omega arith)
     ∙ read_at c.loop-i.lanes i r (omega arith) c.index-lanes-i.is in
-    subst (IsReady c.args.log.now)
+    subst (IsLaneReady c.args.log.now)
     (some_once (get_or fn i r) r (sym (slice_get-get_or fn i r (omega arith)) ∙ at_fn) ∙ c.index-lanes-i.is)
     (c.requires.ready i r (omega arith))
 
@@ -86,7 +86,7 @@ loop-i-preserved g c =
       stops_before Was (disk.faults first) (disk.faults before) (disk.faults now) y.fault inv.reads.pages.cold.later
           (stops_later (WasHere (disk.content before) k read (disk.content now)) Was (disk.faults before) (disk.faults now)
           (disk.faults now) y.fault (omega arith) here
-          (c.finish_lane.ensures.stops (subst (λ (z : Lane). IsShort z.fault) c.index-lanes-i.is
+          (c.finish_lane.ensures.stops (subst (λ (z : Lane). IsShortFault z.fault) c.index-lanes-i.is
           (c.requires.memory i r at_fn)))),
     ) in
     record {

@@ -9,12 +9,12 @@ use Rattle.fish_lanes.proofs.Pages.{reads_both, reads_here, reads_none, reads_to
 use Rattle.fish_lanes.proofs.Showing.{fit_answer}
 use Rattle.fish_lanes.proofs.SoFar.{far_next, far_part, item_fewer}
 use Rattle.fish_lanes.specs.Running.{IsShared}
-use Rattle.fish_lanes.specs.Spans.{IsAnswer}
+use Rattle.fish_lanes.specs.Spans.{IsAnswerItem}
 use Rattle.fish_lanes.specs.Telling.{count_of}
 use Rattle.fish_lanes.specs.declared.work.LaneFault.TheVariants as fault
 use Rattle.fish_lanes.specs.within.Works.{FinishesWorks}
-use Rattle.fish_lanes.specs.within.Advancing.{IsSoFar}
-use Rattle.fish_lanes.specs.within.Full.{HasFound}
+use Rattle.fish_lanes.specs.within.Advancing.{IsWorkSoFar}
+use Rattle.fish_lanes.specs.within.Full.{HasMetFull}
 use Rattle.fish_lanes.specs.within.Pasts.{IsHere, WasHere}
 use Rattle.fish_report.specs.declared.item.Item.{Item}
 use Rattle.fish_rule.specs.Passes.{view}
@@ -71,15 +71,15 @@ loop-next-preserved g c =
       read = c.run_shared.ensures.has.read;
       reads = reads_both disk k inv.reads c.run_shared.ensures.reads;
       position = ap (λ (z : List Item). length z) pushed ∙ length-append old (x ∷ []) ∙ ap (λ (z : ℕ). z + 1) position;
-      far = λ start later still began. subst (IsSoFar (Was later) start t works) (sym pushed)
+      far = λ start later still began. subst (IsWorkSoFar (Was later) start t works) (sym pushed)
           (far_next start u t works old (inv.far start later (λ some. told (still some)) began) w (omega arith) at x shared
           c.run_shared.ensures.has.of.stands
           (item_fewer (IsHere now k read) (Was later) u t w x (reads_here disk k inv.reads c.run_shared.ensures.reads later still) done));
       last = λ unset found.
           let free = open_test u.shut c.args.full c.finds_full.result c.finds_full.ensures c.if-finds_full.false unset in
-          subst (HasFound t) (sym pushed) (found_more (IsHere now k read) u t w old x free
+          subst (HasMetFull t) (sym pushed) (found_more (IsHere now k read) u t w old x free
           (found_none u old (inv.last unset found) free) done.fit done.shuts);
-      answers = λ all. subst (AllOf IsAnswer) (sym pushed) (all_more IsAnswer old x (inv.answers all)
+      answers = λ all. subst (AllOf IsAnswerItem) (sym pushed) (all_more IsAnswerItem old x (inv.answers all)
           (fit_answer (IsHere now k read) u t w x done.fit));
     }
 

@@ -2,10 +2,10 @@
 use Rattle.std.proofs.Common.{◌≡◌, ℕ, List, Option, false, length}
 use Rattle.std.specs.Prelude.{IsSome}
 use Rattle.fish_epoch.specs.Definitions.{IsDefsOf}
-use Rattle.fish_lanes.specs.Spans.{IsAnswer}
-use Rattle.fish_lanes.specs.within.Advancing.{IsSoFar}
-use Rattle.fish_lanes.specs.within.Full.{HasFound}
-use Rattle.fish_lanes.specs.within.Parts.{OnlyReads}
+use Rattle.fish_lanes.specs.Spans.{IsAnswerItem}
+use Rattle.fish_lanes.specs.within.Advancing.{IsWorkSoFar}
+use Rattle.fish_lanes.specs.within.Full.{HasMetFull}
+use Rattle.fish_lanes.specs.within.Parts.{OnlyReadsFile}
 use Rattle.fish_lanes.specs.within.Pasts.{WasHere}
 use Rattle.fish_lanes.specs.within.Running.{CanBegin}
 use Rattle.fish_rule.specs.Passes.{view}
@@ -19,11 +19,11 @@ invariant-loop-next g l =
     record {
       can : CanBegin l.log l.pass;
       read : IsDefsOf (view l.pass) l.defs;
-      reads : OnlyReads disk l.log.key l.fn.disk l.fn.file l.disk l.file;
+      reads : OnlyReadsFile disk l.log.key l.fn.disk l.fn.file l.disk l.file;
       position : length l.items ≡ l.next;
       far : (start : View) (later : Option (List ℕ)) → (IsSome later → IsSome (disk.content l.disk))
-          → IsSoFar (WasHere (disk.content l.fn.disk) l.log.key l.fn.file.cold later) start (view l.fn.pass) l.works l.fn.items
-          → IsSoFar (WasHere (disk.content l.fn.disk) l.log.key l.fn.file.cold later) start (view l.pass) l.works l.items;
-      last : l.full ≡ false → HasFound (view l.fn.pass) l.fn.items → HasFound (view l.pass) l.items;
-      answers : AllOf IsAnswer l.fn.items → AllOf IsAnswer l.items;
+          → IsWorkSoFar (WasHere (disk.content l.fn.disk) l.log.key l.fn.file.cold later) start (view l.fn.pass) l.works l.fn.items
+          → IsWorkSoFar (WasHere (disk.content l.fn.disk) l.log.key l.fn.file.cold later) start (view l.pass) l.works l.items;
+      last : l.full ≡ false → HasMetFull (view l.fn.pass) l.fn.items → HasMetFull (view l.pass) l.items;
+      answers : AllOf IsAnswerItem l.fn.items → AllOf IsAnswerItem l.items;
     }

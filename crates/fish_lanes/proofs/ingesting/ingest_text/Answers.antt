@@ -4,7 +4,7 @@ use Rattle.std.specs.Prelude.{IfOk, MatchOption}
 use Rattle.fish_json.specs.Lines as json
 use Rattle.fish_lanes.proofs.Storing.{json_record, json_refused, taken}
 use Rattle.fish_lanes.specs.within.Storing.{FindsTextFull, TakesText}
-use Rattle.fish_lines.specs.Texts.{payload_in, text_form}
+use Rattle.fish_lines.specs.Texts.{payload_in_text, text_form}
 use Rattle.fish_lines.specs.declared.texts.RecordText.{RecordText}
 use Rattle.fish_rule.specs.Passes.{view}
 use Rattle.fish_value.specs.declared.field.Form.TheVariants.{Json}
@@ -18,7 +18,7 @@ returns-in-Line-clause-takes g c =
     let before = c.args.tally.now in
     let after = c.ingest_line.new.tally in
     subst (λ (x : RecordText). IfOk c.ingest_line.result (λ end. MatchOption end
-    (TakesText v u (text_form x) (payload_in x) before after)
-    (FindsTextFull v u (text_form x) (payload_in x) before after))) (sym c.in-Line.is)
-    (taken c.ingest_line.result v u Json line.now (json.payload_of line.now) before after (json_record line.now)
+    (TakesText v u (text_form x) (payload_in_text x) before after)
+    (FindsTextFull v u (text_form x) (payload_in_text x) before after))) (sym c.in-Line.is)
+    (taken c.ingest_line.result v u Json line.now (json.payload_of_line line.now) before after (json_record line.now)
     (json_refused line.now) c.ingest_line.ensures.takes)

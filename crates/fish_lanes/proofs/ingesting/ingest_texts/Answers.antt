@@ -8,7 +8,7 @@ use Rattle.fish_lanes.proofs.Storing.{full_text, gains_unclaimed, stored_later, 
 use Rattle.fish_lanes.proofs.Storing.{text_given, text_one, text_shut}
 use Rattle.fish_lanes.specs.within.Storing.{FindsTextFull, IsPartStored, IsStoredUpTo, TakesText}
 use Rattle.fish_lanes.specs.declared.ingesting.Tally.{Tally}
-use Rattle.fish_lines.specs.Texts.{bytes_left, form_of, payload_in, text_form, texts_left}
+use Rattle.fish_lines.specs.Texts.{bytes_left, form_of_texts, payload_in_text, text_form, texts_left}
 use Rattle.fish_lines.specs.declared.texts.RecordText.{RecordText}
 use Rattle.fish_rule.specs.Passes.{view}
 use Rattle.fish_rule.specs.declared.view.Shut.{Shut}
@@ -23,7 +23,7 @@ loop-text-init g c =
       start = c.requires.can.start;
       read = c.requires.can.read;
       form = refl;
-      stored = stored_none v (form_of c.args.texts.now) (texts_left c.args.texts.now) c.args.tally.now c.requires.can.start.outside
+      stored = stored_none v (form_of_texts c.args.texts.now) (texts_left c.args.texts.now) c.args.tally.now c.requires.can.start.outside
           (idle_law v c.requires.can.of.stands c.requires.can.start) c.requires.none;
       shut = refl;
       room =
@@ -36,8 +36,8 @@ loop-text-init g c =
 pub ingest_text-requires-clause-text : goal.ingest_text-requires-clause-text
 ingest_text-requires-clause-text g c =
     let next = subst (λ (o : Option RecordText). MatchOption o (texts_left c.loop-text.texts ≡ [])
-    (λ t. texts_left c.loop-text.texts ≡ payload_in t ∷ texts_left c.next_text.new.self)) c.in-Some.is c.in_ok-text.ensures.texts in
-    let kind = subst (λ (o : Option RecordText). IfSome o (λ t. text_form t ≡ form_of c.loop-text.texts)) c.in-Some.is
+    (λ t. texts_left c.loop-text.texts ≡ payload_in_text t ∷ texts_left c.next_text.new.self)) c.in-Some.is c.in_ok-text.ensures.texts in
+    let kind = subst (λ (o : Option RecordText). IfSome o (λ t. text_form t ≡ form_of_texts c.loop-text.texts)) c.in-Some.is
     c.in_ok-text.ensures.kind in
     text_given c.loop-text.texts c.in-Some.text (texts_left c.next_text.new.self) kind next
 
@@ -46,7 +46,7 @@ returns-in_err-shut-clause-part g c =
     let v = view c.args.pass.now in
     let u = view c.loop-text.pass in
     let t = view c.ingest_text.new.pass in
-    let form = form_of c.args.texts.now in
+    let form = form_of_texts c.args.texts.now in
     let outs = texts_left c.args.texts.now in
     let behind = texts_left c.loop-text.texts in
     err_any c.from_residual-in_err-shut.result (IsPartStored v t form outs) (
@@ -67,17 +67,18 @@ returns-in-Some-2-clause-ends g c =
     let behind = texts_left c.next_text.new.self in
     let inv = c.loop-text.invariant in
     let after = c.ingest_text.new.tally in
-    let next : texts_left c.loop-text.texts ≡ payload_in x ∷ behind =
+    let next : texts_left c.loop-text.texts ≡ payload_in_text x ∷ behind =
     subst (λ (o : Option RecordText). MatchOption o (texts_left c.loop-text.texts ≡ [])
-    (λ t. texts_left c.loop-text.texts ≡ payload_in t ∷ behind)) c.in-Some.is c.in_ok-text.ensures.texts in
-    let kind : text_form x ≡ form_of c.loop-text.texts =
-    subst (λ (o : Option RecordText). IfSome o (λ t. text_form t ≡ form_of c.loop-text.texts)) c.in-Some.is c.in_ok-text.ensures.kind in
-    full_text v u t (form_of file) (texts_left file) behind (payload_in x) c.loop-text.tally after c.in-Some-2.shut
+    (λ t. texts_left c.loop-text.texts ≡ payload_in_text t ∷ behind)) c.in-Some.is c.in_ok-text.ensures.texts in
+    let kind : text_form x ≡ form_of_texts c.loop-text.texts =
+    subst (λ (o : Option RecordText). IfSome o
+    (λ t. text_form t ≡ form_of_texts c.loop-text.texts)) c.in-Some.is c.in_ok-text.ensures.kind in
+    full_text v u t (form_of_texts file) (texts_left file) behind (payload_in_text x) c.loop-text.tally after c.in-Some-2.shut
     c.ingest_text.ensures.pass.stands inv.shut
-    (subst (λ (z : List (Option (List ℕ))). IsStoredUpTo v u (form_of file) (texts_left file) z c.loop-text.tally) next inv.stored)
-    (subst (λ (f : Form). FindsTextFull u t f (payload_in x) c.loop-text.tally after c.in-Some-2.shut) (kind ∙ inv.form)
-    (subst (λ (o : Option Shut). MatchOption o (TakesText u t (text_form x) (payload_in x) c.loop-text.tally after)
-    (FindsTextFull u t (text_form x) (payload_in x) c.loop-text.tally after)) c.in-Some-2.is c.in_ok-shut.ensures.takes))
+    (subst (λ (z : List (Option (List ℕ))). IsStoredUpTo v u (form_of_texts file) (texts_left file) z c.loop-text.tally) next inv.stored)
+    (subst (λ (f : Form). FindsTextFull u t f (payload_in_text x) c.loop-text.tally after c.in-Some-2.shut) (kind ∙ inv.form)
+    (subst (λ (o : Option Shut). MatchOption o (TakesText u t (text_form x) (payload_in_text x) c.loop-text.tally after)
+    (FindsTextFull u t (text_form x) (payload_in_text x) c.loop-text.tally after)) c.in-Some-2.is c.in_ok-shut.ensures.takes))
 
 pub loop-text-preserved : goal.loop-text-preserved
 loop-text-preserved g c =
@@ -85,22 +86,23 @@ loop-text-preserved g c =
     let u = view c.loop-text.pass in
     let t = view c.ingest_text.new.pass in
     let file = c.args.texts.now in
-    let form = form_of file in
+    let form = form_of_texts file in
     let x = c.in-Some.text in
     let behind = texts_left c.next_text.new.self in
     let inv = c.loop-text.invariant in
     let after = c.ingest_text.new.tally in
-    let next : texts_left c.loop-text.texts ≡ payload_in x ∷ behind =
+    let next : texts_left c.loop-text.texts ≡ payload_in_text x ∷ behind =
     subst (λ (o : Option RecordText). MatchOption o (texts_left c.loop-text.texts ≡ [])
-    (λ t. texts_left c.loop-text.texts ≡ payload_in t ∷ behind)) c.in-Some.is c.in_ok-text.ensures.texts in
-    let kind : text_form x ≡ form_of c.loop-text.texts =
-    subst (λ (o : Option RecordText). IfSome o (λ t. text_form t ≡ form_of c.loop-text.texts)) c.in-Some.is c.in_ok-text.ensures.kind in
-    let takes : TakesText u t form (payload_in x) c.loop-text.tally after =
-    subst (λ (f : Form). TakesText u t f (payload_in x) c.loop-text.tally after) (kind ∙ inv.form)
-    (subst (λ (o : Option Shut). MatchOption o (TakesText u t (text_form x) (payload_in x) c.loop-text.tally after)
-    (FindsTextFull u t (text_form x) (payload_in x) c.loop-text.tally after)) c.in-None.is c.in_ok-shut.ensures.takes) in
+    (λ t. texts_left c.loop-text.texts ≡ payload_in_text t ∷ behind)) c.in-Some.is c.in_ok-text.ensures.texts in
+    let kind : text_form x ≡ form_of_texts c.loop-text.texts =
+    subst (λ (o : Option RecordText). IfSome o
+    (λ t. text_form t ≡ form_of_texts c.loop-text.texts)) c.in-Some.is c.in_ok-text.ensures.kind in
+    let takes : TakesText u t form (payload_in_text x) c.loop-text.tally after =
+    subst (λ (f : Form). TakesText u t f (payload_in_text x) c.loop-text.tally after) (kind ∙ inv.form)
+    (subst (λ (o : Option Shut). MatchOption o (TakesText u t (text_form x) (payload_in_text x) c.loop-text.tally after)
+    (FindsTextFull u t (text_form x) (payload_in_text x) c.loop-text.tally after)) c.in-None.is c.in_ok-shut.ensures.takes) in
     let stored : IsStoredUpTo v t form (texts_left file) behind after =
-    stored_text v u t form (texts_left file) behind (payload_in x) c.loop-text.tally after
+    stored_text v u t form (texts_left file) behind (payload_in_text x) c.loop-text.tally after
     (subst (λ (z : List (Option (List ℕ))). IsStoredUpTo v u form (texts_left file) z c.loop-text.tally) next inv.stored) takes in
     record {
       of = c.ingest_text.ensures.pass;
@@ -108,9 +110,9 @@ loop-text-preserved g c =
       read = c.ingest_text.ensures.defs;
       form = c.next_text.ensures.form ∙ inv.form;
       stored = stored;
-      shut = text_shut u t form (payload_in x) c.loop-text.tally after takes ∙ inv.shut;
+      shut = text_shut u t form (payload_in_text x) c.loop-text.tally after takes ∙ inv.shut;
       room =
-          let a = text_one u t form (payload_in x) c.loop-text.tally after takes in
+          let a = text_one u t form (payload_in_text x) c.loop-text.tally after takes in
           let b = subst (λ (o : Option RecordText). IfSome o (λ _. bytes_left c.next_text.new.self < bytes_left c.loop-text.texts))
           c.in-Some.is c.in_ok-text.ensures.shorter in
           let d = inv.room in

@@ -7,7 +7,7 @@ use Rattle.fish_lanes.proofs.Growing.{rows_ended}
 use Rattle.fish_lanes.proofs.Looking.{changed, controls_reads, controls_self}
 use Rattle.fish_lanes.proofs.Registrations.{registry_later}
 use Rattle.fish_lanes.proofs.Stepping.{rows_kept}
-use Rattle.fish_lanes.specs.Registering.{IsDeregisterCause, KnowsRegistry, ended, registry_of, waiting_id}
+use Rattle.fish_lanes.specs.Registering.{IsDeregisterCause, KnowsRegistry, registry_ended, registry_of, waiting_id}
 use Rattle.fish_lanes.specs.within.Controlling.{Controls}
 use Rattle.fish_registry.proofs.Changing.{learns_changes}
 use Rattle.fish_rule.specs.Passes.{view}
@@ -53,7 +53,7 @@ returns-in_ok-read_definitions-in-Ok-clause-tells c =
     let once = c.in-Ok.ensures.version in
     let again = c.read_definitions.ensures.version in
     let version : t.learned.version ≡ v.learned.version + 1 = omega arith in
-    let is : registry_of t s ≡ ended (registry_of v r) c.in-Ok.id c.in-Ok.to =
+    let is : registry_of t s ≡ registry_ended (registry_of v r) c.in-Ok.id c.in-Ok.to =
     λ i. record { rows = c.in-Ok.ensures.rows i; waiting = waiting_id (c.end.ensures.settled i); version = version i } in
     let reached = c.in-Ok.ensures.reached in
     let low = reached.0 in

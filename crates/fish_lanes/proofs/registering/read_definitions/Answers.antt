@@ -3,7 +3,7 @@ use Rattle.std.proofs.Common.{ap, arith, ◌∙◌}
 use Rattle.fish_epoch.proofs.Reading.{defs_later}
 use Rattle.fish_lanes.proofs.Registrations.{known_all, known_read, scans_reads}
 use Rattle.fish_registry.proofs.Changing.{changes_stays, learns_changes, stays_version}
-use Rattle.fish_registry.specs.Changing.{Stays}
+use Rattle.fish_registry.specs.Changing.{OnlyLoads}
 use Rattle.fish_rule.proofs.laws.Learning.{learns_both}
 use Rattle.fish_rule.specs.Passes.{view}
 use Rattle.fish_rule.specs.declared.view.View.{View}
@@ -13,7 +13,7 @@ pub refresh-requires-clause-defs : goal.refresh-requires-clause-defs
 refresh-requires-clause-defs c =
     let v = view c.args.pass.now in
     let m = view c.load_version-version.new.pass in
-    let stays : Stays v m = stays_version v m c.load_version-version.result c.requires.outside
+    let stays : OnlyLoads v m = stays_version v m c.load_version-version.result c.requires.outside
     (c.load_version-version.ensures.control c.requires.control) c.load_version-version.ensures.view in
     defs_later v m c.args.defs.now.known (learns_changes v m (changes_stays v m stays)) c.requires.defs
 
@@ -22,7 +22,7 @@ returns-clause-defs c =
     let v = view c.args.pass.now in
     let m = view c.load_version-version.new.pass in
     let t = view c.refresh.new.pass in
-    let stays : Stays v m = stays_version v m c.load_version-version.result c.requires.outside
+    let stays : OnlyLoads v m = stays_version v m c.load_version-version.result c.requires.outside
     (c.load_version-version.ensures.control c.requires.control) c.load_version-version.ensures.view in
     known_read t c.refresh.result c.args.defs.now c.refresh.new.self c.refresh.ensures.read c.refresh.ensures.refused
     (defs_later v t c.args.defs.now.known (learns_both v m t (learns_changes v m (changes_stays v m stays))

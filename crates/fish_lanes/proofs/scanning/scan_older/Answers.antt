@@ -5,7 +5,7 @@ use Rattle.fish_lanes.proofs.Fitting.{older_fits, refused_item, refused_older}
 use Rattle.fish_lanes.proofs.Faults.{memory_ok, or_memory_stops, refusal_stops}
 use Rattle.fish_lanes.proofs.Doings.{ok_then}
 use Rattle.fish_lanes.specs.within.Doing.{IsAnswerHere, IsExplainedAnswer, IsFit}
-use Rattle.fish_lanes.specs.within.Parts.{StopsAt}
+use Rattle.fish_lanes.specs.within.Parts.{StopsBy}
 use Rattle.fish_lanes.specs.within.Pasts.{IsHere}
 use Rattle.fish_lanes.specs.declared.work.LaneFault.{LaneFault}
 use Rattle.fish_lanes.specs.declared.work.Work.TheVariants as work
@@ -63,7 +63,7 @@ returns-in-Ok-clause-stops g c =
     let past = IsHere (disk.content c.older_with.new.disk) c.args.log.now.key c.args.file.now.cold in
     let before = disk.faults c.args.disk.now in
     let now = disk.faults c.older_with.new.disk in
-    subst (λ (r : Result Item LaneFault). IfErr r (StopsAt past before now)) (sym c.or_memory.ensures)
+    subst (λ (r : Result Item LaneFault). IfErr r (StopsBy past before now)) (sym c.or_memory.ensures)
     (or_memory_stops past before now c.scanned.result c.older_with.ensures.reads.pages.cold.later)
 
 pub returns-in-Some-clause-stops : goal.returns-in-Some-clause-stops
@@ -84,5 +84,5 @@ returns-in-None-clause-stops g c =
     let past = IsHere (disk.content c.older_with.new.disk) c.args.log.now.key c.args.file.now.cold in
     let before = disk.faults c.args.disk.now in
     let now = disk.faults c.older_with.new.disk in
-    subst (λ (r : Result Item LaneFault). IfErr r (StopsAt past before now)) (sym c.or_memory-in-None.ensures)
+    subst (λ (r : Result Item LaneFault). IfErr r (StopsBy past before now)) (sym c.or_memory-in-None.ensures)
     (or_memory_stops past before now c.refused.result c.older_with.ensures.reads.pages.cold.later)

@@ -4,7 +4,7 @@ use Rattle.std.proofs.Math.Decide.{ℕ_discrete}
 use Rattle.std.proofs.lemmas.Option.{slice_get_within}
 use Rattle.fish_lanes.proofs.Lanes.{can_take, taken_more, taken_none}
 use Rattle.fish_lanes.proofs.Lists.{get_set_else, get_set_here, read_at, some_once}
-use Rattle.fish_lanes.specs.within.Blocks.{CanTake, HasTaken, HasTakenAll, WasTaken}
+use Rattle.fish_lanes.specs.within.Blocks.{CanTake, HasTakenLane, HasTakenAll, WasTaken}
 use Rattle.fish_lanes.specs.declared.lane.Lane.{Lane}
 use Rattle.fish_rule.specs.Passes.{view}
 use Rattle.fish_lanes.proofs.seats.take_all.Goals as goal
@@ -56,7 +56,7 @@ loop-i-preserved c =
     let t = view c.take_back.new.control in
     let at : slice_get c.loop-i.lanes i ≡ Some r = read_at c.loop-i.lanes i r (omega arith) c.index-lanes-i.is in
     let at_fn : slice_get c.args.lanes.now i ≡ Some r = sym (inv.rest i (omega arith)) ∙ at in
-    let taken : HasTaken u t r = subst (λ (z : Lane). HasTaken u t z) (sym c.index-lanes-i.is) c.take_back.ensures.taken in
+    let taken : HasTakenLane u t r = subst (λ (z : Lane). HasTakenLane u t z) (sym c.index-lanes-i.is) c.take_back.ensures.taken in
     let was : WasTaken r c.take_back.new.lane =
     subst (λ (z : Lane). WasTaken z c.take_back.new.lane) (sym c.index-lanes-i.is) c.take_back.ensures.lane in
     record {

@@ -2,12 +2,12 @@
 use Rattle.std.proofs.Common.{◌≡◌, ◌≤◌, ℕ, List, Option, None, length}
 use Rattle.fish_cold.specs.declared.cold.Cold.{Cold}
 use Rattle.fish_epoch.specs.Definitions.{IsDefsOf}
-use Rattle.fish_lanes.specs.within.Advancing.{IsSoFar}
+use Rattle.fish_lanes.specs.within.Advancing.{IsWorkSoFar}
 use Rattle.fish_lanes.specs.Full.{IsNotFull}
-use Rattle.fish_lanes.specs.within.Full.{HasFound}
+use Rattle.fish_lanes.specs.within.Full.{HasMetFull}
 use Rattle.fish_lanes.specs.within.Pasts.{WasHere}
 use Rattle.fish_lanes.specs.within.Running.{CanBegin}
-use Rattle.fish_lanes.specs.Spans.{IsAnswer}
+use Rattle.fish_lanes.specs.Spans.{IsAnswerItem}
 use Rattle.fish_rule.specs.Passes.{view}
 use Rattle.fish_rule.specs.Views.{AllOf}
 use Rattle.fish_rule.specs.declared.view.Key.{Key}
@@ -20,9 +20,9 @@ invariant-loop-next g l = record {
   read : IsDefsOf (view l.pass) l.defs;
   position : length l.items ≡ l.next;
   far : (start : View) (content : Option (List ℕ)) (k : Key) (cold : Cold) (later : Option (List ℕ))
-      → IsSoFar (WasHere content k cold later) start (view l.fn.pass) l.works l.fn.items
-      → IsSoFar (WasHere content k cold later) start (view l.pass) l.works l.items;
-  last : (view l.fn.pass).shut ≡ None → AllOf IsNotFull l.fn.items → HasFound (view l.pass) l.items;
+      → IsWorkSoFar (WasHere content k cold later) start (view l.fn.pass) l.works l.fn.items
+      → IsWorkSoFar (WasHere content k cold later) start (view l.pass) l.works l.items;
+  last : (view l.fn.pass).shut ≡ None → AllOf IsNotFull l.fn.items → HasMetFull (view l.pass) l.items;
   more : length l.fn.items ≤ length l.items;
-  answers : AllOf IsAnswer l.fn.items → AllOf IsAnswer l.items;
+  answers : AllOf IsAnswerItem l.fn.items → AllOf IsAnswerItem l.items;
 }

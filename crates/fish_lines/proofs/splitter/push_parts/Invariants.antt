@@ -2,13 +2,13 @@
 use Rattle.std.proofs.Common.{◌≡◌, ◌++◌, length}
 use Rattle.std.specs.List.{slice_split}
 use Rattle.fish_json.specs.Lines.{is_line_end}
-use Rattle.fish_lines.specs.Lines.{ended, given_of, last_part}
+use Rattle.fish_lines.specs.Lines.{ended_parts, given_of, last_part}
 use Rattle.fish_lines.proofs.splitter.push_parts.Given as goal
 
 abbrev pub invariant-loop-part : goal.invariant-loop-part
 invariant-loop-part l = record {
-  given : l.lines.items ++ given_of (ended (slice_split is_line_end l.rest))
-      ≡ l.fn.lines.items ++ given_of (ended (slice_split is_line_end l.b));
+  given : l.lines.items ++ given_of (ended_parts (slice_split is_line_end l.rest))
+      ≡ l.fn.lines.items ++ given_of (ended_parts (slice_split is_line_end l.b));
   last : last_part (slice_split is_line_end l.rest) ≡ last_part (slice_split is_line_end l.b);
 }
 

@@ -2,8 +2,8 @@
 use Rattle.std.proofs.Common.{◌∙◌, ap, sym, ◌++◌, subst}
 use Rattle.std.specs.List.{slice_split}
 use Rattle.fish_json.specs.Lines.{is_line_end}
-use Rattle.fish_lines.specs.Lines.{ended, given_of, last_part}
-use Rattle.fish_lines.specs.Open.{IsOpen, line_in}
+use Rattle.fish_lines.specs.Lines.{ended_parts, given_of, last_part}
+use Rattle.fish_lines.specs.Open.{IsLineOpen, line_in}
 use Rattle.fish_lines.proofs.KeptLemmas.{line_in_open}
 use Rattle.fish_lines.proofs.PartLemmas.{last-cut}
 use Rattle.fish_lines.proofs.SplitLemmas.{front_ends, given_front}
@@ -13,9 +13,9 @@ pub returns-clause-lines : goal.returns-clause-lines
 returns-clause-lines c = λ t is.
     let front = c.in-Some.front.now in
     let behind = c.in-Some.behind.now in
-    let more = given_of (ended (slice_split is_line_end behind)) in
+    let more = given_of (ended_parts (slice_split is_line_end behind)) in
     let first = ap (λ l. l ++ more) (line_in_open c.in_ok-grown.field-0 (t ++ front) (c.in_ok-grown.ensures t is)) in
-    let parts = ap (λ l. given_of (ended l))
+    let parts = ap (λ l. given_of (ended_parts l))
     (front_ends t c.args.piece.now front behind is.no_end c.in-Some.ensures.parts) in
     c.in_ok-append.ensures.items
     ∙ ap (λ l. c.args.ready.now.items ++ l)
@@ -30,4 +30,4 @@ returns-clause-rest c = λ t is.
     let behind = c.in-Some.behind.now in
     let last = ap last_part (front_ends t c.args.piece.now front behind is.no_end c.in-Some.ensures.parts)
     ∙ last-cut (t ++ front) behind in
-    subst (λ l. IsOpen c.in_ok-next.next l) (c.in_ok-rest.ensures.rest ∙ sym last) c.in_ok-next.ensures
+    subst (λ l. IsLineOpen c.in_ok-next.next l) (c.in_ok-rest.ensures.rest ∙ sym last) c.in_ok-next.ensures

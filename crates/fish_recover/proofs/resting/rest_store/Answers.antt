@@ -2,7 +2,7 @@
 use Rattle.std.proofs.lemmas.Result.{on_ok_weaker}
 use Rattle.fish_disk.proofs.Moments.{leaves_more, leaves_then}
 use Rattle.fish_slots.proofs.Commits.{rests_commit}
-use Rattle.fish_slots.specs.Commits.{HasCommit, Rests}
+use Rattle.fish_slots.specs.Commits.{HasCommit, SlotRests}
 use Rattle.fish_recover.proofs.resting.rest_store.Goals as goal
 
 pub returns-clause-rests : goal.returns-clause-rests
@@ -14,6 +14,6 @@ returns-clause-crash g c = λ b w h.
     let disk = g.D.Disk in
     leaves_then disk.images disk.since disk.moment c.args.disk.now c.close_other.new.disk c.fill.new.disk (HasCommit b w)
     (c.close_other.ensures.crash b w h)
-    (leaves_more disk.images disk.since disk.moment c.close_other.new.disk c.fill.new.disk (Rests c.args.slot b w) (HasCommit b w)
+    (leaves_more disk.images disk.since disk.moment c.close_other.new.disk c.fill.new.disk (SlotRests c.args.slot b w) (HasCommit b w)
     (λ i rests. rests_commit c.args.slot b w i c.requires.slot rests)
     (c.fill.ensures.crash b w (c.in_ok-close_other.ensures.rests b w h)))

@@ -5,7 +5,7 @@ use Rattle.fish_recover.proofs.Beginnings.{begun_open, resumed_line}
 use Rattle.fish_recover.proofs.Keepings.{kept_in, kept_rest, kept_stored}
 use Rattle.fish_recover.proofs.Openings.{opening_leaves, read_leaves, still_before, told_before, told_through, was_stored}
 use Rattle.fish_recover.proofs.Refusals.{err_is, err_ok, memory_cause, ok_cause, outside_not, outside_open, same_cause}
-use Rattle.fish_recover.specs.within.Stores.{shape_of}
+use Rattle.fish_recover.specs.Stores.{shape_of}
 use Rattle.fish_recover.specs.declared.refusal.OpenRefusal.TheVariants.{OutOfMemory}
 use Rattle.fish_recover.proofs.store.open_kept.Goals as goal
 

@@ -1,7 +1,7 @@
 -- The row's words and its operation are stored, so the version may be raised.
 use Rattle.std.proofs.Common.{◌∙◌, ap, sym, subst}
 use Rattle.fish_registry.proofs.Registrations.{IsDrafted, can_raise, can_store, registered}
-use Rattle.fish_registry.specs.within.Rows.{HasRegistered}
+use Rattle.fish_registry.specs.within.Rows.{HasAddedRow}
 use Rattle.fish_rule.specs.RegistrySteps.{CanDefineWord, CanRaiseVersion, after_define_word, after_raise_version}
 use Rattle.fish_rule.specs.Passes.{view}
 use Rattle.fish_rule.specs.declared.view.View.{View}
@@ -37,7 +37,7 @@ pub returns-clause-registered : goal.returns-clause-registered
 returns-clause-registered c =
     let v = view c.args.pass.now in
     let row = c.args.row.now in
-    subst (HasRegistered v row) (sym c.raise_version.ensures.view)
-    (subst (λ (z : View). HasRegistered v row (after_raise_version z)) (sym (c.define_operation.ensures.view
+    subst (HasAddedRow v row) (sym c.raise_version.ensures.view)
+    (subst (λ (z : View). HasAddedRow v row (after_raise_version z)) (sym (c.define_operation.ensures.view
     ∙ ap (after_define_word (view c.define_row.new.pass) _) c.register_word.ensures))
     (registered _ _ _ _ _ (control_word c.before.before.before)))

@@ -2,7 +2,7 @@
 use Rattle.std.proofs.lemmas.Result.{on_err_weaker, on_ok_weaker}
 use Rattle.std.specs.Prelude.{string_bytes}
 use Rattle.fish_report.specs.Parts.{rows_text}
-use Rattle.fish_report.specs.ReportText.{head_text, item_text, rows_in}
+use Rattle.fish_report.specs.ReportText.{head_text, item_text, rows_of_item}
 use Rattle.fish_report.proofs.WritingLemmas.{PassesPart_front, PassesPart_none, PassesPart_on, PassesPart_trans}
 use Rattle.fish_report.proofs.WritingLemmas.{Passes_on, Passes_trans, Passes_wait, on_err_any}
 use Rattle.fish_report.proofs.writing.write_item.Goals as goal
@@ -20,7 +20,7 @@ returns-in_err-send_full-clause-part g c =
     let between = string_bytes c.push_head.new.text in
     let head = head_text c.args.item.now in
     on_err_any c.from_residual-in_err-send_full.result
-    (PassesPart_front old new waiting head (rows_text (rows_in c.args.item.now))
+    (PassesPart_front old new waiting head (rows_text (rows_of_item c.args.item.now))
     (PassesPart_on old old new waiting between head (Passes_wait old waiting between head c.in_ok-push_head.ensures)
     c.in_err-send_full.ensures.part))
 
@@ -37,7 +37,7 @@ returns-clause-passed g c =
     let first = Passes_on old old mid waiting put between head
     (Passes_wait old waiting put head c.in_ok-push_head.ensures) c.in_ok-send_full.ensures.passed in
     on_ok_weaker c.write_rows.result
-    (λ passed. Passes_trans old mid new waiting between left head (rows_text (rows_in c.args.item.now)) first
+    (λ passed. Passes_trans old mid new waiting between left head (rows_text (rows_of_item c.args.item.now)) first
     (rw (← c.rows_of.ensures) passed)) c.write_rows.ensures.passed
 
 pub returns-clause-part : goal.returns-clause-part
@@ -52,5 +52,5 @@ returns-clause-part g c =
     let first = Passes_on old old mid waiting put between head
     (Passes_wait old waiting put head c.in_ok-push_head.ensures) c.in_ok-send_full.ensures.passed in
     on_err_weaker c.write_rows.result
-    (λ part. PassesPart_trans old mid new waiting between head (rows_text (rows_in c.args.item.now)) first
+    (λ part. PassesPart_trans old mid new waiting between head (rows_text (rows_of_item c.args.item.now)) first
     (rw (← c.rows_of.ensures) part)) c.write_rows.ensures.part

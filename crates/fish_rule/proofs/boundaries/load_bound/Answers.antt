@@ -2,9 +2,9 @@
 use Rattle.std.proofs.Common.{◌∙◌, sym, arith, ap, subst, ℕ, ◌<◌, ◌≤◌}
 use Rattle.fish_rule.proofs.steps.LoadBound.{load_bound_allowed}
 use Rattle.fish_rule.specs.Flying.{region_in}
-use Rattle.fish_rule.specs.Parts.{Rests}
+use Rattle.fish_rule.specs.Parts.{RestsAt}
 use Rattle.fish_rule.proofs.basics.Context.{View, view}
-use Rattle.fish_rule.specs.Table.{Stands}
+use Rattle.fish_rule.specs.Table.{IsOfMoment}
 use Rattle.fish_rule.proofs.boundaries.load_bound.Goals as goal
 
 pub load-found-requires : goal.load-found-requires
@@ -34,7 +34,7 @@ returns-clause-pass c =
       table = c.load-found.ensures.0 ∙ c.requires.pass.table;
       about = ap (λ (z : View). z.about) told.view ∙ c.requires.pass.about;
       live = subst (λ (z : ℕ). 1 ≤ z) (sym (ap (λ (z : View). z.lane) told.view)) c.requires.pass.live;
-      stands = subst Stands (sym told.view) told.stands;
+      stands = subst IsOfMoment (sym told.view) told.stands;
     }
 
 pub returns-clause-view : goal.returns-clause-view
@@ -48,7 +48,7 @@ returns-clause-view c o waits = (
 pub returns-clause-rests : goal.returns-clause-rests
 returns-clause-rests c control all =
     let at = c.position_in.ensures in
-    subst (λ (z : ℕ × ℕ). Rests z.0 z.1 (view c.args.pass.now).tail) (λ i. (sym at.number i, sym at.line i))
+    subst (λ (z : ℕ × ℕ). RestsAt z.0 z.1 (view c.args.pass.now).tail) (λ i. (sym at.number i, sym at.line i))
     (c.load-found.ensures.2.rests control all)
 
 pub returns-clause-counted : goal.returns-clause-counted

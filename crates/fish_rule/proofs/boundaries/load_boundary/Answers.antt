@@ -2,7 +2,7 @@
 use Rattle.std.proofs.Common.{◌∙◌, sym, arith, ap, subst, ℕ, ◌<◌, ◌≤◌, ◌+◌, ◌*◌}
 use Rattle.fish_rule.proofs.steps.LoadBoundary.{load_boundary_allowed}
 use Rattle.fish_rule.specs.Flying.{region_in}
-use Rattle.fish_rule.specs.Table.{Stands}
+use Rattle.fish_rule.specs.Table.{IsOfMoment}
 use Rattle.fish_rule.specs.declared.view.View.{View}
 use Rattle.fish_rule.proofs.boundaries.load_boundary.Goals as goal
 
@@ -37,7 +37,7 @@ returns-clause-pass c =
       table = c.load.ensures.0 ∙ c.requires.pass.table;
       about = ap (λ (z : View). z.about) told.view ∙ c.requires.pass.about;
       live = subst (λ (z : ℕ). 1 ≤ z) (sym (ap (λ (z : View). z.lane) told.view)) c.requires.pass.live;
-      stands = subst Stands (sym told.view) told.stands;
+      stands = subst IsOfMoment (sym told.view) told.stands;
     }
 
 pub returns-clause-view : goal.returns-clause-view

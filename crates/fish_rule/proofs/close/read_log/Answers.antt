@@ -3,10 +3,10 @@ use Rattle.std.proofs.Common.{◌≡◌, ◌∙◌, ◌≤◌, ℕ, arith, ap, s
 use Rattle.fish_rule.proofs.laws.ReadsOn.{heads_later, reads_version, stays_open, to_version}
 use Rattle.fish_rule.proofs.laws.ReadSoFar.{read_later}
 use Rattle.fish_rule.specs.ClosedLog.{StaysOpen}
-use Rattle.fish_rule.specs.within.ClosedLog.{AreHeads}
+use Rattle.fish_rule.specs.within.ClosedLog.{AreSettledHeads}
 use Rattle.fish_rule.specs.LoadSteps.{after_load_tail}
 use Rattle.fish_rule.specs.Logs.{Extends}
-use Rattle.fish_rule.specs.Parts.{Rests}
+use Rattle.fish_rule.specs.Parts.{RestsAt}
 use Rattle.fish_rule.proofs.basics.Context.{Key, View, view}
 use Rattle.fish_rule.specs.World.{high, low}
 use Rattle.fish_rule.specs.declared.view.Position.{Position}
@@ -14,9 +14,9 @@ use Rattle.fish_rule.proofs.close.read_log.Goals as goal
 
 -- it reads on from the tail whose parts the load gave
 reads_words : (v t u : View) (x number line : ℕ) → t ≡ after_load_tail v x → number ≡ high x → line ≡ low x
-    → v.learned.count ≤ number → Rests number line v.tail → Extends t u → StaysOpen v u
+    → v.learned.count ≤ number → RestsAt number line v.tail → Extends t u → StaysOpen v u
 reads_words v t u x number line loaded number_is line_is counted rests extends =
-    stays_open v t u x loaded (omega arith) (subst (λ (z : ℕ × ℕ). Rests z.0 z.1 v.tail)
+    stays_open v t u x loaded (omega arith) (subst (λ (z : ℕ × ℕ). RestsAt z.0 z.1 v.tail)
     (λ i. (number_is i, line_is i)) rests) extends
 
 pub returns-in-Err-clause-stays : goal.returns-in-Err-clause-stays
@@ -55,7 +55,7 @@ returns-in-Ok-clause-whole c =
       read = read_later u w tail.number tail.line c.read_words.new.read learns c.in-Ok.ensures.read;
       settled = heads.0;
       far = heads.1;
-      heads = subst (λ (k : Key). AreHeads w heads.0 k.buckets c.read_words.new.heads) (sym about)
+      heads = subst (λ (k : Key). AreSettledHeads w heads.0 k.buckets c.read_words.new.heads) (sym about)
           (heads_later u w heads.0 c.args.log.now.key.buckets c.read_words.new.heads learns heads.2);
       version = sym (ap (λ (z : View). z.learned.version) c.load_version-version.ensures.view);
     }

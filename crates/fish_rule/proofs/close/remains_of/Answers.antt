@@ -6,7 +6,7 @@ use Rattle.atomic_table.specs.Table.{Final, Seen}
 use Rattle.fish_rule.proofs.basics.Context.{Key, Rule, View, get_elem?, some, view}
 use Rattle.fish_rule.proofs.laws.Remains.{closes, entry_words}
 use Rattle.fish_rule.specs.LogWords.{entries_in}
-use Rattle.fish_rule.specs.Table.{Ruled, Stands}
+use Rattle.fish_rule.specs.Table.{Ruled, IsOfMoment}
 use Rattle.fish_rule.specs.World.{world}
 use Rattle.fish_rule.proofs.close.remains_of.Goals as goal
 
@@ -27,7 +27,7 @@ is_there key table_key id v words slots same (full, none, last) = record {
 }
 
 -- so the view stands there
-abbrev stands : (key : Key) (id : ℕ) (v : View) (words : List ℕ) → v.about ≡ key → IsThere key id v words → Stands v
+abbrev stands : (key : Key) (id : ℕ) (v : View) (words : List ℕ) → v.about ≡ key → IsThere key id v words → IsOfMoment v
 stands key id v words about there = record {
   moment = world key words there.views;
   rule = subst (λ (z : Key). Rule z (world key words there.views)) (sym about) there.rule;

@@ -2,7 +2,7 @@
 use Rattle.std.proofs.Common.{length, sym, ap, ◌∙◌, subst, ℕ, ◌≤◌, arith}
 use Rattle.fish_rule.proofs.steps.OpenLog.{begins, first_stands}
 use Rattle.fish_rule.specs.within.Start.{IsEmpty}
-use Rattle.fish_rule.specs.Table.{Sat, Stands}
+use Rattle.fish_rule.specs.Table.{Sat, IsOfMoment}
 use Rattle.fish_rule.specs.declared.view.View.{View}
 use Rattle.fish_rule.proofs.seats.open_log.Goals as goal
 
@@ -33,6 +33,6 @@ returns-clause-pass c =
       table = c.in_ok-table.ensures.2;
       about = ap (λ (z : View). z.about) is;
       live = subst (λ (z : ℕ). 1 ≤ z) (sym (ap (λ (z : View). z.lane) is)) (omega arith);
-      stands = subst Stands (sym is)
+      stands = subst IsOfMoment (sym is)
           (first_stands key c.key_of-key.ensures.fits c.in_ok-words.words.items c.in_ok-words.ensures);
     }

@@ -1,7 +1,7 @@
 -- The table allows a split, and both views that it makes are those of passes of the log.
 use Rattle.std.proofs.Common.{ℕ, ◌<◌, ◌≤◌, sym, ap, ◌∙◌, subst, arith}
 use Rattle.fish_rule.proofs.steps.SplitPass.{left_stands, right_stands, splits}
-use Rattle.fish_rule.specs.Table.{Sat, Stands}
+use Rattle.fish_rule.specs.Table.{Sat, IsOfMoment}
 use Rattle.fish_rule.proofs.seats.split_lane.Goals as goal
 
 -- the rule allows a split, whatever the words are
@@ -22,7 +22,7 @@ returns-clause-control g c =
       table = c.split_seat-seat.ensures.0 ∙ c.requires.pass.table;
       about = ap (λ z. z.about) is ∙ c.requires.pass.about;
       live = subst (λ (z : ℕ). 1 ≤ z) (sym (ap (λ z. z.lane) is)) c.requires.pass.live;
-      stands = subst Stands (sym is)
+      stands = subst IsOfMoment (sym is)
           (left_stands c.args.control.now.seat.me.0 g.row.LANE c.requires.pass.stands c.requires.can);
     }
 
@@ -34,6 +34,6 @@ returns-clause-pass g c =
       table = c.split_seat-seat.ensures.3 ∙ c.requires.pass.table;
       about = ap (λ z. z.about) is ∙ c.requires.pass.about;
       live = subst (λ (z : ℕ). 1 ≤ z) (sym (ap (λ z. z.lane) is)) (let above = c.requires.can.above in omega arith);
-      stands = subst Stands (sym is)
+      stands = subst IsOfMoment (sym is)
           (right_stands c.args.control.now.seat.me.0 g.row.LANE c.requires.pass.stands c.requires.can);
     }

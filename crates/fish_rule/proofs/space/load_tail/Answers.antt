@@ -1,7 +1,7 @@
 -- The table allows a load of the tail.
 use Rattle.std.proofs.Common.{sym, arith, subst, ℕ, ◌<◌, ◌≤◌}
 use Rattle.fish_rule.proofs.steps.LoadTail.{load_tail_allowed}
-use Rattle.fish_rule.specs.Parts.{Rests}
+use Rattle.fish_rule.specs.Parts.{RestsAt}
 use Rattle.fish_rule.specs.Passes.{view}
 use Rattle.fish_rule.specs.World.{high}
 use Rattle.fish_rule.specs.declared.view.Key.{Key}
@@ -28,7 +28,7 @@ returns-clause-view c = (
 pub returns-clause-rests : goal.returns-clause-rests
 returns-clause-rests c control all =
     let at = c.position_in.ensures in
-    subst (λ (z : ℕ × ℕ). Rests z.0 z.1 (view c.args.pass.now).tail) (λ i. (sym at.number i, sym at.line i))
+    subst (λ (z : ℕ × ℕ). RestsAt z.0 z.1 (view c.args.pass.now).tail) (λ i. (sym at.number i, sym at.line i))
     (c.load-found.ensures.2.rests control all)
 
 pub returns-clause-from : goal.returns-clause-from

@@ -2,7 +2,7 @@
 use Rattle.std.proofs.Common.{ℕ, Result, [], ◌∷◌, refl, sym, subst}
 use Rattle.fish_flush.specs.declared.refusal.FlushRefusal.{FlushRefusal}
 use Rattle.fish_flush.specs.declared.refusal.FlushRefusal.TheVariants as flush
-use Rattle.fish_lanes.specs.Ending.{HasEnd}
+use Rattle.fish_lanes.specs.Ending.{EndsAlone}
 use Rattle.fish_rule.specs.Passes.{view}
 use Rattle.fish_run.proofs.CommitRows.{rows_failed}
 use Rattle.fish_run.proofs.Going.{end_reads, end_settled, holds_rows, later_reads, no_err}
@@ -65,7 +65,7 @@ returns-clause-all g c =
     let u = view c.checkpoint.new.pass in
     let kept = c.in_ok-checkpoint.ensures.commit in
     record {
-      end = subst (HasEnd u) (sym kept.count)
+      end = subst (EndsAlone u) (sym kept.count)
           (end_settled (view c.args.store.now.pass) u c.in_ok-checkpoint.field-0 c.requires.go.0 c.checkpoint.ensures.reads
           c.checkpoint.ensures.pass.stands c.requires.go.1.end c.in_ok-checkpoint.ensures.settled);
       line = kept.line;

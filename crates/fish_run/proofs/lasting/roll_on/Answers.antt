@@ -5,7 +5,7 @@ use Rattle.fish_run.proofs.Going.{may_roll, one_end, registry_reads, rolled_go, 
 use Rattle.fish_run.proofs.CommitRows.{rows_or}
 use Rattle.fish_run.proofs.Turns.{runs_step}
 use Rattle.fish_store.proofs.Running.{runs_both}
-use Rattle.fish_run.specs.Blocks.{begun}
+use Rattle.fish_run.specs.Blocks.{begun_anew}
 use Rattle.fish_lanes.specs.Registering.{Registry}
 use Rattle.fish_rule.specs.declared.table.Log.{Log}
 use Rattle.fish_rule.specs.declared.view.View.{View}
@@ -45,7 +45,7 @@ returns-in-Ok-roll-clause-rolled g c =
       registry =
           rolled_registry disk c.commit.new.disk m t h c.args.from same
           (ap (λ r. r.waiting) e.registrar ∙ c.requires.go.settled)
-          ∙ ap (λ (z : Registry). begun true c.args.from z)
+          ∙ ap (λ (z : Registry). begun_anew true c.args.from z)
           (registry_reads s m e.registrar c.requires.go.can.of.stands e.close.of.stands c.requires.go.end.alone e.reads);
       number = h.number ∙ same;
       rows = subst (λ (z : Result (Unit {0}) RunFault).

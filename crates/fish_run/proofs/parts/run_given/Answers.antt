@@ -11,7 +11,7 @@ use Rattle.fish_run.proofs.Going.{err_known}
 use Rattle.fish_run.proofs.Giving.{nones, nones_at, nones_length}
 use Rattle.fish_run.proofs.Rounding.{goes_first, nothing_length, ready_given, stops_unread}
 use Rattle.fish_run.proofs.Works.{lanes_given, may_given, still_both, still_self, ungiven}
-use Rattle.fish_run.specs.Faults.{IsUndamaged, feed_fault}
+use Rattle.fish_run.specs.Faults.{IsRunUndamaged, feed_fault}
 use Rattle.fish_run.specs.within.Parts.{StopsParts}
 use Rattle.fish_run.specs.declared.fault.RunFault.TheVariants as fault
 use Rattle.fish_run.specs.declared.lasting.Stopped.{Stopped}
@@ -117,7 +117,7 @@ returns-in-Err-clause-stopped g c =
       given = given;
       stops = stops_unread disk a.disk.now a.store a.from c.run_turns.new.disk c.in_ok-turned.turned.next c.run_turns.new.lanes
           c.run_turns.new.said given (on.goes a.disk.now a.store a.from (works_of lanes) given ready) c.from.result
-          (subst IsUndamaged (sym why) (feed_well refusal)) on.go;
+          (subst IsRunUndamaged (sym why) (feed_well refusal)) on.go;
       may = λ texts h. may_given left told texts given c.give-given.new.queues c.give-given.result
           (on_ok_weaker c.give-given.result (λ f. f texts inv.given (inv.queues texts h)) gives.given)
           (on_err_weaker c.give-given.result (λ f. f texts inv.given (inv.queues texts h)) gives.failed);

@@ -1,7 +1,7 @@
 -- A block whose files were opened, and closed at its end.
 use Rattle.std.proofs.Common.{◌≡◌, [], Err, Some, ap, arith, length, refl, subst, sym, ◌∙◌}
 use Rattle.std.proofs.lemmas.Result.{IfErr-weaker, IfOk-weaker}
-use Rattle.fish_feed.specs.Queues.{IsQueue, MayEnd}
+use Rattle.fish_feed.specs.Queues.{IsQueue, MayEndFeed}
 use Rattle.fish_feed.specs.Works.{Triples}
 use Rattle.fish_outside.proofs.CauseLemmas.{Rose_earlier, Rose_later}
 use Rattle.fish_outside.specs.Causes.{Rose}
@@ -12,7 +12,7 @@ use Rattle.fish_run.proofs.One.{are_rounds}
 use Rattle.fish_run.proofs.Rounding.{stops_unopened}
 use Rattle.fish_run.proofs.Works.{done_later, still_both}
 use Rattle.fish_run.specs.Blocks.{with_cut}
-use Rattle.fish_run.specs.Faults.{IsUndamaged, feed_fault}
+use Rattle.fish_run.specs.Faults.{IsRunUndamaged, feed_fault}
 use Rattle.fish_run.specs.within.Parts.{AreUngiven, EndsBlock, EndsLanes, StopsLanes, StopsParts}
 use Rattle.fish_run.specs.declared.fault.RunFault.TheVariants as fault
 use Rattle.fish_run.proofs.parts.run_lanes.Goals as goal
@@ -81,7 +81,7 @@ returns-in-Ok-clause-stopped g c =
     c.run_parts-ended.new.disk mid rest)
     (StopsLanes disk a.disk.now a.store a.from a.texts.now c.run_parts-ended.new.disk new)
     (λ e h.
-    let may = subst (Triples (MayEnd mid left) a.texts.now h.given) (sym all) (h.may a.texts.now opened) in
+    let may = subst (Triples (MayEndFeed mid left) a.texts.now h.given) (sym all) (h.may a.texts.now opened) in
     record {
       given = h.given;
       stops = h.stops;
@@ -126,7 +126,7 @@ returns-in-Err-clause-stopped g c =
     let why : c.from.result ≡ feed_fault refusal = c.from.ensures in
     stops_unopened disk a.disk.now a.store a.from
     (record { store = Some a.store; why = c.from.result }) refl
-    (subst IsUndamaged (sym why) (feed_well refusal)) c.requires.go a.texts.now (g.H.Host.files c.open_lanes.new.host)
+    (subst IsRunUndamaged (sym why) (feed_well refusal)) c.requires.go a.texts.now (g.H.Host.files c.open_lanes.new.host)
 
 pub returns-in-Err-clause-causes : goal.returns-in-Err-clause-causes
 returns-in-Err-clause-causes g c = record {

@@ -18,7 +18,7 @@ use Rattle.fish_run.specs.within.Going.{HasStepped}
 use Rattle.fish_run.specs.within.Turning.{StopsTurn}
 use Rattle.fish_run.specs.within.Runs.{CanGoOn}
 use Rattle.fish_run.specs.Tables.{IsNearLimits}
-use Rattle.fish_run.specs.within.Steps.{AreWhole}
+use Rattle.fish_run.specs.within.Steps.{AreWholeLanes}
 use Rattle.fish_run.specs.declared.fault.RunFault.TheVariants as fault
 use Rattle.fish_run.specs.declared.lasting.Stopped.{Stopped}
 use Rattle.fish_whole.specs.Whole.{Whole}
@@ -60,7 +60,7 @@ returns-in_err-next-clause-stopped g c =
     let a = c.args in
     let b = c.run_round-end in
     let e = b.ensures in
-    let whole : AreWhole b.new.lanes = c.in-Ok.ensures.whole in
+    let whole : AreWholeLanes b.new.lanes = c.in-Ok.ensures.whole in
     let why : Stopped = c.in_err-next.field-0.0 in
     err_known c.from_residual.result
     (StopsTurn disk a.disk.now a.start a.lanes.now a.said.now c.renew.new.disk) why
@@ -95,7 +95,7 @@ returns-in-Ok-step_all-clause-on g c =
     let a = c.args in
     let b = c.run_round-end in
     let e = b.ensures in
-    let whole : AreWhole b.new.lanes = c.in-Ok.ensures.whole in
+    let whole : AreWholeLanes b.new.lanes = c.in-Ok.ensures.whole in
     let more : Bool = c.go_on-more.result in
     let fresh : Bool = more && nat_lt c.base.result.number b.result.to in
     let above = above_base c.base.result.number b.result.to b.new.store.log.key.number more c.base.ensures.0 in
@@ -164,7 +164,7 @@ returns-in-Err-step_all-clause-stopped g c = λ d s from now given ready.
     let a = c.args in
     let b = c.run_round-end in
     let e = b.ensures in
-    let whole : AreWhole b.new.lanes = c.in-Ok.ensures.whole in
+    let whole : AreWholeLanes b.new.lanes = c.in-Ok.ensures.whole in
     let fresh : Bool = c.go_on-more.result && nat_lt c.base.result.number b.result.to in
     stops_then disk d s from a.disk.now a.start a.lanes.now a.said.now now
     given ready

@@ -2,7 +2,7 @@
 use Rattle.std.proofs.Common.{◌≡◌, ◌≤◌, ℕ, List, length}
 use Rattle.fish_lanes.specs.Blocks.{AreLanes}
 use Rattle.fish_lanes.specs.declared.work.Work.{Work}
-use Rattle.fish_run.specs.within.Going.{IsReady}
+use Rattle.fish_run.specs.within.Going.{AreLanesReady}
 use Rattle.fish_run.specs.within.Turning.{tables_left}
 use Rattle.fish_run.specs.within.Runs.{CanGoOn}
 use Rattle.fish_store.specs.declared.store.Store.{Store}
@@ -15,8 +15,8 @@ invariant-loop-turned g l = record {
   many : length l.lanes ≡ length l.said;
   same : length l.lanes ≡ length l.fn.lanes;
   goes : (d : g.row.D.Denot) (s : Store) (from : ℕ) (now given : List (List Work))
-      → IsReady g.D.Disk d s from l.fn.disk l.fn.start l.fn.lanes l.fn.said now given
-      → (next : List (List Work)) × IsReady g.D.Disk d s from l.disk l.start l.lanes
+      → AreLanesReady g.D.Disk d s from l.fn.disk l.fn.start l.fn.lanes l.fn.said now given
+      → (next : List (List Work)) × AreLanesReady g.D.Disk d s from l.disk l.start l.lanes
       l.said next given;
   disk : g.D.Disk.faults l.fn.disk ≤ g.D.Disk.faults l.disk;
 }

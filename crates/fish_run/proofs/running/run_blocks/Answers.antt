@@ -1,7 +1,7 @@
 -- The first block and the next ones.
 use Rattle.std.proofs.Common.{◌∙◌, ◌+◌, arith, refl, sym, take, ap, subst, ◌≡◌, List, ◌∷◌, ◌++◌, [], Err}
 use Rattle.std.proofs.lemmas.List.{take_more}
-use Rattle.fish_lanes.specs.Ending.{HasEnd}
+use Rattle.fish_lanes.specs.Ending.{EndsAlone}
 use Rattle.fish_lanes.specs.Registering.{Registry, registry_of}
 use Rattle.fish_rule.specs.Passes.{view}
 use Rattle.fish_run.proofs.Caused.{caused_since, caused_write}
@@ -12,12 +12,12 @@ use Rattle.fish_feed.proofs.Lists.{get_at}
 use Rattle.fish_run.proofs.One.{first_of, rounds_self, stops_with}
 use Rattle.fish_run.proofs.Works.{still_both, still_self}
 use Rattle.fish_run.specs.Blocks.{Round, first_registry}
-use Rattle.fish_run.specs.Faults.{IsUndamaged, write_fault}
+use Rattle.fish_run.specs.Faults.{IsRunUndamaged, write_fault}
 use Rattle.fish_run.specs.Reports.{first_item}
 use Rattle.fish_run.specs.within.Running.{StopsRun, counts_of}
 use Rattle.fish_run.specs.within.Runs.{CanGoOn}
 use Rattle.fish_run.specs.within.Steps.{WritesBlocks}
-use Rattle.fish_run.specs.within.Counting.{Counts, IsCausedBy}
+use Rattle.fish_run.specs.within.Counting.{FaultCounts, IsCausedBy}
 use Rattle.fish_run.specs.declared.fault.RunFault.{RunFault}
 use Rattle.fish_run.specs.declared.lasting.Stopped.{Stopped}
 use Rattle.fish_script.specs.declared.script.Block.{Block}
@@ -111,16 +111,16 @@ returns-in-Err-clause-some g c =
     c.args.refused.now e
     (stops_with disk p c.args.disk.now s from from first [] e c.stopped.ensures.store
     (close_of disk.images c.args.disk.now s s.log.key.number new.go)
-    (subst IsUndamaged (sym why) (write_well refusal))
+    (subst IsRunUndamaged (sym why) (write_well refusal))
     (first_of disk p p from from first first []
     (rounds_self disk p from first)
-    (subst (HasEnd (view s.pass)) (sym c.requires.count) new.go.end))) (refusal, why)
+    (subst (EndsAlone (view s.pass)) (sym c.requires.count) new.go.end))) (refusal, why)
     c.in-Err.ensures.part c.requires.accepted
 
 pub returns-in-Err-clause-cause : goal.returns-in-Err-clause-cause
 returns-in-Err-clause-cause g c =
-    let before : Counts = counts_of g.H.Host.faults g.W.Sink.faults g.D.Disk.faults c.args.host.now c.args.out.now c.args.disk.now in
-    let now : Counts = counts_of g.H.Host.faults g.W.Sink.faults g.D.Disk.faults c.args.host.now c.write_opened.new.out
+    let before : FaultCounts = counts_of g.H.Host.faults g.W.Sink.faults g.D.Disk.faults c.args.host.now c.args.out.now c.args.disk.now in
+    let now : FaultCounts = counts_of g.H.Host.faults g.W.Sink.faults g.D.Disk.faults c.args.host.now c.write_opened.new.out
     c.args.disk.now in
     let why : c.stopped.result.why ≡ write_fault c.in-Err.refusal = c.stopped.ensures.why ∙ c.from.ensures in
     subst (λ (z : RunFault). IsCausedBy before now z) (sym why)
@@ -159,10 +159,10 @@ returns-in_err-lasts-clause-content g c =
 
 pub returns-in_err-lasts-clause-cause : goal.returns-in_err-lasts-clause-cause
 returns-in_err-lasts-clause-cause g c =
-    let before : Counts = counts_of g.H.Host.faults g.W.Sink.faults g.D.Disk.faults c.args.host.now c.args.out.now c.args.disk.now in
-    let mid : Counts = counts_of g.H.Host.faults g.W.Sink.faults g.D.Disk.faults c.loop-block.host c.loop-block.out
+    let before : FaultCounts = counts_of g.H.Host.faults g.W.Sink.faults g.D.Disk.faults c.args.host.now c.args.out.now c.args.disk.now in
+    let mid : FaultCounts = counts_of g.H.Host.faults g.W.Sink.faults g.D.Disk.faults c.loop-block.host c.loop-block.out
     c.loop-block.disk in
-    let now : Counts = counts_of g.H.Host.faults g.W.Sink.faults g.D.Disk.faults c.run_one.new.host c.run_one.new.out
+    let now : FaultCounts = counts_of g.H.Host.faults g.W.Sink.faults g.D.Disk.faults c.run_one.new.host c.run_one.new.out
     c.run_one.new.disk in
     let e = c.in_err-lasts.field-0.0 in
     err_known c.from_residual.result (λ (s : Stopped). IsCausedBy before now s.why) e c.from_residual.ensures.1

@@ -1,7 +1,8 @@
 -- A block that ran and was written, and where a fault came.
 use Rattle.std.proofs.Common.{◌≡◌, ◌∙◌, Err, List, refl, subst, sym}
 use Rattle.std.specs.Prelude.{◌||◌}
-use Rattle.fish_feed.specs.Works.{AreDone, Pairs}
+use Rattle.fish_feed.specs.Works.{AreStatementsDone}
+use Rattle.fish_script.specs.Laws.{Pairs}
 use Rattle.fish_outside.specs.Content.{Gained, GainedPart}
 use Rattle.fish_report.specs.ReportText.{report_text}
 use Rattle.fish_run.proofs.Caused.{caused_given, caused_write}
@@ -9,13 +10,13 @@ use Rattle.fish_run.proofs.Faults.{write_well}
 use Rattle.fish_run.proofs.Going.{err_known}
 use Rattle.fish_run.proofs.One.{one_cut, one_ended, one_unwritten}
 use Rattle.fish_run.specs.Blocks.{with_cut}
-use Rattle.fish_run.specs.Faults.{IsUndamaged, write_fault}
+use Rattle.fish_run.specs.Faults.{IsRunUndamaged, write_fault}
 use Rattle.fish_run.specs.Reports.{said_items, said_refused}
 use Rattle.fish_run.specs.Rounds.{AreRounds}
 use Rattle.fish_run.specs.within.Faults.{CausesStop}
 use Rattle.fish_run.specs.within.Parts.{AreTexts}
 use Rattle.fish_run.specs.within.Running.{StopsOne, counts_of}
-use Rattle.fish_run.specs.within.Counting.{Counts, IsCausedBy}
+use Rattle.fish_run.specs.within.Counting.{FaultCounts, IsCausedBy}
 use Rattle.fish_run.specs.declared.fault.RunFault.{RunFault}
 use Rattle.fish_run.specs.declared.lasting.Stopped.{Stopped}
 use Rattle.fish_run.specs.declared.saying.Said.{Said}
@@ -48,8 +49,8 @@ pub returns-in_err-store-clause-cause : goal.returns-in_err-store-clause-cause
 returns-in_err-store-clause-cause g c =
     let host = g.H.Host.faults in
     let disk = g.D.Disk.faults in
-    let before : Counts = counts_of host g.W.Sink.faults disk c.args.host.now c.args.out.now c.args.disk.now in
-    let now : Counts = counts_of host g.W.Sink.faults disk c.run_lanes.new.host c.args.out.now c.run_lanes.new.disk in
+    let before : FaultCounts = counts_of host g.W.Sink.faults disk c.args.host.now c.args.out.now c.args.disk.now in
+    let now : FaultCounts = counts_of host g.W.Sink.faults disk c.run_lanes.new.host c.args.out.now c.run_lanes.new.disk in
     let e = c.in_err-store.field-0.0 in
     let causes = subst (CausesStop (host c.args.host.now) (host c.run_lanes.new.host) (disk c.args.disk.now) (disk c.run_lanes.new.disk))
     c.in_err-store.was c.run_lanes.ensures.causes in
@@ -66,7 +67,7 @@ returns-in-Ok-clause-ended g c =
     let new = g.W.Sink.written c.tell-told.new.out in
     let d = c.in_ok-store.field-0 in
     let end = c.in_ok-store.ensures.ended in
-    let done = subst (λ (z : List (List Statement)). Pairs (AreDone told) z end.given) c.as_slice-texts.ensures end.done in
+    let done = subst (λ (z : List (List Statement)). Pairs (AreStatementsDone told) z end.given) c.as_slice-texts.ensures end.done in
     let items = c.as_slice.ensures.value in
     one_ended disk c.args.disk.now c.args.lasts told c.args.block.now c.requires.go
     c.run_lanes.new.disk d end.given done end.rounds old new c.args.refused.now c.tell-told.new.refused _ refl
@@ -82,22 +83,22 @@ returns-in-Err-clause-stopped g c =
     let new = g.W.Sink.written c.tell-told.new.out in
     let d = c.in_ok-store.field-0 in
     let end = c.in_ok-store.ensures.ended in
-    let done = subst (λ (z : List (List Statement)). Pairs (AreDone told) z end.given) c.as_slice-texts.ensures end.done in
+    let done = subst (λ (z : List (List Statement)). Pairs (AreStatementsDone told) z end.given) c.as_slice-texts.ensures end.done in
     let items = c.as_slice.ensures.value in
     let e = c.stopped.result in
     let refusal = c.in-Err.refusal in
     let why : e.why ≡ write_fault refusal = c.stopped.ensures.why ∙ c.from.ensures in
     one_unwritten disk c.args.disk.now c.args.lasts told c.args.block.now c.requires.go
     c.run_lanes.new.disk d end.given done end.rounds old new c.args.refused.now c.tell-told.new.refused e c.stopped.ensures.store
-    (subst IsUndamaged (sym why) (write_well refusal)) (refusal, why)
+    (subst IsRunUndamaged (sym why) (write_well refusal)) (refusal, why)
     (subst (λ (z : List Said). GainedPart old new (report_text (said_items c.args.block.now.several c.args.lasts.count d.end z))) items
     c.in-Err.ensures.part)
     (subst (λ (z : List Said). c.tell-told.new.refused ≡ c.args.refused.now || said_refused z) items c.tell-told.ensures.refused)
 
 pub returns-in-Err-clause-cause : goal.returns-in-Err-clause-cause
 returns-in-Err-clause-cause g c =
-    let before : Counts = counts_of g.H.Host.faults g.W.Sink.faults g.D.Disk.faults c.args.host.now c.args.out.now c.args.disk.now in
-    let now : Counts = counts_of g.H.Host.faults g.W.Sink.faults g.D.Disk.faults c.run_lanes.new.host c.tell-told.new.out
+    let before : FaultCounts = counts_of g.H.Host.faults g.W.Sink.faults g.D.Disk.faults c.args.host.now c.args.out.now c.args.disk.now in
+    let now : FaultCounts = counts_of g.H.Host.faults g.W.Sink.faults g.D.Disk.faults c.run_lanes.new.host c.tell-told.new.out
     c.run_lanes.new.disk in
     let refusal = c.in-Err.refusal in
     let why : c.stopped.result.why ≡ write_fault refusal = c.stopped.ensures.why ∙ c.from.ensures in

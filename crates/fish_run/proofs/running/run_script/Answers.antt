@@ -5,7 +5,7 @@ use Rattle.fish_rule.specs.Passes.{view}
 use Rattle.fish_rule.specs.declared.close.Remains.{Remains}
 use Rattle.fish_run.proofs.Closing.{OpenedAs, ends_late, ends_stopped, ends_whole, lost_all, lost_some, opened_as, well_some}
 use Rattle.fish_run.proofs.Shown.{shown_is, shown_some, well_closed, well_ended}
-use Rattle.fish_run.specs.Ran.{IsLost, IsStopped, IsWhole}
+use Rattle.fish_run.specs.Ran.{IsRunLost, IsRunStopped, IsRunWhole}
 use Rattle.fish_run.specs.declared.fault.RunFault.TheVariants as fault
 use Rattle.fish_run.specs.within.Running.{Finishes}
 use Rattle.fish_run.proofs.running.run_script.Given.{Over}
@@ -38,10 +38,10 @@ returns-in-Ok-clause-whole g c none =
     let now = g.W.Sink.written k.new.out in
     shown_some (λ (r : Remains). IsClosed (view l.store.pass) r × Finishes (Ok l.count) k.result.fault
     (g.W.Sink.written c.run_store.new.out) now)
-    (λ (r : Remains). IsWhole g.D.Disk c.args.disk.now c.run_store.new.disk c.args.opened (g.H.Host.files c.run_store.new.host)
+    (λ (r : Remains). IsRunWhole g.D.Disk c.args.disk.now c.run_store.new.disk c.args.opened (g.H.Host.files c.run_store.new.host)
     c.args.script.now r (g.W.Sink.written c.args.out.now) now k.result.refused) k.result.remains
     (λ lost. (let bad : None ≡ Some fault.Memory = sym none ∙ (k.ensures.lost lost).0 in absurd cc)) k.ensures.shown
-    (λ r f. subst (λ (z : Bool). IsWhole g.D.Disk c.args.disk.now c.run_store.new.disk c.args.opened
+    (λ r f. subst (λ (z : Bool). IsRunWhole g.D.Disk c.args.disk.now c.run_store.new.disk c.args.opened
     (g.H.Host.files c.run_store.new.host) c.args.script.now r (g.W.Sink.written c.args.out.now) now z) (sym k.ensures.refused)
     (ends_whole g.D.Disk
     (as_read g) c.args.disk.now c.args.opened c.of_opened-store.result (begun g c.before.before.before) c.run_store.new.disk
@@ -56,9 +56,9 @@ returns-in-Ok-clause-stopped g c why fault_is r is =
     let now = g.W.Sink.written k.new.out in
     shown_is (λ (r : Remains). IsClosed (view l.store.pass) r × Finishes (Ok l.count) k.result.fault
     (g.W.Sink.written c.run_store.new.out) now)
-    (λ (r : Remains). IsStopped g.D.Disk c.args.disk.now c.run_store.new.disk c.args.opened (g.H.Host.files c.run_store.new.host)
+    (λ (r : Remains). IsRunStopped g.D.Disk c.args.disk.now c.run_store.new.disk c.args.opened (g.H.Host.files c.run_store.new.host)
     c.args.script.now r (g.W.Sink.written c.args.out.now) now k.result.refused why) k.result.remains r is k.ensures.shown
-    (λ f. subst (λ (z : Bool). IsStopped g.D.Disk c.args.disk.now c.run_store.new.disk c.args.opened
+    (λ f. subst (λ (z : Bool). IsRunStopped g.D.Disk c.args.disk.now c.run_store.new.disk c.args.opened
     (g.H.Host.files c.run_store.new.host) c.args.script.now r (g.W.Sink.written c.args.out.now) now z why) (sym k.ensures.refused)
     (ends_late g.D.Disk
     (as_read g) c.args.disk.now c.args.opened c.of_opened-store.result (begun g c.before.before.before) c.run_store.new.disk
@@ -70,9 +70,9 @@ returns-in-Ok-clause-lost g c none =
     let l = c.in-Ok.field-0 in
     let k = c.close in (
       (k.ensures.lost none).0,
-      subst (λ (z : _). IsLost g.D.Disk c.args.disk.now c.run_store.new.disk c.args.opened (g.H.Host.files c.run_store.new.host)
+      subst (λ (z : _). IsRunLost g.D.Disk c.args.disk.now c.run_store.new.disk c.args.opened (g.H.Host.files c.run_store.new.host)
           c.args.script.now (g.W.Sink.written c.args.out.now) (g.W.Sink.written z) k.result.refused) (sym (k.ensures.lost none).1)
-          (subst (λ (z : Bool). IsLost g.D.Disk c.args.disk.now c.run_store.new.disk c.args.opened
+          (subst (λ (z : Bool). IsRunLost g.D.Disk c.args.disk.now c.run_store.new.disk c.args.opened
           (g.H.Host.files c.run_store.new.host) c.args.script.now (g.W.Sink.written c.args.out.now)
           (g.W.Sink.written c.run_store.new.out) z) (sym k.ensures.refused)
           (lost_all g.D.Disk
@@ -94,7 +94,7 @@ returns-in-Some-clause-whole g c none =
     let now = g.W.Sink.written k.new.out in
     shown_some (λ (r : Remains). IsClosed (view c.in-Some.store.pass) r × Finishes (Err stop.why) k.result.fault
     (g.W.Sink.written c.run_store.new.out) now)
-    (λ (r : Remains). IsWhole g.D.Disk c.args.disk.now c.run_store.new.disk c.args.opened
+    (λ (r : Remains). IsRunWhole g.D.Disk c.args.disk.now c.run_store.new.disk c.args.opened
     (g.H.Host.files c.run_store.new.host) c.args.script.now r (g.W.Sink.written c.args.out.now) now k.result.refused) k.result.remains
     (λ lost. (let bad : None ≡ Some fault.Memory = sym none ∙ (k.ensures.lost lost).0 in absurd cc)) k.ensures.shown
     (λ r f. (let bad : Some stop.why ≡ None = sym f.1.0 ∙ none in absurd cc))
@@ -106,9 +106,9 @@ returns-in-Some-clause-stopped g c why fault_is r is =
     let k = c.close-in-Some in
     let now = g.W.Sink.written k.new.out in
     shown_is (λ (r : Remains). IsClosed (view x.pass) r × Finishes (Err stop.why) k.result.fault (g.W.Sink.written c.run_store.new.out) now)
-    (λ (r : Remains). IsStopped g.D.Disk c.args.disk.now c.run_store.new.disk c.args.opened (g.H.Host.files c.run_store.new.host)
+    (λ (r : Remains). IsRunStopped g.D.Disk c.args.disk.now c.run_store.new.disk c.args.opened (g.H.Host.files c.run_store.new.host)
     c.args.script.now r (g.W.Sink.written c.args.out.now) now k.result.refused why) k.result.remains r is k.ensures.shown
-    (λ f. subst (λ (z : Bool). IsStopped g.D.Disk c.args.disk.now c.run_store.new.disk c.args.opened
+    (λ f. subst (λ (z : Bool). IsRunStopped g.D.Disk c.args.disk.now c.run_store.new.disk c.args.opened
     (g.H.Host.files c.run_store.new.host) c.args.script.now r (g.W.Sink.written c.args.out.now) now z why) (sym k.ensures.refused)
     (ends_stopped g.D.Disk
     (as_read g) c.args.disk.now c.args.opened c.of_opened-store.result (begun g c.before.before.before.before) c.run_store.new.disk
@@ -119,9 +119,9 @@ pub returns-in-Some-clause-lost : goal.returns-in-Some-clause-lost
 returns-in-Some-clause-lost g c none =
     let k = c.close-in-Some in (
       (k.ensures.lost none).0,
-      subst (λ (z : _). IsLost g.D.Disk c.args.disk.now c.run_store.new.disk c.args.opened (g.H.Host.files c.run_store.new.host)
+      subst (λ (z : _). IsRunLost g.D.Disk c.args.disk.now c.run_store.new.disk c.args.opened (g.H.Host.files c.run_store.new.host)
           c.args.script.now (g.W.Sink.written c.args.out.now) (g.W.Sink.written z) k.result.refused) (sym (k.ensures.lost none).1)
-          (subst (λ (z : Bool). IsLost g.D.Disk c.args.disk.now c.run_store.new.disk c.args.opened
+          (subst (λ (z : Bool). IsRunLost g.D.Disk c.args.disk.now c.run_store.new.disk c.args.opened
           (g.H.Host.files c.run_store.new.host) c.args.script.now (g.W.Sink.written c.args.out.now)
           (g.W.Sink.written c.run_store.new.out) z) (sym k.ensures.refused)
           (lost_some g.D.Disk

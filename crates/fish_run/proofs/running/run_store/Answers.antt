@@ -10,7 +10,7 @@ use Rattle.fish_run.proofs.One.{runs_on, stops_with}
 use Rattle.fish_run.specs.Blocks.{first_registry, rounds_of}
 use Rattle.fish_run.specs.Reports.{first_item}
 use Rattle.fish_run.specs.within.Running.{counts_of}
-use Rattle.fish_run.specs.within.Counting.{Counts}
+use Rattle.fish_run.specs.within.Counting.{FaultCounts}
 use Rattle.fish_run.specs.declared.fault.RunFault.{RunFault}
 use Rattle.fish_run.specs.declared.lasting.Stopped.{Stopped}
 use Rattle.fish_store.specs.CommitRows.{LeavesRows, by_checkpoint}
@@ -53,10 +53,10 @@ returns-in-Err-clause-some g c =
 
 pub returns-in-Err-clause-cause : goal.returns-in-Err-clause-cause
 returns-in-Err-clause-cause g c =
-    let before : Counts = counts_of g.H.Host.faults g.W.Sink.faults g.D.Disk.faults c.args.host.now c.args.out.now c.args.disk.now in
-    let mid : Counts = counts_of g.H.Host.faults g.W.Sink.faults g.D.Disk.faults c.run_blocks.new.host c.run_blocks.new.out
+    let before : FaultCounts = counts_of g.H.Host.faults g.W.Sink.faults g.D.Disk.faults c.args.host.now c.args.out.now c.args.disk.now in
+    let mid : FaultCounts = counts_of g.H.Host.faults g.W.Sink.faults g.D.Disk.faults c.run_blocks.new.host c.run_blocks.new.out
     c.run_blocks.new.disk in
-    let now : Counts = counts_of g.H.Host.faults g.W.Sink.faults g.D.Disk.faults c.run_blocks.new.host c.run_blocks.new.out
+    let now : FaultCounts = counts_of g.H.Host.faults g.W.Sink.faults g.D.Disk.faults c.run_blocks.new.host c.run_blocks.new.out
     c.commit.new.disk in
     let why = c.in-Err.why in
     let named = c.in-Err.ensures.named in

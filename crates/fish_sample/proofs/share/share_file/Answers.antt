@@ -1,6 +1,6 @@
 -- One number more is a line more, where it is of the lane.
 use Rattle.std.proofs.Common.{◌≡◌, ◌∙◌, ap, sym, arith, ℕ, List, ◌++◌}
-use Rattle.fish_sample.specs.within.Files.{line_of, lines_of}
+use Rattle.fish_sample.specs.within.Files.{line_of, sample_lines}
 use Rattle.fish_sample.specs.Sample.{share}
 use Rattle.fish_sample.proofs.ShareFiles.{lines_more, lines_same}
 use Rattle.fish_sample.proofs.share.share_file.Goals as goal
@@ -17,5 +17,5 @@ loop-i-preserved c = elim c.if-i-lane.branch [
 ]
 
 pub returns : goal.returns
-returns c = c.loop-i.invariant ∙ ap (λ (z : ℕ). lines_of (share z c.args.lane)) (let e : c.loop-i.i
+returns c = c.loop-i.invariant ∙ ap (λ (z : ℕ). sample_lines (share z c.args.lane)) (let e : c.loop-i.i
     ≡ c.args.number = omega (c.loop-i.auto.i-end, c.loop-i-test.false, arith) in e)

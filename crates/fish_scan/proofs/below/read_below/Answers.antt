@@ -1,7 +1,7 @@
 -- One piece more is read at each turn.
 use Rattle.std.proofs.Common.{◌≡◌, ℕ, ◌+◌, suc, subst, arith}
 use Rattle.std.proofs.lemmas.Option.{slice_get-get_or}
-use Rattle.fish_cold.specs.within.Caching.{IsUndamaged}
+use Rattle.fish_cold.specs.within.Caching.{IsColdUndamaged}
 use Rattle.fish_cold.specs.declared.refusal.ColdRefusal.TheVariants.{DiskFault}
 use Rattle.fish_lang.specs.Definition.{definition_of}
 use Rattle.fish_plan.proofs.Inside.{piece_within}
@@ -89,7 +89,7 @@ returns-in_err-read_older_piece-clause-damage g c =
 
 pub returns-in_err-read_older_piece-clause-whole : goal.returns-in_err-read_older_piece-clause-whole
 returns-in_err-read_older_piece-clause-whole g c h =
-    err_as c.from_residual.result IsUndamaged _ c.from_residual.ensures.1
+    err_as c.from_residual.result IsColdUndamaged _ c.from_residual.ensures.1
     (c.in_err-read_older_piece.ensures.whole (ahead g.D.Disk c.args.cold.now c.loop-piece.cold c.read_older_piece.new.cold c.args.disk.now
     c.loop-piece.disk
     c.read_older_piece.new.disk c.loop-piece.invariant.stays c.read_older_piece.ensures.cold h))

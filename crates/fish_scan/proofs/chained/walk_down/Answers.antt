@@ -3,7 +3,7 @@ use Rattle.std.proofs.Common.{◌≡◌, ◌≢◌, ℕ, Option, Some, None, Ok,
 use Rattle.std.proofs.Math.Decide.{ℕ_discrete}
 use Rattle.std.specs.Prelude.{IfSome, Result}
 use Rattle.fish_cold.specs.Answers.{IsLinkable, Walks}
-use Rattle.fish_cold.specs.within.Caching.{IsUndamaged}
+use Rattle.fish_cold.specs.within.Caching.{IsColdUndamaged}
 use Rattle.fish_cold.specs.declared.node.ColdNode.{ColdNode}
 use Rattle.fish_cold.specs.declared.refusal.ColdRefusal.{ColdRefusal}
 use Rattle.fish_cold.specs.Chains.{IsKeyAt}
@@ -112,7 +112,7 @@ returns-in_err-to-clause-whole g c k h b head =
     let walks = subst (λ (o : Option ColdNode). Walks c.down.place c.args.stretch.now.from here.parts here.place_in here.key (Ok o))
     c.in-Ok-Some.field-0-is (c.in-Ok-Some.ensures.carried k now b here.number here.parts here.place_in here.key here.at here.less) in
     let is = walks.1 in
-    err_as c.from_residual.result IsUndamaged _ c.from_residual.ensures.1
+    err_as c.from_residual.result IsColdUndamaged _ c.from_residual.ensures.1
     (c.in_err-to.ensures.whole k after b here.number here.parts here.key
     (subst (λ (z : ℕ × ℕ). IsKeyAt h.prior b z.0 here.number here.parts z.1 here.key) (λ i. (sym is.place_is i, sym is.key i)) here.at))
 

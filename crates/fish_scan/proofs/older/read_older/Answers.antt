@@ -1,6 +1,6 @@
 -- One number more is read at each turn.
 use Rattle.std.proofs.Common.{◌≡◌, ℕ, ◌+◌, ◌-◌, ap, subst, arith}
-use Rattle.fish_cold.specs.within.Caching.{IsUndamaged}
+use Rattle.fish_cold.specs.within.Caching.{IsColdUndamaged}
 use Rattle.fish_cold.specs.declared.refusal.ColdRefusal.TheVariants.{DiskFault}
 use Rattle.fish_lang.specs.Definition.{definition_of}
 use Rattle.fish_rule.specs.declared.table.Base.{Base}
@@ -74,7 +74,7 @@ returns-in_err-read_older_at-clause-damage g c =
 
 pub returns-in_err-read_older_at-clause-whole : goal.returns-in_err-read_older_at-clause-whole
 returns-in_err-read_older_at-clause-whole g c k h =
-    err_as c.from_residual.result IsUndamaged _ c.from_residual.ensures.1
+    err_as c.from_residual.result IsColdUndamaged _ c.from_residual.ensures.1
     (c.in_err-read_older_at.ensures.whole k (ahead g.D.Disk c.args.cold.now c.loop-number.cold c.read_older_at.new.cold c.args.disk.now
     c.loop-number.disk
     c.read_older_at.new.disk c.loop-number.invariant.stays c.read_older_at.ensures.cold h))

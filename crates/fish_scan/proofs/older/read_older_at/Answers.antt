@@ -1,6 +1,6 @@
 -- The entry there matches, or doesn't.
 use Rattle.std.proofs.Common.{ℕ, List, Option, subst, arith}
-use Rattle.fish_cold.specs.within.Caching.{IsUndamaged}
+use Rattle.fish_cold.specs.within.Caching.{IsColdUndamaged}
 use Rattle.fish_lang.specs.Definition.{definition_of}
 use Rattle.fish_scan.proofs.OlderReads.{answer_undamaged, err_as, one_read, read_parsable}
 use Rattle.fish_scan.proofs.OlderRows.{older_found, older_unfound}
@@ -10,13 +10,13 @@ use Rattle.fish_scan.proofs.older.read_older_at.Goals as goal
 pub returns-in_err-entry-clause-whole : goal.returns-in_err-entry-clause-whole
 returns-in_err-entry-clause-whole g c k h =
     let read = c.in_err-entry.ensures.carried k h in
-    err_as c.from_residual.result IsUndamaged _ c.from_residual.ensures.1 (answer_undamaged read.entry _ read.is)
+    err_as c.from_residual.result IsColdUndamaged _ c.from_residual.ensures.1 (answer_undamaged read.entry _ read.is)
 
 pub returns-in_err-payload-clause-whole : goal.returns-in_err-payload-clause-whole
 returns-in_err-payload-clause-whole g c k h =
     let less = c.requires.older in
     let base = h.base_number in
-    err_as c.from_residual-in_err-payload.result IsUndamaged _ c.from_residual-in_err-payload.ensures.1
+    err_as c.from_residual-in_err-payload.result IsColdUndamaged _ c.from_residual-in_err-payload.ensures.1
     (c.in_err-payload.ensures.whole (read_parsable h c.args.number (omega arith) c.in_ok-entry.entry (c.in_ok-entry.ensures.carried k h)))
 
 pub returns-in_ok-push-clause-read : goal.returns-in_ok-push-clause-read

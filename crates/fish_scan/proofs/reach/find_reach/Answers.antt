@@ -4,7 +4,7 @@ use Rattle.fish_rule.specs.Passes.{view}
 use Rattle.fish_scan.proofs.Ends.{exact_found}
 use Rattle.fish_scan.proofs.Looking.{reach_found, settles_looks}
 use Rattle.fish_scan.specs.Reach.{end_of}
-use Rattle.fish_scan.specs.within.Reach.{IsCut}
+use Rattle.fish_scan.specs.within.Reach.{IsCutAt}
 use Rattle.fish_walk.proofs.Looking.{looked_both}
 use Rattle.fish_rule.specs.declared.view.Key.{Key}
 use Rattle.fish_scan.proofs.reach.find_reach.Goals as goal
@@ -49,14 +49,14 @@ returns-clause-reach c =
     let base : c.base.result.number ≡ a.about.number = c.base.ensures.0 ∙ sym (ap (λ (z : Key). z.number) c.requires.pass.about) in
     let stop : c.max-stop.result ≡ max c.base.result.number found.settled = c.max-stop.ensures in
     let limit : c.min.result ≡ end_of c.args.to found.count = c.min.ensures ∙ ap (λ (z : ℕ). min z found.count) c.unwrap_or.ensures in
-    let cut = subst (λ (z : ℕ). IsCut m c.max-stop.result c.args.from z c.cut_end-end.result) limit c.cut_end-end.ensures.cut in
+    let cut = subst (λ (z : ℕ). IsCutAt m c.max-stop.result c.args.from z c.cut_end-end.result) limit c.cut_end-end.ensures.cut in
     let first : c.min-first.result ≡ min (max c.max-stop.result c.args.from) c.cut_end-end.result =
     c.min-first.ensures ∙ ap (λ (z : ℕ). min z c.cut_end-end.result) c.max.ensures in
     let last : c.min-first.result + c.len.result ≡ c.min-first.result + length c.look_on.new.looks.items =
     omega (arith, c.len.ensures, c.look_on.new.looks.ok.0) in
     reach_found a b m d c.args.from c.args.to found.settled found.count c.cut_end-end.result c.base.result.number
     c.min-first.result _ settle.settles settle.rises settle.settled settle.stops settle.count settle.tail c.cut_end-end.ensures.only
-    (subst (λ (z : ℕ). IsCut m z c.args.from (end_of c.args.to found.count) c.cut_end-end.result) stop cut) base
+    (subst (λ (z : ℕ). IsCutAt m z c.args.from (end_of c.args.to found.count) c.cut_end-end.result) stop cut) base
     (first ∙ ap (λ (z : ℕ). min (max z c.args.from) c.cut_end-end.result) stop) c.look_on.ensures.only looks.looks refl refl
     last c.min-2.ensures
     (exact_found a b m d c.args.from c.args.to found.settled found.count c.base.result.number c.max-stop.result

@@ -9,7 +9,7 @@ use Rattle.fish_rule.specs.declared.view.Noted.TheVariants.{Version}
 use Rattle.fish_rule.specs.declared.view.View.{View}
 use Rattle.fish_scan.proofs.Answering.{plans_both, plans_extends, plans_version, scans_both, scans_extends, scans_version}
 use Rattle.fish_scan.proofs.Answering.{version_loaded}
-use Rattle.fish_scan.specs.Naming.{HasNone, IsNewest}
+use Rattle.fish_scan.specs.Naming.{HasNone, IsNewestListed}
 use Rattle.fish_scan.proofs.scanning.find_row.Goals as goal
 
 pub returns-in_err-refresh-clause-only : goal.returns-in_err-refresh-clause-only
@@ -65,7 +65,7 @@ returns-in-Some-empty_range-clause-refused c = (
           c.refresh.ensures.reads.extends.clock c.in_ok-refresh.ensures.version;
       least = (let is = c.in_ok-refresh.ensures.version in let rises = c.load_version-version.ensures.rises in omega arith);
       read = c.in_ok-refresh.ensures.read;
-      newest = subst (λ (z : List Listed). IsNewest z c.args.ask.now.name c.in-Some.position) c.rows.ensures c.in-Some.ensures;
+      newest = subst (λ (z : List Listed). IsNewestListed z c.args.ask.now.name c.in-Some.position) c.rows.ensures c.in-Some.ensures;
     },
   ),
 )
@@ -78,7 +78,7 @@ returns-clause-asked c = record {
         c.refresh.ensures.reads.extends.clock c.in_ok-refresh.ensures.version;
     least = (let is = c.in_ok-refresh.ensures.version in let rises = c.load_version-version.ensures.rises in omega arith);
     read = c.in_ok-refresh.ensures.read;
-    newest = subst (λ (z : List Listed). IsNewest z c.args.ask.now.name c.in-Some.position) c.rows.ensures c.in-Some.ensures;
+    newest = subst (λ (z : List Listed). IsNewestListed z c.args.ask.now.name c.in-Some.position) c.rows.ensures c.in-Some.ensures;
   };
   some = c.in_default-empty_range.ensures;
 }

@@ -1,6 +1,6 @@
 -- The page is what is read, so its words are the file's; what they answer is answered.
 use Rattle.std.proofs.Common.{◌*◌, ◌%◌, sym, subst, drop, arith}
-use Rattle.fish_cold.specs.Answers.{Answers, LoadsWords}
+use Rattle.fish_cold.specs.Answers.{AnswersEntry, LoadsWords}
 use Rattle.fish_cold.specs.Pages.{page_words}
 use Rattle.fish_cold.specs.Regions.{Leads}
 use Rattle.fish_cold.proofs.Looking.{answered_as, if_some_used, looks_answered}
@@ -18,10 +18,10 @@ returns-in-Ok-clause-entry g c =
     let here = c.entry_on-read.ensures.entry (start.line % 32768) line (is.regions start start_is)
     (subst (λ ws. Leads ws (start.line % 32768) c.args.at line) (sym words) leads) in
     answered_as page c.in-Ok.fresh c.args.self.now c.answer.new.self c.entry_on-read.result c.answer.result
-    (λ r. Answers number (drop (4 * line) (page_words c.args.self.now.base.line page content)) r
+    (λ r. AnswersEntry number (drop (4 * line) (page_words c.args.self.now.base.line page content)) r
     × LoadsWords (drop (4 * line) (page_words c.args.self.now.base.line page content)) c.args.loads.now c.entry_on-read.new.loads r)
     c.answer.ensures
-    (subst (λ ws. Answers number (drop (4 * line) ws) c.entry_on-read.result
+    (subst (λ ws. AnswersEntry number (drop (4 * line) ws) c.entry_on-read.result
     × LoadsWords (drop (4 * line) ws) c.args.loads.now c.entry_on-read.new.loads c.entry_on-read.result) words here) (tt, tt))
 
 pub returns-in-Ok-clause-looks : goal.returns-in-Ok-clause-looks

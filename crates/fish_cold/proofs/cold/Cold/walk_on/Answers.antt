@@ -1,7 +1,7 @@
 -- The page is what is read, so its words are the file's; what they answer is answered.
 use Rattle.std.proofs.Common.{◌≡◌, ◌+◌, ◌/◌, ◌%◌, ◌≤◌, None, sym, subst, arith}
 use Rattle.std.specs.Prelude.{IfOk, IfSome}
-use Rattle.fish_cold.specs.Answers.{EndsWalk, HasNode, IsLinkable, Walks}
+use Rattle.fish_cold.specs.Answers.{EndsWalk, HasNodeAt, IsLinkable, Walks}
 use Rattle.fish_cold.specs.Pages.{page_words}
 use Rattle.fish_cold.proofs.Looking.{answered_as, if_some_used, looks_answered}
 use Rattle.fish_cold.proofs.cold.Cold.walk_on.Goals as goal
@@ -13,7 +13,7 @@ returns-in-Ok-clause-node g c =
     c.in-Ok.ensures.fresh c.used-held.ensures
     (λ content page_is line p j k read node below lower.
     let words = (page_is read).words in
-    let here = c.node_on-found.ensures.node line p j k (subst (λ ws. HasNode ws (place % 131072) line p j k)
+    let here = c.node_on-found.ensures.node line p j k (subst (λ ws. HasNodeAt ws (place % 131072) line p j k)
     (sym words) node) below lower in
     answered_as (place / 131072) c.in-Ok.fresh c.args.self.now c.answer.new.self c.node_on-found.result c.answer.result
     (Walks place c.args.asked.from p j k) c.answer.ensures here tt)

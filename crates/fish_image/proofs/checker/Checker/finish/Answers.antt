@@ -3,7 +3,7 @@ use Rattle.std.proofs.Common.{◌≡◌, refl, ℕ, List, Option, Some, None, ar
 use Rattle.fish_catalog.specs.declared.commit.Commit.{Commit}
 use Rattle.fish_image.specs.Checking.{Seen}
 use Rattle.fish_image.specs.Log.{Agrees, IsDamaged}
-use Rattle.fish_image.specs.Steps.{Stops}
+use Rattle.fish_image.specs.Steps.{StopsReading}
 use Rattle.fish_image.specs.declared.progress.Progress.{Progress}
 use Rattle.fish_image.proofs.Pieces.{breaks_damaged}
 use Rattle.fish_image.proofs.checker.Checker.finish.Goals as goal
@@ -15,12 +15,12 @@ returns-in-Some-clause-damaged c k w h =
 
 -- what is not broken stopped
 stopped : (o : Option ℕ) (c : Commit) (w left : List ℕ) (at : Progress)
-    → ((n : ℕ) → o ≡ Some n → ⊥) → Seen o c w left at → Stops c w left at
+    → ((n : ℕ) → o ≡ Some n → ⊥) → Seen o c w left at → StopsReading c w left at
 stopped (Some n) c w left at not h = absurd (not n refl)
 stopped None c w left at not h = h
 
 -- where not all entries and lines were read
-not_whole : (c : Commit) (w left : List ℕ) (at : Progress) → Stops c w left at → (at.number ≡ c.count → at.line ≡ c.lines → ⊥)
+not_whole : (c : Commit) (w left : List ℕ) (at : Progress) → StopsReading c w left at → (at.number ≡ c.count → at.line ≡ c.lines → ⊥)
     → IsDamaged c w at.number
 not_whole c w left at h not =
     let number = h.come.is_at.number in

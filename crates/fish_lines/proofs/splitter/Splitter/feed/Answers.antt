@@ -3,7 +3,7 @@ use Rattle.std.proofs.Common.{◌≡◌, ◌==◌, List, ℕ, [], ◌∷◌, ◌
 use Rattle.std.specs.Result.{OnOk}
 use Rattle.std.proofs.lemmas.Bool.{eqb-true}
 use Rattle.std.proofs.lemmas.Result.{on_ok_weaker}
-use Rattle.fish_lines.specs.Lines.{last_part, parts_of}
+use Rattle.fish_lines.specs.Lines.{last_part, parts_in}
 use Rattle.fish_lines.specs.Split.{HasTaken}
 use Rattle.fish_lines.proofs.SplitLemmas.{HasTaken-more}
 use Rattle.fish_lines.proofs.splitter.Splitter.feed.Goals as goal
@@ -21,7 +21,7 @@ empty (x ∷ l) h = (let none : length (x ∷ l) ≡ 0 = eqb-true (length (x ∷
 pub returns-then-not-self-clause-fed : goal.returns-then-not-self-clause-fed
 returns-then-not-self-clause-fed c =
     both c.take_piece.result c.take_piece.ensures.lines c.take_piece.ensures.rest (λ lines rest b taken h.
-    let t = last_part (parts_of b) in
+    let t = last_part (parts_in b) in
     let g = h.going c.requires in
     HasTaken-more c.args.self.now _ b c.args.piece.now taken h c.requires c.if-not-self.true
     c.requires c.if-not-self.true (lines t g.rest) (rest t g.rest))

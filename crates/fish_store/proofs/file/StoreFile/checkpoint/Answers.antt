@@ -4,7 +4,7 @@ use Rattle.std.specs.Prelude.{IfOk}
 use Rattle.fish_catalog.specs.declared.commit.Commit.{Commit}
 use Rattle.fish_catalog.specs.declared.entry.Entry.{Entry}
 use Rattle.fish_catalog.specs.declared.row.CatRow.{CatRow}
-use Rattle.fish_flush.specs.Carrying.{Carries, HasCommitted, LeavesEither}
+use Rattle.fish_flush.specs.Carrying.{CarriesLog, HasCommitted, LeavesEither}
 use Rattle.fish_rule.specs.Passes.{view}
 use Rattle.fish_store.proofs.Again.{commit_ok, rows_ok}
 use Rattle.fish_store.proofs.Committing.{again_checkpoint, here_checkpoint, rows_checkpoint}
@@ -16,7 +16,7 @@ checkpoint-requires-clause-carries g c =
     let h = c.requires.may.may in (
       h.0,
       h.1,
-      subst (λ (z : List CatRow). Carries (g.D.Disk.images c.args.disk.now) c.args.self.now.flusher (view c.args.pass.now)
+      subst (λ (z : List CatRow). CarriesLog (g.D.Disk.images c.args.disk.now) c.args.self.now.flusher (view c.args.pass.now)
           c.args.log.now.shape z h.0 h.1) (sym c.catalog.ensures) h.2,
     )
 
@@ -40,7 +40,7 @@ returns-clause-again g c unbroken =
     again_checkpoint disk p q c.checkpoint.ensures.reads refl refl refl c.requires.may.live
     c.requires.may.may g.met.D.Disk.as_read g.met.D.Disk.told
     (subst (λ (z : List CatRow). (e : Commit) (old : List Entry)
-    (h : Carries (disk.images c.args.disk.now) c.args.self.now.flusher (view c.args.pass.now) c.args.log.now.shape z e old)
+    (h : CarriesLog (disk.images c.args.disk.now) c.args.self.now.flusher (view c.args.pass.now) c.args.log.now.shape z e old)
     → LeavesEither disk.images disk.since disk.moment c.args.disk.now c.checkpoint.new.disk (view c.checkpoint.new.pass) z e old
     h.rest.lines) c.catalog.ensures c.checkpoint.ensures.crash)
     c.checkpoint.result c.requires.may.counted
@@ -56,7 +56,7 @@ returns-clause-goes g c =
     here_checkpoint disk p _ c.checkpoint.ensures.reads refl refl refl c.requires.may.live
     c.requires.may.may g.met.D.Disk.as_read g.met.D.Disk.told
     (subst (λ (z : List CatRow). (e : Commit) (old : List Entry)
-    (h : Carries (disk.images c.args.disk.now) c.args.self.now.flusher (view c.args.pass.now) c.args.log.now.shape z e old)
+    (h : CarriesLog (disk.images c.args.disk.now) c.args.self.now.flusher (view c.args.pass.now) c.args.log.now.shape z e old)
     → LeavesEither disk.images disk.since disk.moment c.args.disk.now c.checkpoint.new.disk (view c.checkpoint.new.pass) z e old
     h.rest.lines) c.catalog.ensures c.checkpoint.ensures.crash)
     c.checkpoint.result c.checkpoint.ensures.settled
@@ -74,7 +74,7 @@ returns-clause-rows g c =
     rows_checkpoint disk p q c.checkpoint.ensures.reads refl refl refl c.requires.may.live
     c.requires.may.may g.met.D.Disk.as_read g.met.D.Disk.told
     (subst (λ (z : List CatRow). (e : Commit) (old : List Entry)
-    (h : Carries (disk.images c.args.disk.now) c.args.self.now.flusher (view c.args.pass.now) c.args.log.now.shape z e old)
+    (h : CarriesLog (disk.images c.args.disk.now) c.args.self.now.flusher (view c.args.pass.now) c.args.log.now.shape z e old)
     → LeavesEither disk.images disk.since disk.moment c.args.disk.now c.checkpoint.new.disk (view c.checkpoint.new.pass) z e old
     h.rest.lines) c.catalog.ensures c.checkpoint.ensures.crash)
     c.checkpoint.result

@@ -1,7 +1,7 @@
 -- What is kept of the last commit is within the limits of the next table, which takes this one's place.
 use Rattle.std.proofs.Common.{List, false, subst, sym}
 use Rattle.fish_catalog.specs.declared.row.CatRow.{CatRow}
-use Rattle.fish_recover.specs.Beginning.{BeginsAt, IsKept}
+use Rattle.fish_recover.specs.Beginning.{BeginsAt, IsFlusherKept}
 use Rattle.fish_rule.specs.Passes.{view}
 use Rattle.fish_rule.specs.Start.{IsShape}
 use Rattle.fish_rule.specs.declared.table.Shape.{Shape}
@@ -24,7 +24,7 @@ pub begin_table-requires-clause-kept : goal.begin_table-requires-clause-kept
 begin_table-requires-clause-kept g c =
     let old = c.args.self in
     let may = c.requires.may.commit.may in
-    subst (λ (s : Shape). IsKept s old.file.flusher) (sym c.shape-shape.ensures)
+    subst (λ (s : Shape). IsFlusherKept s old.file.flusher) (sym c.shape-shape.ensures)
     (carried_kept (g.D.Disk.images c.args.disk.now) old.file.flusher (view old.pass) old.log.shape old.registrar.catalog may.0 may.1
     may.2)
 
