@@ -2,6 +2,7 @@ pub mod Across
 pub mod Advancing
 pub mod Answered
 pub mod Beginning
+pub mod Between
 pub mod Behind
 pub mod Claims
 pub mod CommitRows

@@ -1,3 +1,4 @@
+pub mod Between
 pub mod Blocks
 pub mod Causes
 pub mod CommitRows

@@ -1,12 +1,11 @@
 //! A block: its lanes run at once, each by a pass of its own.
 
-ghost use Rattle.std.specs.Prelude.{◌≤◌, ◌<◌, ◌∷◌, ℕ, length};
+ghost use Rattle.std.specs.Prelude.{◌<◌, ◌∷◌, ℕ, length};
 ghost use Rattle.std.specs.Thread.{IsSync};
+ghost use Rattle.fish_lanes.specs.Between.{IsBetweenBlocks};
 ghost use Rattle.fish_lanes.specs.Blocks.{AreLanes};
 ghost use Rattle.fish_lanes.specs.Controlling.{CanControl};
-ghost use Rattle.fish_lanes.specs.Ending.{EndsAlone};
 ghost use Rattle.fish_lanes.specs.Leaving.{ItemsHold, LeavesLanes, LeavesStore};
-ghost use Rattle.fish_lanes.specs.Registering.{KnowsRegistry, registry_of};
 ghost use Rattle.fish_lanes.specs.within.Advancing.{HasGone};
 ghost use Rattle.fish_lanes.specs.within.Blocks.{AreGone, AreReady, CanGive, IsFirstLane};
 ghost use Rattle.fish_lanes.specs.within.Course.{HasFoundEnd};
@@ -14,9 +13,8 @@ ghost use Rattle.fish_lanes.specs.within.Parts.{CanRunStore, RunsFirst, RunsLane
 ghost use Rattle.fish_lanes.specs.within.Running.{IsLaneReady};
 ghost use Rattle.fish_rule.specs.LoadSteps.{IsAlone};
 ghost use Rattle.fish_rule.specs.Passes.{view};
-ghost use Rattle.fish_scan.specs.Colder.{IsBelow};
-ghost use Rattle.fish_store.specs.Points.{Behind, point_at};
-ghost use Rattle.fish_store.specs.Sound.{MayGoOn, RowsGoOn};
+ghost use Rattle.fish_store.specs.Points.{Behind};
+ghost use Rattle.fish_store.specs.Sound.{RowsGoOn};
 
 use crate::control::run_control;
 use crate::finishing::finish_others;
@@ -218,9 +216,8 @@ fn run_lanes<R: Threads + Sync, D: Disk + Send, G: Gate + Sync>(
     others: &mut [Lane],
     gate: &G,
 ) -> BlockEnd
-    requires run { CanRunStore D.images disk.old (store_of file.old log.now control.old registrar.old) }
-    requires end { (from : ℕ) × EndsAlone (view control.old) from }
-    requires known { KnowsRegistry (view control.old) (registry_of (view control.old) registrar.old) }
+    requires between { (from : ℕ)
+        × IsBetweenBlocks D.images disk.old (store_of file.old log.now control.old registrar.old) from }
     requires lanes { AreLanes (first.old ∷ others.old) }
     ensures store { LeavesStore D.Disk disk.old (store_of file.old log.now control.old registrar.old) disk.new
         (store_of file.new log.now control.new registrar.new) (first.new ∷ others.new) result }
@@ -245,9 +242,9 @@ fn run_lanes<R: Threads + Sync, D: Disk + Send, G: Gate + Sync>(
 /// the table. Another lane stays before its first scan of older records; once all have ended or stay so, what is left
 /// of their statements is done, one lane after the other, with the file.
 ///
-/// The control pass has to know where the log ends, as it does after a block, and what the registrar keeps, and a
-/// checkpoint may have to follow. There are 1 to 16 lanes, numbered from 1 on and without items, and the first alone
-/// may register definitions, end them or commit.
+/// The store has to be between two blocks, as one is that was opened, or left by a block whose first lane met no fault.
+/// There are 1 to 16 lanes, numbered from 1 on and without items, and the first alone may register definitions, end
+/// them or commit.
 ///
 /// A lane stops after the statement in which its pass finds the log full, unless it was so before the block, and hands
 /// back the statements that it hasn't begun. Without memory for that it stops at a fault, and keeps them.
@@ -269,11 +266,7 @@ pub fn run_block<R: Threads + Sync, D: Disk + Send, G: Gate + Sync>(
     lanes: &mut [Lane],
     gate: &G,
 ) -> BlockEnd
-    requires can { CanControl store.old.log store.old.pass store.old.registrar }
-    requires commit { MayGoOn D.images (point_at disk.old store.old) }
-    requires below { IsBelow store.old.log.key store.old.file.cold }
-    requires end { (from : ℕ) × EndsAlone (view store.old.pass) from }
-    requires known { KnowsRegistry (view store.old.pass) (registry_of (view store.old.pass) store.old.registrar) }
+    requires between { (from : ℕ) × IsBetweenBlocks D.images disk.old store.old from }
     requires lanes { AreLanes lanes.old }
     ensures store { LeavesStore D.Disk disk.old store.old disk.new store.new lanes.new result }
     ensures lanes { LeavesLanes (Behind D.Disk disk.old store.old disk.new)

@@ -7,13 +7,14 @@ ghost use Rattle.fish_lang.specs.Canonical.{definition_text};
 ghost use Rattle.fish_lang.specs.Definition.{definition_of};
 ghost use Rattle.fish_lanes.specs.Controlling.{CanControl};
 ghost use Rattle.fish_lanes.specs.Registering.{IsDeregisterItem, IsRegisterItem};
-ghost use Rattle.fish_lanes.specs.within.Controlling.{Controls, HasPolled, IsBoundaryFound, KnowsAll, LooksForBoundary};
-ghost use Rattle.fish_lanes.specs.within.Controlling.{TellsBegun};
-ghost use Rattle.fish_lanes.specs.within.Controlling.{TellsStep, WaitsFor, deregister_cause, register_cause};
+ghost use Rattle.fish_lanes.specs.within.Controlling.{Controls, HasPolled, IsBoundaryFound, KnowsAll};
+ghost use Rattle.fish_lanes.specs.within.Controlling.{LooksForBoundary, TellsBegun, TellsStep, WaitsFor};
+ghost use Rattle.fish_lanes.specs.within.Controlling.{deregister_cause, register_cause};
+ghost use Rattle.fish_lanes.specs.within.Running.{HasDefs};
 ghost use Rattle.fish_registry.specs.Changing.{Changes};
 ghost use Rattle.fish_registry.specs.Refusing.{IsSaid};
 ghost use Rattle.fish_rule.specs.LoadSteps.{IsAlone};
-ghost use Rattle.fish_rule.specs.Passes.{IsPassOf, view};
+ghost use Rattle.fish_rule.specs.Passes.{view};
 ghost use Rattle.fish_rule.specs.declared.view.Epoch.TheVariants.{Out};
 ghost use Rattle.fish_scan.specs.Scans.{OnlyScans};
 ghost use Rattle.fish_store.specs.Sound.{RowsGoOn};
@@ -165,12 +166,10 @@ pub(crate) fn deregister(
 
 /// Reads the definitions of the version that was made last.
 fn read_definitions(log: &Log, pass: &mut Pass, defs: &mut Defs) -> Result<(), AllocError>
-    requires pass { IsPassOf log.now pass.old }
+    requires has { HasDefs log.now pass.old defs.old }
     requires control { (view pass.old).lane ≡ 1 }
     requires outside { (view pass.old).epoch ≡ Out }
-    requires defs { IsDefsOf (view pass.old) defs.old }
-    ensures pass { IsPassOf log.now pass.new }
-    ensures defs { IsDefsOf (view pass.new) defs.new }
+    ensures has { HasDefs log.now pass.new defs.new }
     ensures only { OnlyScans (view pass.old) (view pass.new) }
     ensures tail { (view pass.new).tail ≡ (view pass.old).tail }
     ensures version { (view pass.new).learned.version ≡ (view pass.old).learned.version }

@@ -8,7 +8,7 @@ use Rattle.fish_recover.specs.declared.refusal.Asked.{Asked}
 use Rattle.fish_recover.specs.declared.refusal.OpenRefusal.{OpenRefusal}
 use Rattle.fish_recover.specs.declared.refusal.OpenRefusal.TheVariants as opening
 use Rattle.fish_rule.specs.declared.close.Remains.{Remains}
-use Rattle.fish_run.specs.Faults.{IsRunUndamaged}
+use Rattle.fish_run.specs.Faults.{FaultCounts, HasRunCause, IsRunUndamaged}
 use Rattle.fish_run.specs.Ran.{IsRunLost, IsRunStopped, IsRunWhole}
 use Rattle.fish_run.specs.declared.fault.RunFault.{RunFault}
 use Rattle.fish_run.specs.declared.fault.RunFault.TheVariants as ran
@@ -62,6 +62,16 @@ ran_back (Some ran.Output) f is = ap ran_of is
 ran_back (Some ran.Memory) f is = ap ran_of is
 ran_back (Some ran.Disk) f is = ap ran_of is
 ran_back (Some (ran.Damaged n)) f is = ap ran_of is
+
+-- what is so of the fault with which a script's run ended
+pub fate_of : (P : RunFault → Type 0) (why : Option RunFault) (f : RunFault) → why ≡ Some f → IfSome why P → P f
+fate_of P why f is h = (let k : IfSome (Some f) P = subst (λ (z : Option RunFault). IfSome z P) is h in k)
+
+-- it is no damage where the disk's content is told
+pub undamaged : (content : Option (List ℕ)) (a b : FaultCounts) (why : Option RunFault) → IfSome why (HasRunCause content a b)
+    → IsSome content → IfSome why IsRunUndamaged
+undamaged content a b None h told = tt
+undamaged content a b (Some f) h told = h.whole told
 
 -- ---- an end
 

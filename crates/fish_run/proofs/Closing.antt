@@ -1,7 +1,6 @@
 -- A run that came to its end, one that was stopped, and one whose log couldn't be shown.
-use Rattle.fish_registry.specs.Knowing.{KnowsFirst}
 use Rattle.fish_rule.specs.declared.table.Log.{Log}
-use Rattle.fish_run.proofs.Going.{new_store, point_opened}
+use Rattle.fish_run.proofs.Going.{new_store}
 use Rattle.std.proofs.Common.{◌≡◌, ℕ, ◌+◌, ◌^◌, List, [], ◌∷◌, ◌++◌, refl, sym, ap, ◌∙◌, subst, true, false}
 use Rattle.std.proofs.Common.{Bool, Option, Some, None, Ok, Err, append-nil}
 use Rattle.std.specs.Prelude.{IsSome}
@@ -41,7 +40,8 @@ use Rattle.fish_run.specs.Tables.{AreRenewed}
 use Rattle.fish_run.specs.declared.fault.RunFault.{RunFault}
 use Rattle.fish_run.specs.declared.lasting.Stopped.{Stopped}
 use Rattle.fish_script.specs.declared.script.Block as script
-use Rattle.fish_store.specs.Opened.{first_past, opened_point}
+use Rattle.fish_store.proofs.Opened.{opened_at}
+use Rattle.fish_store.specs.Opened.{IsOfOpened, first_past, opened_point}
 use Rattle.fish_store.specs.Points.{point_at}
 use Rattle.fish_store.specs.Sound.{Point}
 use Rattle.fish_store.specs.declared.store.Store.{Store}
@@ -54,14 +54,13 @@ pub record OpenedAs {D : Type 0} (disks : Disks D) (disk : D) (o : Opened) (s : 
   pub store : IsNewStore disks.images disk s
 
 pub opened_as : {D : Type 0} (disks : Disks D) (disk : D) (o : Opened) (s : Store)
-    → (c : Commit) × (log : List Entry) × IsOpened (disks.content disk) (disks.images disk) c log o → s.log ≡ o.log → s.pass ≡ o.pass
-    → KnowsFirst s.registrar → s.registrar.catalog ≡ o.catalog → s.file.flusher ≡ o.flusher → s.file.cold ≡ o.cold
+    → (c : Commit) × (log : List Entry) × IsOpened (disks.content disk) (disks.images disk) c log o → IsOfOpened o s
     → OpenedAs disks disk o s
-opened_as disks disk o s op log pass first rows flusher cold = record {
-  from = point_opened disk s o log pass rows flusher cold;
-  log = log;
-  rows = rows;
-  store = new_store disks disk op.0 op.1 o op.2 s log pass first rows flusher cold;
+opened_as disks disk o s op m = record {
+  from = opened_at o s m disk;
+  log = m.log;
+  rows = m.rows;
+  store = new_store disks disk op.0 op.1 o op.2 s m;
 }
 
 -- a store that was opened, from its first moment on
@@ -86,7 +85,7 @@ module _
   buckets = subst (λ (z : Log). z.key.buckets ≡ 2 ^ z.shape.bucket_bits) begun.log begun.store.go.table.buckets
 
   about : p.view.about ≡ o.log.key
-  about = begun.store.go.can.of.about ∙ ap (λ (z : Log). z.key) begun.log
+  about = begun.store.go.between.can.of.about ∙ ap (λ (z : Log). z.key) begun.log
 
   same : rows ≡ o.catalog
   same = begun.rows

@@ -1,44 +1,39 @@
 -- The control pass from block to block.
-use Rattle.std.proofs.Common.{◌≡◌, ℕ, ◌+◌, ◌^◌, ◌<◌, ◌≤◌, List, [], ◌∷◌, length, map, refl}
+use Rattle.std.proofs.Common.{◌≡◌, ℕ, ◌+◌, ◌^◌, ◌<◌, ◌≤◌, List, length, map, refl}
 use Rattle.std.proofs.Common.{sym, ap, ◌∙◌, subst, inl, ⊎_elim, true, arith}
 use Rattle.std.proofs.Math.Decide.{dec_lt}
 use Rattle.std.proofs.Common.{All, None, Option, Some, Result, Ok, Err, slice_get}
 use Rattle.std.specs.Prelude.{IfErr}
 use Rattle.std.specs.Result.{IsErrAnd}
 use Rattle.fish_catalog.specs.Clamps.{clamped}
-use Rattle.fish_catalog.specs.Listing.{listed_of}
 use Rattle.fish_catalog.specs.declared.commit.Commit.{Commit}
 use Rattle.fish_catalog.specs.declared.entry.Entry.{Entry}
 use Rattle.fish_catalog.specs.declared.row.CatRow.{CatRow}
 use Rattle.fish_disk.specs.declared.disk.Disk.{Ghosts as Disks}
-use Rattle.fish_flush.specs.Carrying.{CarriesLog, HasSettled, ReadsLog}
+use Rattle.fish_flush.specs.Carrying.{HasSettled, ReadsLog}
 use Rattle.fish_flush.specs.Rows.{HoldsRows}
-use Rattle.fish_ingest.specs.Ingestion.{CanStart}
 use Rattle.fish_lanes.proofs.Committing.{reads_control}
-use Rattle.fish_lanes.proofs.Controls.{each_last}
 use Rattle.fish_lanes.proofs.Versions.{same_version}
-use Rattle.fish_lanes.specs.Blocks.{HasRegistered, control_items}
+use Rattle.fish_lanes.specs.Blocks.{HasRegistered}
 use Rattle.fish_lanes.specs.Controlling.{CanControl}
 use Rattle.fish_lanes.specs.Ending.{EndsAlone}
-use Rattle.fish_lanes.specs.Registering.{KnowsRegistry, registry_of, waiting_id}
+use Rattle.fish_lanes.specs.Registering.{registry_of, waiting_id}
 use Rattle.fish_lanes.specs.declared.block.BlockEnd.{BlockEnd}
 use Rattle.fish_lanes.specs.declared.lane.Lane.{Lane}
-use Rattle.fish_lanes.specs.declared.work.LaneFault.TheVariants as cause
 use Rattle.fish_recover.specs.Stores.{IsOpened}
 use Rattle.fish_recover.specs.declared.opened.Opened.{Opened}
-use Rattle.fish_registry.specs.Knowing.{Awaits, HasBegunBy, Knows, KnowsFirst}
+use Rattle.fish_registry.specs.Knowing.{Awaits, HasBegunBy, Knows}
 use Rattle.fish_registry.specs.declared.registrar.Registrar.{Registrar}
 use Rattle.fish_registry.specs.declared.registrar.Waiting.{Waiting}
 use Rattle.fish_rule.proofs.laws.ChainFacts.{always_later}
 use Rattle.fish_rule.proofs.laws.Learning.{learns_self}
-use Rattle.fish_rule.proofs.laws.Versions.{definitions_first}
 use Rattle.fish_rule.specs.LoadSteps.{IsAlone}
 use Rattle.fish_rule.specs.Parts.{RestsAt}
 use Rattle.fish_rule.specs.Passes.{IsPassOf, view}
 use Rattle.fish_rule.specs.Start.{table_lines}
 use Rattle.fish_rule.specs.Table.{IsOfMoment, first_view}
 use Rattle.fish_rule.specs.Views.{Among}
-use Rattle.fish_rule.specs.World.{high, last_line, low}
+use Rattle.fish_rule.specs.World.{high, low}
 use Rattle.fish_rule.specs.declared.table.Log.{Log}
 use Rattle.fish_rule.specs.declared.table.Shape.{Shape}
 use Rattle.fish_rule.specs.declared.view.Key.{Key}
@@ -46,8 +41,6 @@ use Rattle.fish_rule.specs.declared.view.View.{View}
 use Rattle.fish_run.specs.Blocks.{begun_anew, first_registry}
 use Rattle.fish_run.specs.within.Runs.{CanClose, CanGoOn, IsNewStore, IsTable}
 use Rattle.fish_run.specs.within.Steps.{AreWholeLanes}
-use Rattle.fish_scan.specs.Colder.{IsBelow}
-use Rattle.fish_store.specs.Opened.{opened_point}
 use Rattle.fish_store.specs.Points.{point_at}
 use Rattle.fish_store.specs.Rolling.{HasRolled, MayRoll}
 use Rattle.fish_store.specs.Sound.{GoesOnHere, MayGoOn, Point}
@@ -57,7 +50,12 @@ use Rattle.fish_walk.specs.Looks.{IsTailCount}
 use Rattle.fish_walk.specs.Settling.{EndsAt}
 use Rattle.fish_rule.specs.Logs.{KnowsMark}
 use Rattle.fish_whole.specs.Whole.{Later}
-use Rattle.fish_lanes.proofs.Beginning.{begun_all, first_end}
+use Rattle.fish_lanes.proofs.Beginning.{begun_all, between_first, between_opened, knows_opened}
+use Rattle.fish_lanes.proofs.Between.{between_after, first_of}
+use Rattle.fish_lanes.specs.Between.{IsBetweenBlocks}
+use Rattle.fish_lanes.specs.Leaving.{LeavesStore}
+use Rattle.fish_rule.specs.declared.table.Pass.{Pass}
+use Rattle.fish_store.specs.Opened.{IsOfOpened}
 
 -- ---- before the first block
 
@@ -71,92 +69,20 @@ none_waits k r knows = by r.waiting refl
         let waits = subst (λ (z : Option Waiting). Awaits (first_view k) z) is knows.awaits in
         absurd (let bad : None ≡ Some waits.round = waits.waits in cc)
 
-module _ {D : Type 0} (disks : Disks D) (disk : D) (c : Commit) (log : List Entry) (o : Opened)
-    (h : IsOpened (disks.content disk) (disks.images disk) c log o) where
-  -- the line fits its word
-  few_lines : o.log.key.line < 68719476736
-  few_lines =
-      let fits = h.pass.stands.rule.key_fits in
-      let about : (view o.pass).about ≡ o.log.key = h.pass.about in
-      let some = subst (λ (k : Key). k.line ≤ k.end) about fits.some_lines in
-      let most = subst (λ (k : Key). k.end ≤ last_line) about fits.low_end in
-      omega arith
-
-  -- a registrar of the rows knows what the pass knows
-  knows_opened : (r : Registrar) → KnowsFirst r → r.catalog ≡ o.catalog → Knows (first_view o.log.key) r
-  knows_opened r first rows =
-      first o.log.key (h.rows ∙ sym rows)
-      (subst (λ (l : List CatRow). All (HasBegunBy o.log.key.number) l) (sym (rows ∙ h.catalog))
-      (subst (λ (n : ℕ). All (HasBegunBy n) (map (clamped c.count) c.rows)) (sym h.number) (begun_all c.count c.rows)))
-
-  -- the store may go on where its table begins
-  pub new_store : (s : Store) → s.log ≡ o.log → s.pass ≡ o.pass → KnowsFirst s.registrar → s.registrar.catalog ≡ o.catalog
-      → s.file.flusher ≡ o.flusher → s.file.cold ≡ o.cold → IsNewStore disks.images disk s
-  new_store s log_is pass_is first rows flusher_is cold_is = subst (IsNewStore disks.images disk) (λ i. same i) (record {
-    go = record {
-      can = record {
-        of = h.pass;
-        start = subst CanStart (sym h.first) (record { live = omega arith; outside = refl });
-        knows = subst (λ (z : View). Knows z r) (sym h.first) knows;
-      };
-      commit = record {
-        live = h.live;
-        may = (
-          c,
-          log,
-          subst (λ (l : List CatRow). CarriesLog (disks.images disk) o.flusher (view o.pass) o.log.shape l c log)
-              (sym rows) h.carries,
-        );
-        counted =
-            let count = h.carries.rest.committed.count in
-            let number = h.number in
-            let learned = ap (λ (z : View). z.learned.count) h.first in
-            omega arith;
-      };
-      below = record { number = h.below_number; line = h.below_line };
-      end = first_end (view o.pass) o.log.key h.first few_lines;
-      known = subst (λ (z : View). KnowsRegistry z (registry_of z r)) (sym h.first) (record {
-        from = omega arith;
-        reached = omega arith;
-        are = λ g read. definitions_first o.log.key g o.log.key.version (omega arith) ∙ ap (map listed_of) (h.rows ∙ sym rows);
-      });
-      settled = none_waits o.log.key r knows;
-      table = record {
-        buckets = h.buckets ∙ ap (λ (n : ℕ). 2 ^ n) h.carries.bits;
-        end = lines;
-      };
-    };
-    version = ap (λ (z : View). z.learned.version) h.first ∙ h.version;
-    unshut = ap (λ (z : View). z.shut) h.first;
-  })
-    where
-      r : Registrar
-      r = s.registrar
-
-      lines : o.log.key.end ≡ o.log.key.line + table_lines o.log.shape.pages o.log.key.number o.log.key.line
-      lines = h.end ∙ (λ i. sym h.line i + table_lines (h.carries.pages i) (sym h.number i) (sym h.line i))
-
-      knows : Knows (first_view o.log.key) r
-      knows = knows_opened r first rows
-
-      same : record { log = o.log; pass = o.pass; registrar = s.registrar; file = record { flusher = o.flusher; cold = o.cold } } ≡ s
-      same i = record {
-        log = sym log_is i;
-        pass = sym pass_is i;
-        registrar = s.registrar;
-        file = record { flusher = sym flusher_is i; cold = sym cold_is i };
-      }
-
--- and it is at the first moment of what was opened
-pub point_opened : {D : Type 0} (disk : D) (s : Store) (o : Opened) → s.log ≡ o.log → s.pass ≡ o.pass → s.registrar.catalog ≡ o.catalog
-    → s.file.flusher ≡ o.flusher → s.file.cold ≡ o.cold → point_at disk s ≡ opened_point disk o
-point_opened disk s o log pass rows flusher cold i = record {
-  disk = disk;
-  flusher = flusher i;
-  cold = cold i;
-  shape = (log i).shape;
-  rows = rows i;
-  view = view (pass i);
+-- the store of what was opened may go on where its table begins
+pub new_store : {D : Type 0} (disks : Disks D) (disk : D) (c : Commit) (log : List Entry) (o : Opened)
+    → IsOpened (disks.content disk) (disks.images disk) c log o → (s : Store) → IsOfOpened o s → IsNewStore disks.images disk s
+new_store disks disk c log o h s m = record {
+  go = record {
+    between = between_opened disks disk c log o h s m;
+    settled = none_waits o.log.key s.registrar (knows_opened disks disk c log o h s m);
+    table = subst IsTable (sym m.log) (record {
+      buckets = h.buckets ∙ ap (λ (n : ℕ). 2 ^ n) h.carries.bits;
+      end = h.end ∙ (λ i. sym h.line i + table_lines (h.carries.pages i) (sym h.number i) (sym h.line i));
+    });
+  };
+  version = ap (λ (z : Pass). (view z).learned.version) m.pass ∙ ap (λ (z : View). z.learned.version) h.first ∙ h.version;
+  unshut = ap (λ (z : Pass). (view z).shut) m.pass ∙ ap (λ (z : View). z.shut) h.first;
 }
 
 -- its registry is that of its rows
@@ -271,14 +197,6 @@ one_end v a b s h k = by (dec_lt a b) (dec_lt b a)
 module _
     {D : Type 0} (disks : Disks D)
     (disk : D) (s t : Store) (h : HasRolled disks disk s t) where
-  rolled_lines : t.log.key.line < 68719476736
-  rolled_lines =
-      let fits = h.pass.stands.rule.key_fits in
-      let about : (view t.pass).about ≡ t.log.key = h.pass.about in
-      let some = subst (λ (k : Key). k.line ≤ k.end) about fits.some_lines in
-      let most = subst (λ (k : Key). k.end ≤ last_line) about fits.low_end in
-      omega arith
-
   rolled_knows : Knows (first_view t.log.key) t.registrar
   rolled_knows = h.knows t.log.key h.rows
       (subst (λ (l : List CatRow). All (HasBegunBy t.log.key.number) l) (sym h.catalog)
@@ -288,19 +206,8 @@ module _
   -- the store may go on where the new table begins
   pub rolled_go : (from : ℕ) → s.file.flusher.count ≡ from → CanGoOn disks.images disk t from
   rolled_go from same = record {
-    can = record {
-      of = h.pass;
-      start = subst CanStart (sym h.first) (record { live = omega arith; outside = refl });
-      knows = subst (λ (z : View). Knows z t.registrar) (sym h.first) rolled_knows;
-    };
-    commit = h.commit;
-    below = h.below;
-    end = subst (EndsAlone (view t.pass)) (h.number ∙ same) (first_end (view t.pass) t.log.key h.first rolled_lines);
-    known = subst (λ (z : View). KnowsRegistry z (registry_of z t.registrar)) (sym h.first) (record {
-      from = omega arith;
-      reached = omega arith;
-      are = λ g read. definitions_first t.log.key g t.log.key.version (omega arith) ∙ ap (map listed_of) h.rows;
-    });
+    between = subst (IsBetweenBlocks disks.images disk t) (h.number ∙ same)
+        (between_first t h.pass h.first disks.images disk h.rows rolled_knows h.commit h.below);
     settled = none_waits t.log.key t.registrar rolled_knows;
     table = record {
       buckets = h.buckets ∙ ap (λ (z : Shape). 2 ^ z.bucket_bits) (sym h.shape);
@@ -355,7 +262,7 @@ here_self disks p = record {
 
 -- the control pass may close the log where it may go on
 pub close_of : {D : Type 0} (images : D → List ℕ → Type 0) (disk : D) (s : Store) (from : ℕ) → CanGoOn images disk s from → CanClose s
-close_of images disk s from go = record { of = go.can.of; alone = go.end.alone; table = go.table }
+close_of images disk s from go = record { of = go.between.can.of; alone = go.between.end.alone; table = go.table }
 
 -- a table stays the one that it is
 pub table_same : (s t : Store) → t.log ≡ s.log → IsTable s.log → IsTable t.log
@@ -363,39 +270,18 @@ table_same s t same h = subst IsTable (sym same) h
 
 -- ---- after a block
 
--- a list that is not empty has a first element
-pub first_there : {A : Type 0} (xs : List A) → 0 < length xs → (x : A) × (slice_get xs 0 ≡ Some x)
-first_there [] less = absurd (omega arith)
-first_there (x ∷ xs) less = (x, refl)
-
--- the first lane had no fault, so the definitions that its items tell are known, and a checkpoint may follow
-pub go_next : {D : Type 0} (images : D → List ℕ → Type 0) (disk : D) (s : Store) (v : View) (r : Registrar) (x : Lane) (end : BlockEnd)
-    → CanControl s.log s.pass s.registrar → MayGoOn images (point_at disk s) → IsBelow s.log.key s.file.cold
-    → EndsAlone (view s.pass) end.to → HasRegistered v (view s.pass) r s.registrar x end → x.fault ≡ cause.None → IsTable s.log
-    → CanGoOn images disk s end.to
-go_next images disk s v r x end can commit below ends has whole table = record {
-  can = can;
-  commit = commit;
-  below = below;
-  end = ends;
-  known = subst (KnowsRegistry (view s.pass)) (sym (has.is whole))
-      (each_last (KnowsRegistry (view s.pass)) (registry_of v r) (control_items x end) (has.each whole));
-  settled = has.settled;
-  table = table;
-}
-
--- so it may where no lane had one
-pub go_whole : {D : Type 0} (images : D → List ℕ → Type 0) (disk : D) (s : Store) (v : View) (r : Registrar) (lanes : List Lane)
-    (end : BlockEnd) → AreWholeLanes lanes → CanControl s.log s.pass s.registrar
-    → (((x : Lane) → slice_get lanes 0 ≡ Some x → x.fault ≡ cause.Disk → ⊥) → MayGoOn images (point_at disk s))
-    → IsBelow s.log.key s.file.cold → EndsAlone (view s.pass) end.to
-    → ((x : Lane) → slice_get lanes 0 ≡ Some x → HasRegistered v (view s.pass) r s.registrar x end) → 0 < length lanes → IsTable s.log
-    → CanGoOn images disk s end.to
-go_whole images disk s v r lanes end whole can again below ends has some table =
-    let first = first_there lanes some in
-    go_next images disk s v r first.0 end can
-    (again (λ x at is. (let bad : cause.None ≡ cause.Disk = sym (whole 0 x at) ∙ is in absurd cc))) below ends (has first.0 first.1)
-    (whole 0 first.0 first.1) table
+-- no lane had a fault, so the definitions that the first one's items say are known, and a checkpoint may follow
+pub go_whole : {D : Type 0} (disks : Disks D) (disk : D) (s : Store) (disk' : D) (t : Store) (lanes : List Lane) (end : BlockEnd)
+    → AreWholeLanes lanes → LeavesStore disks disk s disk' t lanes end
+    → ((x : Lane) → slice_get lanes 0 ≡ Some x → HasRegistered (view s.pass) (view t.pass) s.registrar t.registrar x end)
+    → 0 < length lanes → IsTable t.log → CanGoOn disks.images disk' t end.to
+go_whole disks disk s disk' t lanes end whole leaves has some table =
+    let first = first_of lanes some in
+    record {
+      between = between_after disks disk s disk' t lanes end leaves has first.0 first.1 (whole 0 first.0 first.1);
+      settled = (has first.0 first.1).settled;
+      table = table;
+    }
 
 -- ---- results
 

@@ -160,7 +160,7 @@ module _
             cut = None;
             stops = stops_with p disk' d.store a.count d.end.to r h.rounds e named_is
                 (close_of disks.images disk' d.store d.end.to h.go) well
-                (first_of p q a.count d.end.to r t h.rounds h.ran h.go.end);
+                (first_of p q a.count d.end.to r t h.rounds h.ran h.go.between.end);
             renewed = renewed_may (view a.store.pass).about.number h.rounds false false h.renewed;
             how = inr (
               block,

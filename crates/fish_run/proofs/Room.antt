@@ -97,15 +97,15 @@ module _ {D : Type 0} (images : D → List ℕ → Type 0) (disk : D) (m : Store
       let v : View = view m.pass in
       let named = all_among (IsMarkItem v) (item.IngestFull f.file line lines end f.stored f.refused) f.lane.items
       (marks f.at f.lane f.lane_is) f.among f.file line lines end f.stored f.refused refl in
-      let about : v.about ≡ m.log.key = go.can.of.about in
+      let about : v.about ≡ m.log.key = go.between.can.of.about in
       let number : v.about.number ≡ to = ap (λ (k : Key). k.number) about ∙ same in
-      let short = full_empty v to line lines go.can.of.stands go.end number named.0 in
-      let fits = go.can.of.stands.rule.key_fits in
+      let short = full_empty v to line lines go.between.can.of.stands go.between.end number named.0 in
+      let fits = go.between.can.of.stands.rule.key_fits in
       let within = fits.some_lines in
       let low_end = fits.low_end in
       let is : v.about.end ≡ v.about.line + table_lines m.log.shape.pages v.about.number v.about.line
       = subst (λ (k : Key). k.end ≡ k.line + table_lines m.log.shape.pages k.number k.line) (sym about) go.table.end in
-      let may = go.commit.may in
+      let may = go.between.commit.may in
       let shape = carried_shape (images disk) m.file.flusher v m.log.shape m.registrar.catalog may.0 may.1 may.2 in
       let near = near_of m.log.shape.pages v.about.number v.about.line shape.some_pages (omega (within, low_end, arith))
       (omega (short, is, arith)) in

@@ -241,7 +241,7 @@ module _
         cut_by = tt;
         ran = rounds_end disks p (point_at disk a.store) (point_at disk a.store) from a.from r
             (registry_of (view a.store.pass) a.store.registrar) g.rounds a.fresh g.ran (runs_self (point_at disk a.store))
-            (learns_self (view a.store.pass)) go.end refl (rows_none disks disk _);
+            (learns_self (view a.store.pass)) go.between.end refl (rows_none disks disk _);
         whole = λ past sound. well;
       };
       renewed = renewed_may (view s.pass).about.number g.rounds a.fresh a.fresh g.renewed;
@@ -267,7 +267,7 @@ module _
       end = from;
       cut_by = tt;
       ran = rounds_end disks p p p from from r r [] false none_ran (runs_self p)
-          (learns_self (view s.pass)) go.end refl (rows_none disks d _);
+          (learns_self (view s.pass)) go.between.end refl (rows_none disks d _);
       whole = λ past sound. well;
     };
     input = λ is. refl;
@@ -404,8 +404,7 @@ module _
       }
 
       module _ (fresh : Bool) (disk'' : D) (t : Store)
-          (renewed : IsRenewed disks disk' m end.to fresh disk'' t)
-          (above : fresh ≡ true → m.log.key.number < end.to) where
+          (renewed : IsRenewed disks disk' m end.to fresh disk'' t) (above : fresh ≡ true → m.log.key.number < end.to) where
         abbrev pub q : Point D
         q = point_at disk'' t
 
@@ -414,7 +413,8 @@ module _
           where
             higher : m.log.key.number < end.to → RollsOn disks disk' m end.to disk'' t
                 → at.view.about.number < q.view.about.number
-            higher less k = subst (λ (n : ℕ). at.view.about.number < n) (sym (ap (λ (z : Key). z.number) k.go.can.of.about ∙ k.number))
+            higher less k = subst (λ (n : ℕ). at.view.about.number < n)
+                (sym (ap (λ (z : Key). z.number) k.go.between.can.of.about ∙ k.number))
                 (subst (λ (z : Key). z.number < end.to) (sym close.of.about) less)
 
             by : (f : Bool) → (f ≡ true → m.log.key.number < end.to) → IsRenewed disks disk' m end.to f disk'' t
@@ -426,7 +426,7 @@ module _
             by true less k = rounds_rolled disks p at q from end.to r then (g.rounds ++ b ∷ [])
                 (registry_of (view t.pass) t.registrar) all k.runs k.registry k.unshut k.shape (higher (less refl) k)
                 (subst (λ (z : List CatRow). LeavesRows disks disk' disk'' (λ was. z ∷ []) (z ∷ [])) rows_are k.rows)
-                (ap (λ (z : Key). z.number) k.go.can.of.about ∙ k.number)
+                (ap (λ (z : Key). z.number) k.go.between.can.of.about ∙ k.number)
 
         -- memory ran out after it
         pub stops_then : (e : Stopped) → e.store ≡ Some t → e.why ≡ fault.Memory → CanGoOn disks.images disk'' t end.to
@@ -447,7 +447,7 @@ module _
             end = end.to;
             cut_by = tt;
             ran = rounds_end disks p q q from end.to r (registry_of (view t.pass) t.registrar) (g.rounds ++ b ∷ [])
-                fresh now (runs_self q) (learns_self (view t.pass)) go.end refl (rows_none disks disk'' _);
+                fresh now (runs_self q) (learns_self (view t.pass)) go.between.end refl (rows_none disks disk'' _);
             whole = λ past sound. subst IsRunUndamaged (sym why) tt;
           };
           input = λ is. refl;

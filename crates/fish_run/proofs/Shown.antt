@@ -1,11 +1,7 @@
 -- The log that is closed where it could be shown, and the fault with which it is.
-use Rattle.std.proofs.Common.{◌≡◌, ℕ, Err, None, Ok, Option, Result, Some, ap, refl, subst}
+use Rattle.std.proofs.Common.{◌≡◌, None, Option, Some, refl, subst}
 use Rattle.std.specs.Prelude.{IfSome}
 use Rattle.fish_rule.specs.declared.close.Remains.{Remains}
-use Rattle.fish_run.proofs.Faults.{well_of}
-use Rattle.fish_run.specs.Faults.{IsRunUndamaged}
-use Rattle.fish_run.specs.declared.fault.RunFault.{RunFault}
-use Rattle.fish_run.specs.declared.fault.RunFault.TheVariants as fault
 use Rattle.fish_store.specs.declared.store.Store.{Store}
 
 -- what is so of a store that is there
@@ -23,22 +19,3 @@ shown_some P Q None some h f = absurd (some refl)
 -- and what is so of it is so of the one that is known
 pub shown_is : (P Q : Remains → Type 0) (o : Option Remains) (r : Remains) → o ≡ Some r → IfSome o P → (P r → Q r) → Q r
 shown_is P Q o r is h f = (let k : IfSome (Some r) P = subst (λ (z : Option Remains). IfSome z P) is h in f k)
-
--- ---- the fault with which it is closed
-
--- it is no damage where that of before is none
-pub well_closed : (before : RunFault) (now : Option RunFault) → IsRunUndamaged before
-    → ((n : ℕ) → now ≡ Some (fault.Damaged n) → ◌≡◌ {A = Result ℕ RunFault} (Err before) (Err (fault.Damaged n)))
-    → IfSome now IsRunUndamaged
-well_closed before None well is = tt
-well_closed before (Some now) well is = well_of now (λ n k.
-    let is_err = is n (ap Some k) in
-    let same : before ≡ fault.Damaged n = cc in
-    subst IsRunUndamaged same well)
-
--- nor where there was none before
-pub well_ended : (count : ℕ) (now : Option RunFault)
-    → ((n : ℕ) → now ≡ Some (fault.Damaged n) → ◌≡◌ {A = Result ℕ RunFault} (Ok count) (Err (fault.Damaged n)))
-    → IfSome now IsRunUndamaged
-well_ended count None is = tt
-well_ended count (Some now) is = well_of now (λ n k. (let bad = is n (ap Some k) in absurd cc))

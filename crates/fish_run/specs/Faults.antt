@@ -1,10 +1,11 @@
 -- Why a run stops.
-use Rattle.std.specs.Prelude.{ℕ, ◌≡◌, ◌<◌, List, ⊤, Option, None, Some, slice_get}
+use Rattle.std.specs.Prelude.{ℕ, ◌≡◌, ◌<◌, List, ⊤, Option, None, Some, IsSome, slice_get}
 use Rattle.fish_flush.specs.declared.refusal.FlushRefusal.{FlushRefusal}
 use Rattle.fish_flush.specs.declared.refusal.FlushRefusal.TheVariants as flush
 use Rattle.fish_lanes.specs.declared.lane.Lane.{Lane}
 use Rattle.fish_lanes.specs.declared.work.LaneFault.{LaneFault}
 use Rattle.fish_lanes.specs.declared.work.LaneFault.TheVariants as cause
+use Rattle.fish_outside.specs.Causes.{Rose}
 use Rattle.fish_outside.specs.declared.fault.FeedRefusal.{FeedRefusal}
 use Rattle.fish_outside.specs.declared.fault.FeedRefusal.TheVariants as feed
 use Rattle.fish_report.specs.declared.writing.WriteRefusal.{WriteRefusal}
@@ -41,6 +42,28 @@ IsRunUndamaged fault.Input = ⊤
 IsRunUndamaged fault.Output = ⊤
 IsRunUndamaged fault.Memory = ⊤
 IsRunUndamaged fault.Disk = ⊤
+
+-- ---- causes
+
+-- how many faults a host, an output and a disk had
+pub record FaultCounts : Type 0 where
+  pub host : ℕ
+  pub out : ℕ
+  pub disk : ℕ
+
+abbrev pub counts_of : {H W D : Type 0} → (H → ℕ) → (W → ℕ) → (D → ℕ) → H → W → D → FaultCounts
+counts_of host out disk h w d = record { host = host h; out = out w; disk = disk d }
+
+-- where one of them is why the run stopped, its count rose
+pub record IsCausedBy (a b : FaultCounts) (why : RunFault) : Type 0 where
+  pub input : why ≡ fault.Input → Rose a.host b.host
+  pub output : why ≡ fault.Output → Rose a.out b.out
+  pub disk : why ≡ fault.Disk → Rose a.disk b.disk
+
+-- and where the disk's content is told in the end, no record was damaged
+pub record HasRunCause (content : Option (List ℕ)) (a b : FaultCounts) (why : RunFault) : Type 0 where
+  pub caused : IsCausedBy a b why
+  pub whole : IsSome content → IsRunUndamaged why
 
 -- ---- lanes
 

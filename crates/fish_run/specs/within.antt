@@ -1,7 +1,6 @@
 -- What private clauses cite, and no promise rests on.
 pub mod Blocks
 pub mod Commits
-pub mod Counting
 pub mod Faults
 pub mod Going
 pub mod Parts

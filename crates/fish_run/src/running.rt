@@ -1,6 +1,6 @@
 //! A run: the blocks of a script are run over an open store, one after the other, and the log is committed and closed.
 
-ghost use Rattle.std.specs.Prelude.{◌≡◌, ◌≢◌, ◌≤◌, ◌⊎◌, ◌||◌, ℕ, List, Err, IfErr, IfOk, IsErrOf, IsSome};
+ghost use Rattle.std.specs.Prelude.{◌≡◌, ◌≤◌, ◌⊎◌, ◌||◌, List, Err, IfErr, IfOk, IsSome};
 ghost use Rattle.std.specs.Prelude.{IfSome, None, OnErr, OnOk, Some, false, true};
 ghost use Rattle.fish_catalog.specs.declared.commit.Commit.{Commit};
 ghost use Rattle.fish_catalog.specs.declared.entry.Entry.{Entry};
@@ -12,13 +12,13 @@ ghost use Rattle.fish_report.specs.Writing.{HasWriteCause};
 ghost use Rattle.fish_rule.specs.ClosedLog.{IsClosed};
 ghost use Rattle.fish_rule.specs.Passes.{view};
 ghost use Rattle.fish_rule.specs.declared.close.Remains.{Remains};
-ghost use Rattle.fish_run.specs.Faults.{IsRunUndamaged};
+ghost use Rattle.fish_run.specs.Faults.{HasRunCause, IsCausedBy, counts_of};
 ghost use Rattle.fish_run.specs.Ran.{IsRunLost, IsRunStopped, IsRunWhole};
 ghost use Rattle.fish_run.specs.Reports.{first_item, said_items, said_refused};
-ghost use Rattle.fish_run.specs.within.Running.{EndsOne, EndsRunning, Finishes, StopsOne, StopsRun, counts_of};
-ghost use Rattle.fish_run.specs.within.Runs.{CanClose, CanGoOn, IsNewStore};
+ghost use Rattle.fish_run.specs.within.Running.{EndsOne, EndsRunning, Finishes, StopsOne, StopsRun};
+ghost use Rattle.fish_run.specs.within.Runs.{CanClose, CanGoOn, IsNewRun};
 ghost use Rattle.fish_run.specs.declared.fault.RunFault.{RunFault as Why};
-ghost use Rattle.fish_run.specs.within.Counting.{AreLater, IsCausedBy};
+ghost use Rattle.fish_run.specs.within.Faults.{AreLater, IsInnerFault};
 ghost use Rattle.fish_script.specs.Runnable.{CanRun, IsRunnableBlock};
 
 use crate::fault::RunFault;
@@ -94,10 +94,9 @@ where
         opened (H.files host.new) script.now (W.written out.old) (W.written out.new) result.refused }
     ensures content { SameFiles (H.files host.old) (H.files host.new) }
     ensures before { IsSome (D.content disk.new) → IsSome (D.content disk.old) }
-    ensures input { result.fault ≡ Some RunFault.Input → Rose (H.faults host.old) (H.faults host.new) }
-    ensures output { result.fault ≡ Some RunFault.Output → Rose (W.faults out.old) (W.faults out.new) }
-    ensures disk { result.fault ≡ Some RunFault.Disk → Rose (D.faults disk.old) (D.faults disk.new) }
-    ensures damaged { IsSome (D.content disk.new) → IfSome result.fault IsRunUndamaged }
+    ensures cause { IfSome result.fault (HasRunCause (D.content disk.new)
+        (counts_of H.faults W.faults D.faults host.old out.old disk.old)
+        (counts_of H.faults W.faults D.faults host.new out.new disk.new)) }
 {
     let made = opened.made;
     let count = opened.count;
@@ -141,11 +140,9 @@ fn close<W: Sink>(
     ensures shown { IfSome result.remains (λ r. IsClosed (view store.pass) r
         × Finishes ended result.fault (W.written out.old) (W.written out.new)) }
     ensures lost { result.remains ≡ None → (result.fault ≡ Some RunFault.Memory) × (out.new ≡ out.old) }
-    ensures input { result.fault ≡ Some RunFault.Input → ended ≡ Err RunFault.Input }
+    ensures inner { (why : Why) → result.fault ≡ Some why → IsInnerFault why → ended ≡ Err why }
     ensures output { result.fault ≡ Some RunFault.Output → (ended ≡ Err RunFault.Output)
         ⊎ Rose (W.faults out.old) (W.faults out.new) }
-    ensures disk { result.fault ≡ Some RunFault.Disk → ended ≡ Err RunFault.Disk }
-    ensures damaged { (n : ℕ) → result.fault ≡ Some (RunFault.Damaged n) → ended ≡ Err (RunFault.Damaged n) }
     ensures later { W.faults out.old ≤ W.faults out.new }
 {
     let Store {
@@ -178,11 +175,9 @@ fn close<W: Sink>(
 /// Writes how long the log is in the end, where no fault came before.
 fn finish<W: Sink>(alloc: Global, out: &mut W, ended: Result<u32, RunFault>) -> Option<RunFault>
     ensures ends { Finishes ended result (W.written out.old) (W.written out.new) }
-    ensures input { result ≡ Some RunFault.Input → ended ≡ Err RunFault.Input }
+    ensures inner { (why : Why) → result ≡ Some why → IsInnerFault why → ended ≡ Err why }
     ensures output { result ≡ Some RunFault.Output → (ended ≡ Err RunFault.Output)
         ⊎ Rose (W.faults out.old) (W.faults out.new) }
-    ensures disk { result ≡ Some RunFault.Disk → ended ≡ Err RunFault.Disk }
-    ensures damaged { (n : ℕ) → result ≡ Some (RunFault.Damaged n) → ended ≡ Err (RunFault.Damaged n) }
     ensures later { W.faults out.old ≤ W.faults out.new }
 {
     match ended {
@@ -210,10 +205,8 @@ fn run_store<R: Threads + Sync, H: Host, D: Disk + Send, W: Sink, G: Gate + Sync
 ) -> Result<Lasts, Stopped>
 where
     H::Feed: Drop,
-    requires new { IsNewStore D.images disk.old store }
-    requires count { count ≡ store.log.key.number }
+    requires new { IsNewRun D.images disk.old store count refused.old }
     requires script { CanRun script.now }
-    requires accepted { refused.old ≡ false }
     ensures all { IfOk result (EndsRunning D.Disk disk.old disk.new store count (first_item made count)
         (H.files host.new) script.now (W.written out.old) (W.written out.new) refused.new true) }
     ensures some { IfErr result (StopsRun D.Disk disk.old disk.new store count (first_item made count)
@@ -253,10 +246,8 @@ fn run_blocks<R: Threads + Sync, H: Host, D: Disk + Send, W: Sink, G: Gate + Syn
 ) -> Result<Lasts, Stopped>
 where
     H::Feed: Drop,
-    requires new { IsNewStore D.images disk.old store }
-    requires count { count ≡ store.log.key.number }
+    requires new { IsNewRun D.images disk.old store count refused.old }
     requires script { CanRun script.now }
-    requires accepted { refused.old ≡ false }
     ensures all { IfOk result (EndsRunning D.Disk disk.old disk.new store count (first_item made count)
         (H.files host.new) script.now (W.written out.old) (W.written out.new) refused.new false) }
     ensures some { IfErr result (StopsRun D.Disk disk.old disk.new store count (first_item made count)

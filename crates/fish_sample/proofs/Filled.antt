@@ -30,7 +30,8 @@ use Rattle.fish_sample.proofs.Telling.{all_named, and_both, nothing_stored, regi
 use Rattle.fish_sample.proofs.Telling.{stored_after, stored_all, text_of}
 use Rattle.fish_sample.specs.within.Blocks.{AreRows, AreSelected, GoesLater, namings, HasCounted, HasDefined, HasDefinitions, HasFilled}
 use Rattle.fish_sample.specs.within.Blocks.{HasRunBlock}
-use Rattle.fish_sample.specs.within.Blocks.{HasStored, IsBetweenRuns}
+use Rattle.fish_lanes.specs.Between.{IsBetweenBlocks}
+use Rattle.fish_sample.specs.within.Blocks.{HasStored}
 use Rattle.fish_sample.specs.within.Blocks.{IsSampleStore, IsSample, IsSummary, span_of}
 use Rattle.fish_gen.specs.Sample.{sample_text}
 use Rattle.fish_sample.specs.within.Files.{sample_lines}
@@ -195,13 +196,13 @@ module _ {D : Type 0} (disks : Disks D) (disk disk' : D) (s t : Store) (from to 
   )
 
   -- the definitions in each whole are those of the registrar
-  whole_rows : (begun : IsBetweenRuns disks.images disk s from) (past : Whole) (w : Whole) → MayEnd past (view t.pass) w
+  whole_rows : (begun : IsBetweenBlocks disks.images disk s from) (past : Whole) (w : Whole) → MayEnd past (view t.pass) w
       → w.rows (registry_of (view s.pass) s.registrar).version ≡ map listed_of s.registrar.catalog
   whole_rows begun past w may =
       sure_rows past (view s.pass) (registry_of (view s.pass) s.registrar).version (map listed_of s.registrar.catalog) begun.known w
       (may_hold past (view s.pass) w (narrows_later past (view s.pass) (view t.pass) h.goes.later w may))
 
-  counted_text : (number : ℕ) (begun : IsBetweenRuns disks.images disk s from) (past : Whole) (w : Whole) → MayEnd past (view t.pass) w
+  counted_text : (number : ℕ) (begun : IsBetweenBlocks disks.images disk s from) (past : Whole) (w : Whole) → MayEnd past (view t.pass) w
       → SaysBlock w span new → x.works ≡ all_scans → list_all is_scanned last.items ≡ true → (d : Definitions) → AreDefined d
       → AreRows d s.registrar.catalog → AreSelected number from w → items_text number last.items ≡ summary_text d number
   counted_text number begun past w may tells scans all d defined are selected =
@@ -215,7 +216,7 @@ module _ {D : Type 0} (disks : Disks D) (disk disk' : D) (s t : Store) (from to 
       (rows_of_lane w.log from to 1) (all_asked d) last.items from (to + 16) refl works many all (h.so last last_at)
       (all_mean d defined s.registrar.catalog are))
 
-  pub has_counted : (number : ℕ) (text : List ℕ) → IsBetweenRuns disks.images disk s from → x.works ≡ all_scans
+  pub has_counted : (number : ℕ) (text : List ℕ) → IsBetweenBlocks disks.images disk s from → x.works ≡ all_scans
       → list_all is_scanned last.items ≡ true → text ≡ items_text number last.items
       → HasCounted disks number disk s from disk' t text
   has_counted number text begun scans all is = record {
@@ -249,7 +250,7 @@ module _ {D : Type 0} (disks : Disks D) (disk disk' : D) (s t : Store) (from to 
       has_defined disks disk disk' s t from to x new run lane.works
       (subst (λ (z : Lane). list_all is_registered z.items ≡ true) (read_last x run y at) all)
 
-  counted_one : (number : ℕ) → IsBetweenRuns disks.images disk s from → HasRunBlock disks disk s from old disk' t to new
+  counted_one : (number : ℕ) → IsBetweenBlocks disks.images disk s from → HasRunBlock disks disk s from old disk' t to new
       → (x : Lane) × (old ≡ x ∷ []) × IsScanningLane x → (y : Lane) → y ≡ get_or new 0 y → list_all is_scanned y.items ≡ true
       → (text : List ℕ) → text ≡ items_text number y.items → HasCounted disks number disk s from disk' t text
   counted_one number begun h (x, is, lane) y at all text text_is =
@@ -260,7 +261,7 @@ module _ {D : Type 0} (disks : Disks D) (disk disk' : D) (s t : Store) (from to 
       (subst (λ (z : Lane). list_all is_scanned z.items ≡ true) same all)
       (text_is ∙ ap (λ (z : Lane). items_text number z.items) same)
 
-  pub counted_of : {E : Type 0} (number : ℕ) → IsBetweenRuns disks.images disk s from → HasRunBlock disks disk s from old disk' t to new
+  pub counted_of : {E : Type 0} (number : ℕ) → IsBetweenBlocks disks.images disk s from → HasRunBlock disks disk s from old disk' t to new
       → (x : Lane) × (old ≡ x ∷ []) × IsScanningLane x → (y : Lane) → y ≡ get_or new 0 y → list_all is_scanned y.items ≡ true
       → (r : Result (List ℕ) E) → IfOk r (λ text. text ≡ items_text number y.items)
       → IfOk r (HasCounted disks number disk s from disk' t)

@@ -1,16 +1,15 @@
 -- One block of a sample: what it leaves, by what the run of a block says.
-use Rattle.std.proofs.Common.{◌≡◌, ℕ, ◌≤◌, zero, suc, List, [], ◌∷◌, ◌++◌, length, refl, sym, ap, ◌∙◌, subst, arith}
+use Rattle.std.proofs.Common.{◌≡◌, ℕ, zero, suc, List, [], ◌∷◌, ◌++◌, length, refl, sym, ap, ◌∙◌, subst, arith}
 use Rattle.std.proofs.Common.{true, false, Option, Some, None, append-nil, slice_get}
 use Rattle.std.proofs.lemmas.Bool.{false≢true}
 use Rattle.std.specs.Prelude.{is_some}
 use Rattle.std.specs.List.{list_all}
 use Rattle.fish_disk.specs.declared.disk.Disk.{Ghosts as Disks}
-use Rattle.fish_lanes.proofs.Controls.{each_last}
 use Rattle.fish_lanes.proofs.Lists.{some_once}
 use Rattle.fish_lanes.specs.Blocks.{AreEnded, AreKept, EachLane, EachLanePair, HasRegistered, IsBlockSpan, control_items}
-use Rattle.fish_lanes.specs.Controlling.{CanControl, bound_items}
+use Rattle.fish_lanes.specs.Controlling.{bound_items}
 use Rattle.fish_lanes.specs.Ending.{EndsAlone}
-use Rattle.fish_lanes.specs.Registering.{KnowsRegistry, after_all, registry_of}
+use Rattle.fish_lanes.specs.Registering.{after_all, registry_of}
 use Rattle.fish_lanes.specs.Spans.{answers}
 use Rattle.fish_lanes.specs.declared.block.BlockEnd.{BlockEnd}
 use Rattle.fish_lanes.specs.declared.block.Boundary.{Boundary}
@@ -22,11 +21,8 @@ use Rattle.fish_report.specs.declared.item.Item.{Item}
 use Rattle.fish_rule.specs.Passes.{view}
 use Rattle.fish_rule.specs.declared.view.View.{View}
 use Rattle.fish_sample.proofs.Telling.{and_both, none_left}
-use Rattle.fish_sample.specs.within.Blocks.{IsBetweenRuns, span_of}
+use Rattle.fish_sample.specs.within.Blocks.{span_of}
 use Rattle.fish_sample.specs.within.Items.{is_none_fault, is_whole_lane}
-use Rattle.fish_scan.specs.Colder.{IsBelow}
-use Rattle.fish_store.specs.Points.{point_at}
-use Rattle.fish_store.specs.Sound.{MayGoOn}
 use Rattle.fish_store.specs.declared.store.Store.{Store}
 
 -- ---- lanes that did all
@@ -36,7 +32,7 @@ no_fault cause.None h = refl
 no_fault f h = absurd (false≢true h)
 
 -- each lane of the list is whole
-whole_at : (lanes : List Lane) → list_all is_whole_lane lanes ≡ true → (i : ℕ) (x : Lane) → slice_get lanes i ≡ Some x
+pub whole_at : (lanes : List Lane) → list_all is_whole_lane lanes ≡ true → (i : ℕ) (x : Lane) → slice_get lanes i ≡ Some x
     → (x.fault ≡ cause.None) × (x.left ≡ [])
 whole_at [] h i x at = absurd cc
 whole_at (y ∷ lanes) h zero x at =
@@ -74,26 +70,6 @@ module _ (lanes : List Lane) (whole : list_all is_whole_lane lanes ≡ true) whe
     registry_is x at = (registered x at).is (whole_at lanes whole 0 x at).0
         ∙ ap (after_all (registry_of (view s.pass) s.registrar)) (items_are x)
 
-    -- and all that the next block asks for
-    pub between_after : (x : Lane) → slice_get lanes 0 ≡ Some x → CanControl t.log t.pass t.registrar
-        → (((x : Lane) → slice_get lanes 0 ≡ Some x → x.fault ≡ cause.Disk → ⊥) → MayGoOn disks.images (point_at disk' t))
-        → IsBelow t.log.key t.file.cold → EndsAlone (view t.pass) end.to → IsBetweenRuns disks.images disk' t end.to
-    between_after x at can again below ends = record {
-      can = can;
-      commit = again (λ y there failed.
-          (let bad : cause.None ≡ cause.Disk = sym (whole_at lanes whole 0 y there).0 ∙ failed in absurd cc));
-      below = below;
-      end = ends;
-      known = subst (KnowsRegistry (view t.pass)) (sym ((registered x at).is (whole_at lanes whole 0 x at).0))
-          (each_last (KnowsRegistry (view t.pass)) (registry_of (view s.pass) s.registrar) (control_items x end)
-          ((registered x at).each (whole_at lanes whole 0 x at).0));
-    }
-
 -- the block lies in its span
 pub span_is : (v u : View) (from to lanes : ℕ) → EndsAlone v from → IsBlockSpan v u to (span_of v u from to lanes)
 span_is v u from to lanes begins = record { begins = begins; ends = refl; first = omega arith; last = omega arith; full = refl }
-
--- a list that is not empty has a first element
-pub first_there : {A : Type 0} (xs : List A) → 1 ≤ length xs → (x : A) × (slice_get xs 0 ≡ Some x)
-first_there [] less = absurd (omega (less, arith))
-first_there (x ∷ xs) less = (x, refl)

@@ -2,8 +2,9 @@
 //! scanned.
 
 ghost use Rattle.std.specs.Prelude.{◌≡◌, ◌∷◌, [], IfOk, OnOk};
+ghost use Rattle.fish_lanes.specs.Between.{IsBetweenBlocks};
 ghost use Rattle.fish_sample.specs.within.Blocks.{HasCounted, HasDefined, HasFilled, HasStored};
-ghost use Rattle.fish_sample.specs.within.Blocks.{IsAlwaysShown, IsBetweenRuns, IsSampleStore};
+ghost use Rattle.fish_sample.specs.within.Blocks.{IsAlwaysShown, IsSampleStore};
 ghost use Rattle.fish_sample.specs.within.Works.{AreShareLanes, HasPushed, IsDefiningLane, IsScanningLane};
 
 use crate::asking::{defining_lane, scanning_lane};
@@ -44,7 +45,7 @@ fn register<R: Threads + Sync, D: Disk + Send>(
     disk: &mut D,
 ) -> Result<u32, AllocError>
     requires content { IsAlwaysShown D.content }
-    requires between { IsBetweenRuns D.images disk.old store.old from }
+    requires between { IsBetweenBlocks D.images disk.old store.old from }
     ensures { IfOk result (HasDefined D.Disk disk.old store.old from disk.new store.new) }
 {
     let lane = defining_lane(alloc)?;
@@ -64,7 +65,7 @@ fn run_defining<R: Threads + Sync, D: Disk + Send>(
     lanes: &mut [Lane],
 ) -> Result<u32, AllocError>
     requires content { IsAlwaysShown D.content }
-    requires between { IsBetweenRuns D.images disk.old store.old from }
+    requires between { IsBetweenBlocks D.images disk.old store.old from }
     requires lane { (x : Lane) × (lanes.old ≡ x ∷ []) × IsDefiningLane x }
     ensures { IfOk result (HasDefined D.Disk disk.old store.old from disk.new store.new) }
 {
@@ -85,7 +86,7 @@ fn store_shares<R: Threads + Sync, D: Disk + Send>(
     disk: &mut D,
 ) -> Result<u32, AllocError>
     requires content { IsAlwaysShown D.content }
-    requires between { IsBetweenRuns D.images disk.old store.old from }
+    requires between { IsBetweenBlocks D.images disk.old store.old from }
     ensures { IfOk result (HasStored D.Disk number disk.old store.old from disk.new store.new) }
 {
     let mut lanes = Vec::new(alloc);
@@ -128,7 +129,7 @@ fn run_shares<R: Threads + Sync, D: Disk + Send>(
     lanes: &mut [Lane],
 ) -> Result<u32, AllocError>
     requires content { IsAlwaysShown D.content }
-    requires between { IsBetweenRuns D.images disk.old store.old from }
+    requires between { IsBetweenBlocks D.images disk.old store.old from }
     requires lanes { AreShareLanes number 4 lanes.old }
     ensures { IfOk result (HasStored D.Disk number disk.old store.old from disk.new store.new) }
 {
@@ -149,7 +150,7 @@ fn count_values<R: Threads + Sync, D: Disk + Send>(
     disk: &mut D,
 ) -> Result<Text, AllocError>
     requires content { IsAlwaysShown D.content }
-    requires between { IsBetweenRuns D.images disk.old store.old from }
+    requires between { IsBetweenBlocks D.images disk.old store.old from }
     ensures { IfOk result (HasCounted D.Disk number disk.old store.old from disk.new store.new) }
 {
     let lane = scanning_lane(alloc)?;
@@ -170,7 +171,7 @@ fn run_scanning<R: Threads + Sync, D: Disk + Send>(
     lanes: &mut [Lane],
 ) -> Result<Text, AllocError>
     requires content { IsAlwaysShown D.content }
-    requires between { IsBetweenRuns D.images disk.old store.old from }
+    requires between { IsBetweenBlocks D.images disk.old store.old from }
     requires lane { (x : Lane) × (lanes.old ≡ x ∷ []) × IsScanningLane x }
     ensures { IfOk result (HasCounted D.Disk number disk.old store.old from disk.new store.new) }
 {

@@ -1,8 +1,9 @@
 //! One block of a sample's lanes.
 
 ghost use Rattle.std.specs.Prelude.{IfOk};
+ghost use Rattle.fish_lanes.specs.Between.{IsBetweenBlocks};
 ghost use Rattle.fish_lanes.specs.Blocks.{AreLanes};
-ghost use Rattle.fish_sample.specs.within.Blocks.{HasRunBlock, IsAlwaysShown, IsBetweenRuns};
+ghost use Rattle.fish_sample.specs.within.Blocks.{HasRunBlock, IsAlwaysShown};
 
 use crate::items::are_whole;
 use fish_disk::Disk;
@@ -21,7 +22,7 @@ pub(crate) fn run_lanes<R: Threads + Sync, D: Disk + Send>(
     lanes: &mut [Lane],
 ) -> Result<u32, AllocError>
     requires content { IsAlwaysShown D.content }
-    requires between { IsBetweenRuns D.images disk.old store.old from }
+    requires between { IsBetweenBlocks D.images disk.old store.old from }
     requires lanes { AreLanes lanes.old }
     ensures { IfOk result (λ to. HasRunBlock D.Disk disk.old store.old from lanes.old disk.new store.new to lanes.new) }
 {

@@ -5,6 +5,7 @@ pub mod CommitRows
 pub mod Committing
 pub mod Ending
 pub mod Kept
+pub mod Opened
 pub mod Opening
 pub mod Pages
 pub mod Rolls

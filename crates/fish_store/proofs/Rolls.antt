@@ -16,7 +16,6 @@ use Rattle.fish_recover.proofs.Beginnings.{begun_open}
 use Rattle.fish_recover.specs.Beginning.{BeginsAt}
 use Rattle.fish_recover.specs.Stores.{IsBegunStore}
 use Rattle.fish_recover.specs.declared.opened.Opened.{Opened}
-use Rattle.fish_registry.specs.Knowing.{KnowsFirst}
 use Rattle.fish_rule.proofs.laws.ClosedLogs.{definitions_closed}
 use Rattle.fish_rule.proofs.laws.Learning.{learns_self}
 use Rattle.fish_rule.specs.Passes.{IsPassOf, view}
@@ -28,9 +27,10 @@ use Rattle.fish_rule.specs.declared.view.View.{View}
 use Rattle.fish_scan.specs.Colder.{IsBelow}
 use Rattle.fish_store.proofs.Beginning.{all_cut}
 use Rattle.fish_store.proofs.Closing.{closed_end, whole_log}
+use Rattle.fish_store.proofs.Opened.{opened_as, opened_at, opened_same}
 use Rattle.fish_store.proofs.Opening.{begun_size, begun_sound}
 use Rattle.fish_store.proofs.Versions.{version_closed}
-use Rattle.fish_store.specs.Opened.{opened_point}
+use Rattle.fish_store.specs.Opened.{IsOfOpened, opened_point}
 use Rattle.fish_store.specs.Points.{point_at}
 use Rattle.fish_store.specs.Rolling.{HasRolled, MayRoll}
 use Rattle.fish_store.specs.within.Rolling.{IsClosedWith}
@@ -168,29 +168,13 @@ module _ {D : Type 0} (disks : Disks D)
   }
 
   -- the store with a registrar of these rows
-  module _ (new : Store) (log_is : new.log ≡ o.log) (pass_is : new.pass ≡ o.pass) (knows : KnowsFirst new.registrar)
-      (rows_are : new.registrar.catalog ≡ o.catalog) (flusher_is : new.file.flusher ≡ o.flusher) (cold_is : new.file.cold ≡ o.cold) where
+  module _ (new : Store) (made : IsOfOpened o new) where
+    same : opened_as o new ≡ new
+    same = opened_same o new made
+
     -- it is at the first moment of the table
     point_rolled : opened_point disk o ≡ point_at disk new
-    point_rolled i = record {
-      disk = disk;
-      flusher = sym flusher_is i;
-      cold = sym cold_is i;
-      shape = (sym log_is i).shape;
-      rows = sym rows_are i;
-      view = view (sym pass_is i);
-    }
-
-    abbrev plain : Store
-    plain = record { log = o.log; pass = o.pass; registrar = new.registrar; file = record { flusher = o.flusher; cold = o.cold } }
-
-    same : plain ≡ new
-    same i = record {
-      log = sym log_is i;
-      pass = sym pass_is i;
-      registrar = new.registrar;
-      file = record { flusher = sym flusher_is i; cold = sym cold_is i };
-    }
+    point_rolled = sym (opened_at o new made disk)
 
     -- so it took the old one's place
     pub has_rolled : HasRolled disks disk old new
@@ -204,15 +188,15 @@ module _ {D : Type 0} (disks : Disks D)
           line = subst (λ (z : Store). z.log.key.line ≡ f.line) same line_is;
           version = subst (λ (z : Store). z.log.key.version ≡ v.learned.version) same
               (first.version ∙ sym x.is ∙ version_closed v x.remains x.closed m.pass.stands m.alone.control);
-          knows = knows;
-          catalog = rows_are ∙ catalog_is;
-          rows = subst (λ (z : Store). z.log.key.rows.value ≡ new.registrar.catalog) same (first.rows ∙ sym rows_are);
+          knows = made.first;
+          catalog = made.rows ∙ catalog_is;
+          rows = subst (λ (z : Store). z.log.key.rows.value ≡ new.registrar.catalog) same (first.rows ∙ sym made.rows);
           shape = subst (λ (z : Store). z.log.shape ≡ old.log.shape) same begins.opens.shape;
           buckets = subst (λ (z : Store). z.log.key.buckets ≡ 2 ^ old.log.shape.bucket_bits) same
               (first.buckets ∙ ap (λ (n : ℕ). 2 ^ n) k.bits);
           end = subst (λ (z : Store). z.log.key.end ≡ f.line + table_lines old.log.shape.pages f.count f.line) same
               (first.end ∙ (λ i. c.line i + table_lines (k.pages i) (c.count i) (c.line i)));
-          flusher = flusher_is ∙ begins.opens.flusher;
+          flusher = made.flusher ∙ begins.opens.flusher;
           below = subst (λ (z : Store). IsBelow z.log.key z.file.cold) same
               (record { number = first.below_number; line = first.below_line });
           commit = subst (MayGoOn disks.images) point_rolled rolled_may;

@@ -1,8 +1,6 @@
 //! A store as one value: the log with its control pass and its registrar, and what is kept of the file.
 
-ghost use Rattle.std.specs.Prelude.{◌≡◌};
-ghost use Rattle.fish_registry.specs.Knowing.{KnowsFirst};
-ghost use Rattle.fish_store.specs.Opened.{opened_point};
+ghost use Rattle.fish_store.specs.Opened.{IsOfOpened, opened_point};
 ghost use Rattle.fish_store.specs.Points.{point_of};
 
 use crate::file::StoreFile;
@@ -26,12 +24,7 @@ pub struct Store {
 impl Store {
     /// The store that was opened.
     pub fn of_opened(opened: Opened) -> Store
-        ensures log { result.log ≡ opened.log }
-        ensures pass { result.pass ≡ opened.pass }
-        ensures first { KnowsFirst result.registrar }
-        ensures rows { result.registrar.catalog ≡ opened.catalog }
-        ensures flusher { result.file.flusher ≡ opened.flusher }
-        ensures cold { result.file.cold ≡ opened.cold }
+        ensures { IsOfOpened opened result }
     {
         let Opened {
             log,

@@ -2,17 +2,12 @@
 use Rattle.std.specs.Prelude.{ℕ, ◌≡◌, ◌+◌, ◌<◌, List, All, Some, length}
 use Rattle.fish_outside.specs.Bounded.{content_in}
 use Rattle.fish_disk.specs.declared.sure.SureDisk.{SureDisk}
+use Rattle.fish_lanes.specs.Between.{IsBetweenBlocks}
 use Rattle.fish_lanes.specs.Blocks.{EachLane, IsNewLane}
-use Rattle.fish_lanes.specs.Controlling.{CanControl}
-use Rattle.fish_lanes.specs.Ending.{EndsAlone}
-use Rattle.fish_lanes.specs.Registering.{IsAcceptable, KnowsRegistry, registry_of}
+use Rattle.fish_lanes.specs.Registering.{IsAcceptable}
 use Rattle.fish_lanes.specs.Running.{IsShared}
 use Rattle.fish_lanes.specs.declared.lane.Lane.{Lane}
 use Rattle.fish_lanes.specs.declared.work.Work.{Work}
-use Rattle.fish_rule.specs.Passes.{view}
-use Rattle.fish_scan.specs.Colder.{IsBelow}
-use Rattle.fish_store.specs.Points.{point_at}
-use Rattle.fish_store.specs.Sound.{MayGoOn}
 use Rattle.fish_store.specs.declared.store.Store.{Store}
 
 -- a lane with this number may do the statement: the first one alone changes definitions and commits
@@ -30,15 +25,9 @@ pub record AreNew (count : ℕ) (lanes : List Lane) : Type 0 where
   pub many : length lanes ≡ count
   pub each : EachLane (λ i x. IsMade (i + 1) x) lanes
 
--- the control pass knows where the log ends and what its registrar keeps, a checkpoint may follow, and the file has
--- what is older than the table
-pub record IsBetween {D : Type 0} (images : D → List ℕ → Type 0) (disk : D) (s : Store) : Type 0 where
-  pub can : CanControl s.log s.pass s.registrar
-  pub commit : MayGoOn images (point_at disk s)
-  pub below : IsBelow s.log.key s.file.cold
-  pub from : ℕ
-  pub end : EndsAlone (view s.pass) from
-  pub known : KnowsRegistry (view s.pass) (registry_of (view s.pass) s.registrar)
+-- the store is between two blocks, after some number of entries
+abbrev pub IsBetween : {D : Type 0} → (D → List ℕ → Type 0) → D → Store → Type 0
+IsBetween images disk s = (from : ℕ) × IsBetweenBlocks images disk s from
 
 -- the same of a store on a disk that never fails
 abbrev pub IsHeld : SureDisk → Store → Type 0

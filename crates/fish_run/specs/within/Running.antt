@@ -14,7 +14,6 @@ use Rattle.fish_run.specs.Joins.{block_said}
 use Rattle.fish_run.specs.Rounds.{AreRounds}
 use Rattle.fish_run.specs.within.Runs.{CanClose, CanGoOn, IsAllKept}
 use Rattle.fish_run.specs.within.Steps.{HasRounds, RunsAll, RunsSome, StopsRounds}
-use Rattle.fish_run.specs.within.Counting.{FaultCounts}
 use Rattle.fish_run.specs.within.Faults.{IsWriteFault}
 use Rattle.fish_run.specs.Tables.{AreRenewed}
 use Rattle.fish_run.specs.declared.fault.RunFault.{RunFault}
@@ -24,10 +23,6 @@ use Rattle.fish_run.specs.declared.running.Lasts.{Lasts}
 use Rattle.fish_script.specs.declared.script.Block as script
 use Rattle.fish_store.specs.Points.{point_at}
 use Rattle.fish_store.specs.declared.store.Store.{Store}
-
--- the counts of faults of a host, an output and a disk
-abbrev pub counts_of : {H W D : Type 0} → (H → ℕ) → (W → ℕ) → (D → ℕ) → H → W → D → FaultCounts
-counts_of host out disk h w d = record { host = host h; out = out w; disk = disk d }
 
 -- ---- one block
 

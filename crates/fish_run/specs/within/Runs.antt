@@ -1,17 +1,13 @@
 -- What a run of a script asks for and leaves between two blocks.
-use Rattle.std.specs.Prelude.{ℕ, ◌≡◌, ◌+◌, ◌^◌, List, None}
+use Rattle.std.specs.Prelude.{ℕ, ◌≡◌, ◌+◌, ◌^◌, List, None, Bool, false}
 use Rattle.fish_flush.specs.Reading.{IsLineAt}
-use Rattle.fish_lanes.specs.Controlling.{CanControl}
+use Rattle.fish_lanes.specs.Between.{IsBetweenBlocks}
 use Rattle.fish_lanes.specs.Ending.{EndsAlone}
-use Rattle.fish_lanes.specs.Registering.{KnowsRegistry, registry_of}
 use Rattle.fish_rule.specs.LoadSteps.{IsAlone}
 use Rattle.fish_rule.specs.Passes.{IsPassOf, view}
 use Rattle.fish_rule.specs.Start.{table_lines}
 use Rattle.fish_rule.specs.declared.table.Log.{Log}
-use Rattle.fish_scan.specs.Colder.{IsBelow}
 use Rattle.fish_store.specs.Ending.{KeepsCatalog}
-use Rattle.fish_store.specs.Points.{point_at}
-use Rattle.fish_store.specs.Sound.{MayGoOn}
 use Rattle.fish_store.specs.declared.store.Store.{Store}
 
 -- the table has the buckets of its shape, and as many lines as a table of that shape has which begins there
@@ -25,13 +21,9 @@ pub record CanClose (s : Store) : Type 0 where
   pub alone : IsAlone (view s.pass)
   pub table : IsTable s.log
 
--- it may run a block after so many numbers, and a checkpoint may follow
+-- the store is between two blocks, after so many numbers, and no registration waits
 pub record CanGoOn {D : Type 0} (images : D → List ℕ → Type 0) (disk : D) (s : Store) (from : ℕ) : Type 0 where
-  pub can : CanControl s.log s.pass s.registrar
-  pub commit : MayGoOn images (point_at disk s)
-  pub below : IsBelow s.log.key s.file.cold
-  pub end : EndsAlone (view s.pass) from
-  pub known : KnowsRegistry (view s.pass) (registry_of (view s.pass) s.registrar)
+  pub between : IsBetweenBlocks images disk s from
   pub settled : s.registrar.waiting ≡ None
   pub table : IsTable s.log
 
@@ -41,6 +33,13 @@ pub record IsNewStore {D : Type 0} (images : D → List ℕ → Type 0) (disk : 
   pub go : CanGoOn images disk s s.log.key.number
   pub version : (view s.pass).learned.version ≡ 0
   pub unshut : (view s.pass).shut ≡ None
+
+-- so many entries are before its table, and no statement of the run was refused yet
+pub record IsNewRun {D : Type 0} (images : D → List ℕ → Type 0) (disk : D) (s : Store) (count : ℕ) (refused : Bool)
+    : Type 0 where
+  pub new : IsNewStore images disk s
+  pub count_is : count ≡ s.log.key.number
+  pub accepted : refused ≡ false
 
 -- all of the log is committed, as the control pass knows its end and its last line; and every image has that line, and
 -- the registrar's definitions

@@ -4,26 +4,24 @@ use Rattle.std.specs.Prelude.{slice_get, true}
 use Rattle.fish_catalog.specs.declared.row.CatRow.{CatRow}
 use Rattle.fish_disk.specs.declared.disk.Disk.{Ghosts as Disks}
 use Rattle.fish_lang.specs.Canonical.{definition_text}
+use Rattle.fish_lanes.specs.Between.{IsBetweenBlocks}
 use Rattle.fish_lanes.specs.Blocks.{EachLane, EachLanePair, SaysBlock}
-use Rattle.fish_lanes.specs.Controlling.{CanControl}
-use Rattle.fish_lanes.specs.Ending.{EndsAlone}
-use Rattle.fish_lanes.specs.Registering.{ItemsFit, KnowsRegistry, after_all, registry_of}
+use Rattle.fish_lanes.specs.Registering.{ItemsFit, after_all, registry_of}
 use Rattle.fish_lanes.specs.Spans.{Span, answers}
 use Rattle.fish_lanes.specs.declared.lane.Lane.{Lane}
 use Rattle.fish_psf.specs.Records.{evaluation}
 use Rattle.fish_psf.specs.Select.{select}
 use Rattle.fish_recover.specs.declared.opened.Opened.{Opened}
-use Rattle.fish_registry.specs.Knowing.{KnowsFirst}
 use Rattle.fish_rule.specs.Passes.{view}
 use Rattle.fish_rule.specs.declared.close.Remains.{Remains}
 use Rattle.fish_rule.specs.declared.view.View.{View}
 use Rattle.fish_sample.specs.Logs.{IsSampleLog}
 use Rattle.fish_sample.specs.within.Parts.{EachEntry, HasRecords, IsVoid, log_part}
 use Rattle.fish_sample.specs.Sample.{AreDefined, SampleQuestion, Definitions, asked_count, summary_text}
-use Rattle.fish_scan.specs.Colder.{IsBelow}
 use Rattle.fish_scan.specs.Older.{selectable}
+use Rattle.fish_store.specs.Opened.{IsOfOpened}
 use Rattle.fish_store.specs.Points.{point_at}
-use Rattle.fish_store.specs.Sound.{MayGoOn, Sound}
+use Rattle.fish_store.specs.Sound.{Sound}
 use Rattle.fish_store.specs.declared.store.Store.{Store}
 use Rattle.fish_whole.specs.Whole.{Later, Whole, WillHold}
 
@@ -31,29 +29,14 @@ use Rattle.fish_whole.specs.Whole.{Later, Whole, WillHold}
 abbrev pub IsAlwaysShown : {D : Type 0} → (D → Option (List ℕ)) → Type 0
 IsAlwaysShown {D} content = (d : D) → IsSome (content d)
 
--- ---- between blocks
-
--- a block may follow after so many entries
-pub record IsBetweenRuns {D : Type 0} (images : D → List ℕ → Type 0) (disk : D) (s : Store) (from : ℕ) : Type 0 where
-  pub can : CanControl s.log s.pass s.registrar
-  pub commit : MayGoOn images (point_at disk s)
-  pub below : IsBelow s.log.key s.file.cold
-  pub end : EndsAlone (view s.pass) from
-  pub known : KnowsRegistry (view s.pass) (registry_of (view s.pass) s.registrar)
-
 -- it is the store that was opened, which was made
 pub record IsOfMade (o : Opened) (s : Store) : Type 0 where
   pub made : o.made ≡ true
-  pub log : s.log ≡ o.log
-  pub pass : s.pass ≡ o.pass
-  pub first : KnowsFirst s.registrar
-  pub rows : s.registrar.catalog ≡ o.catalog
-  pub flusher : s.file.flusher ≡ o.flusher
-  pub cold : s.file.cold ≡ o.cold
+  pub of : IsOfOpened o s
 
 -- a store was made: nothing is in it, and nothing was before it
 pub record IsSampleStore {D : Type 0} (disks : Disks D) (disk : D) (s : Store) : Type 0 where
-  pub between : IsBetweenRuns disks.images disk s 0
+  pub between : IsBetweenBlocks disks.images disk s 0
   pub rows : s.registrar.catalog ≡ []
   pub past : Whole
   pub nothing : past.log ≡ []
@@ -81,7 +64,7 @@ span_of v u from to lanes = record {
 -- the lanes did all that they were to do, and what their items say is so of each whole log that may be in the end
 pub record HasRunBlock {D : Type 0} (disks : Disks D) (disk : D) (s : Store) (from : ℕ) (old : List Lane) (disk' : D)
     (t : Store) (to : ℕ) (new : List Lane) : Type 0 where
-  pub between : IsBetweenRuns disks.images disk' t to
+  pub between : IsBetweenBlocks disks.images disk' t to
   pub goes : GoesLater disks disk s disk' t
   pub kept : EachLanePair (λ i x y. y.works ≡ x.works) old new
   pub many : length new ≡ length old
@@ -113,7 +96,7 @@ pub record HasDefinitions (rows : List CatRow) : Type 0 where
 -- a store without a definition has them, and no record was stored
 pub record HasDefined {D : Type 0} (disks : Disks D) (disk : D) (s : Store) (from : ℕ) (disk' : D) (t : Store) (to : ℕ)
     : Type 0 where
-  pub between : IsBetweenRuns disks.images disk' t to
+  pub between : IsBetweenBlocks disks.images disk' t to
   pub goes : GoesLater disks disk s disk' t
   pub told : (past : Whole) → Sound disks (point_at disk s) past → (from ≤ to)
       × WillHold past (view t.pass) (λ w. EachEntry IsVoid (log_part from to w.log)
@@ -124,7 +107,7 @@ pub record HasDefined {D : Type 0} (disks : Disks D) (disk : D) (s : Store) (fro
 -- each lane stored its share, and the definitions are the same
 pub record HasStored {D : Type 0} (disks : Disks D) (number : ℕ) (disk : D) (s : Store) (from : ℕ) (disk' : D)
     (t : Store) (to : ℕ) : Type 0 where
-  pub between : IsBetweenRuns disks.images disk' t to
+  pub between : IsBetweenBlocks disks.images disk' t to
   pub goes : GoesLater disks disk s disk' t
   pub rows : t.registrar.catalog ≡ s.registrar.catalog
   pub told : (past : Whole) → Sound disks (point_at disk s) past → (from ≤ to)
@@ -142,7 +125,7 @@ AreSelected number below w = (a : SampleQuestion) (from to : ℕ)
 pub record HasCounted {D : Type 0} (disks : Disks D) (number : ℕ) (disk : D) (s : Store) (from : ℕ) (disk' : D)
     (t : Store) (text : List ℕ) : Type 0 where
   pub to : ℕ
-  pub between : IsBetweenRuns disks.images disk' t to
+  pub between : IsBetweenBlocks disks.images disk' t to
   pub goes : GoesLater disks disk s disk' t
   pub told : (past : Whole) → Sound disks (point_at disk s) past → (from ≤ to)
       × WillHold past (view t.pass) (λ w. EachEntry IsVoid (log_part from to w.log)
@@ -159,7 +142,7 @@ pub record IsSummary (number : ℕ) (text : List ℕ) : Type 0 where
 pub record HasFilled {D : Type 0} (disks : Disks D) (number : ℕ) (disk : D) (s : Store) (disk' : D) (t : Store)
     (text : List ℕ) : Type 0 where
   pub to : ℕ
-  pub between : IsBetweenRuns disks.images disk' t to
+  pub between : IsBetweenBlocks disks.images disk' t to
   pub goes : GoesLater disks disk s disk' t
   pub told : (past : Whole) → Sound disks (point_at disk s) past
       → WillHold past (view t.pass) (λ w. length w.log ≡ to → IsSampleLog number w.log × IsSummary number text)

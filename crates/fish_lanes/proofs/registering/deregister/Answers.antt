@@ -17,9 +17,12 @@ use Rattle.fish_lanes.proofs.registering.deregister.Goals as goal
 pub returns-in_err-told-clause-on : goal.returns-in_err-told-clause-on
 returns-in_err-told-clause-on c = controls_self c.args.log.now c.args.pass.now c.args.registrar.now c.requires.can
 
-pub read_definitions-requires-clause-defs : goal.read_definitions-requires-clause-defs
-read_definitions-requires-clause-defs c = defs_later (view c.args.pass.now) (view c.end.new.pass) c.args.defs.now.known
-    (learns_changes (view c.args.pass.now) (view c.end.new.pass) c.end.ensures.changes) c.requires.defs
+pub read_definitions-requires-clause-has : goal.read_definitions-requires-clause-has
+read_definitions-requires-clause-has c = record {
+  of = c.end.ensures.pass;
+  read = defs_later (view c.args.pass.now) (view c.end.new.pass) c.args.defs.now.known
+      (learns_changes (view c.args.pass.now) (view c.end.new.pass) c.end.ensures.changes) c.requires.defs;
+}
 
 -- the definition ended, and its last version is read
 read_on : (c : After-read_definitions) → Controls c.args.log.now c.args.pass.now c.args.registrar.now c.read_definitions.new.pass
@@ -32,14 +35,14 @@ read_on c =
     controls_reads log p c.end.new.pass c.read_definitions.new.pass r s
     (changed log p c.end.new.pass r s c.requires.can c.end.ensures.pass c.end.ensures.knows c.end.ensures.changes
     (rows_ended (view p) r s c.args.name.now c.in-Ok.id c.in-Ok.to c.in-Ok.ensures.named c.in-Ok.ensures.rows))
-    c.read_definitions.ensures.pass c.read_definitions.ensures.only
+    c.read_definitions.ensures.has.of c.read_definitions.ensures.only
 
 pub returns-in_err-read_definitions-in-Ok-clause-on : goal.returns-in_err-read_definitions-in-Ok-clause-on
 returns-in_err-read_definitions-in-Ok-clause-on c =
     controls_reads c.args.log.now c.args.pass.now c.end.new.pass c.read_definitions.new.pass c.args.registrar.now c.end.new.self
     (changed c.args.log.now c.args.pass.now c.end.new.pass c.args.registrar.now c.end.new.self c.requires.can c.end.ensures.pass
     c.end.ensures.knows c.end.ensures.changes (rows_ended (view c.args.pass.now) c.args.registrar.now c.end.new.self c.args.name.now
-    c.in-Ok.id c.in-Ok.to c.in-Ok.ensures.named c.in-Ok.ensures.rows)) c.read_definitions.ensures.pass c.read_definitions.ensures.only
+    c.in-Ok.id c.in-Ok.to c.in-Ok.ensures.named c.in-Ok.ensures.rows)) c.read_definitions.ensures.has.of c.read_definitions.ensures.only
 
 pub returns-in_ok-read_definitions-in-Ok-clause-on : goal.returns-in_ok-read_definitions-in-Ok-clause-on
 returns-in_ok-read_definitions-in-Ok-clause-on c = read_on c.before.before.before

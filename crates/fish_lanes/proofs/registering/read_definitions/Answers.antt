@@ -15,18 +15,21 @@ refresh-requires-clause-defs c =
     let m = view c.load_version-version.new.pass in
     let stays : OnlyLoads v m = stays_version v m c.load_version-version.result c.requires.outside
     (c.load_version-version.ensures.control c.requires.control) c.load_version-version.ensures.view in
-    defs_later v m c.args.defs.now.known (learns_changes v m (changes_stays v m stays)) c.requires.defs
+    defs_later v m c.args.defs.now.known (learns_changes v m (changes_stays v m stays)) c.requires.has.read
 
-pub returns-clause-defs : goal.returns-clause-defs
-returns-clause-defs c =
+pub returns-clause-has : goal.returns-clause-has
+returns-clause-has c =
     let v = view c.args.pass.now in
     let m = view c.load_version-version.new.pass in
     let t = view c.refresh.new.pass in
     let stays : OnlyLoads v m = stays_version v m c.load_version-version.result c.requires.outside
     (c.load_version-version.ensures.control c.requires.control) c.load_version-version.ensures.view in
-    known_read t c.refresh.result c.args.defs.now c.refresh.new.self c.refresh.ensures.read c.refresh.ensures.refused
-    (defs_later v t c.args.defs.now.known (learns_both v m t (learns_changes v m (changes_stays v m stays))
-    c.refresh.ensures.reads.extends.learns) c.requires.defs)
+    record {
+      of = c.refresh.ensures.pass;
+      read = known_read t c.refresh.result c.args.defs.now c.refresh.new.self c.refresh.ensures.read c.refresh.ensures.refused
+          (defs_later v t c.args.defs.now.known (learns_both v m t (learns_changes v m (changes_stays v m stays))
+          c.refresh.ensures.reads.extends.learns) c.requires.has.read);
+    }
 
 pub returns-clause-only : goal.returns-clause-only
 returns-clause-only c =

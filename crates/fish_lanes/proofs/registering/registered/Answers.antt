@@ -17,7 +17,7 @@ look_on c =
     let r = c.args.registrar.now in
     let read : Controls log c.args.pass.now r c.read_definitions.new.pass r =
     controls_reads log c.args.pass.now c.args.pass.now c.read_definitions.new.pass r r
-    (controls_self log c.args.pass.now r c.requires.can) c.read_definitions.ensures.pass c.read_definitions.ensures.only in
+    (controls_self log c.args.pass.now r c.requires.can) c.read_definitions.ensures.has.of c.read_definitions.ensures.only in
     controls_both log c.args.pass.now c.read_definitions.new.pass c.poll.new.pass r r c.poll.new.self read
     (looks log c.read_definitions.new.pass c.poll.new.pass r c.poll.new.self read.can c.poll.ensures.pass c.poll.ensures.knows
     c.poll.ensures.changes c.poll.result c.poll.ensures.tells).on
@@ -25,7 +25,7 @@ look_on c =
 pub returns-in_err-read_definitions-clause-on : goal.returns-in_err-read_definitions-clause-on
 returns-in_err-read_definitions-clause-on c =
     controls_reads c.args.log.now c.args.pass.now c.args.pass.now c.read_definitions.new.pass c.args.registrar.now c.args.registrar.now
-    (controls_self c.args.log.now c.args.pass.now c.args.registrar.now c.requires.can) c.read_definitions.ensures.pass
+    (controls_self c.args.log.now c.args.pass.now c.args.registrar.now c.requires.can) c.read_definitions.ensures.has.of
     c.read_definitions.ensures.only
 
 pub poll-requires-clause-knows : goal.poll-requires-clause-knows
@@ -41,7 +41,7 @@ pub returns-in-NotYet-clause-defs : goal.returns-in-NotYet-clause-defs
 returns-in-NotYet-clause-defs c = defs_later (view c.read_definitions.new.pass) (view c.poll.new.pass)
     c.read_definitions.new.defs.known
     (learns_changes (view c.read_definitions.new.pass) (view c.poll.new.pass) c.poll.ensures.changes)
-    c.read_definitions.ensures.defs
+    c.read_definitions.ensures.has.read
 
 pub returns-in-Bound-clause-on : goal.returns-in-Bound-clause-on
 returns-in-Bound-clause-on c = look_on c.before
@@ -50,7 +50,7 @@ pub returns-in-Bound-clause-defs : goal.returns-in-Bound-clause-defs
 returns-in-Bound-clause-defs c = defs_later (view c.read_definitions.new.pass) (view c.poll.new.pass)
     c.read_definitions.new.defs.known
     (learns_changes (view c.read_definitions.new.pass) (view c.poll.new.pass) c.poll.ensures.changes)
-    c.read_definitions.ensures.defs
+    c.read_definitions.ensures.has.read
 
 pub returns-in-NotYet-clause-tells : goal.returns-in-NotYet-clause-tells
 returns-in-NotYet-clause-tells c =
@@ -65,7 +65,7 @@ returns-in-NotYet-clause-tells c =
       tail = λ alone. tt;
       rolls = loaded_within v.clock m.clock t.clock t.clock _ _ only.clock tells.4 (later_self t.clock);
       begun = says_rolling (view c.args.pass.now) (view c.read_definitions.new.pass) c.args.registrar.now can.of.stands can.start can.knows
-          c.read_definitions.ensures.only c.read_definitions.ensures.pass.stands c.read_definitions.ensures.version
+          c.read_definitions.ensures.only c.read_definitions.ensures.has.of.stands c.read_definitions.ensures.version
           c.in_ok-read_definitions.ensures.read (view c.poll.new.pass) c.poll.new.self c.poll.ensures.pass.stands c.poll.ensures.knows
           c.poll.ensures.changes c.args.name c.args.id c.args.def c.in-NotYet.seat c.in-NotYet.version c.requires.waits
           (tells.0, tells.1, tells.2, tells.3, tells.5);
@@ -83,7 +83,7 @@ returns-in-Bound-clause-tells c =
           (c.in-Bound.ensures.begins (scans_alone v m c.read_definitions.ensures.only alone));
       rolls = tt;
       begun = says_at_once (view c.args.pass.now) (view c.read_definitions.new.pass) c.args.registrar.now can.of.stands can.start can.knows
-          c.read_definitions.ensures.only c.read_definitions.ensures.pass.stands c.read_definitions.ensures.version
+          c.read_definitions.ensures.only c.read_definitions.ensures.has.of.stands c.read_definitions.ensures.version
           c.in_ok-read_definitions.ensures.read (view c.poll.new.pass) c.poll.new.self c.poll.ensures.pass.stands c.poll.ensures.knows
           c.poll.ensures.changes c.args.name c.args.id c.args.def c.in-Bound.id c.in-Bound.from c.requires.waits tells.0 tells.1
           tells.2 tells.4;

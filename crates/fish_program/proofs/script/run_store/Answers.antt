@@ -1,11 +1,12 @@
 -- A store that was opened is the one that the disk held, and what the script's run ensures is how the command ends.
-use Rattle.std.proofs.Common.{◌∙◌, subst, sym}
+use Rattle.std.proofs.Common.{◌∙◌, refl, subst, sym}
 use Rattle.fish_outside.proofs.CauseLemmas.{Rose_earlier}
 use Rattle.fish_program.specs.Outcome.{DidNothing, EndsScript}
 use Rattle.fish_program.specs.Stores.{IsUnopened}
 use Rattle.fish_program.specs.declared.fault.Fault.{Fault}
 use Rattle.fish_program.specs.declared.fault.Fault.TheVariants as fault
-use Rattle.fish_program.proofs.Fates.{gained_nil, ran_back, refused_end, run_end, went_as}
+use Rattle.fish_program.proofs.Fates.{fate_of, gained_nil, ran_back, refused_end, run_end, undamaged, went_as}
+use Rattle.fish_run.specs.declared.fault.RunFault.TheVariants as ran
 use Rattle.fish_program.proofs.Stores.{opens}
 use Rattle.fish_program.proofs.script.run_store.Goals as goal
 
@@ -31,25 +32,29 @@ returns-in-Ok-clause-ended g c =
     (laws.only_now mid) c.in-Ok.ensures.since c.open_store.ensures.calls c.run_script-ran.ensures.before in
     let went = went_as disk start mid end c.args.asked told script old new out o ran was
     c.ended.ensures.report c.ended.ensures.refused c.ended.ensures.remains c.run_script-ran.ensures.whole c.run_script-ran.ensures.stopped
-    c.run_script-ran.ensures.lost c.run_script-ran.ensures.damaged in
+    c.run_script-ran.ensures.lost (undamaged (disk.content end) _ _ ran.fault c.run_script-ran.ensures.cause) in
     subst (λ (f : Fault). EndsScript disk start end c.args.asked told script old new out f)
     (sym c.ended.ensures.fault)
     (run_end disk start mid end c.args.asked told script old new out o ran.fault went)
 
 pub returns-in-Ok-clause-input : goal.returns-in-Ok-clause-input
 returns-in-Ok-clause-input g c is =
-    c.run_script-ran.ensures.input (ran_back c.run_script-ran.result.fault fault.Input (sym c.ended.ensures.fault ∙ is))
+    (fate_of _ c.run_script-ran.result.fault ran.Input (ran_back c.run_script-ran.result.fault fault.Input (sym c.ended.ensures.fault ∙ is))
+    c.run_script-ran.ensures.cause).caused.input refl
 
 pub returns-in-Ok-clause-output : goal.returns-in-Ok-clause-output
 returns-in-Ok-clause-output g c is =
-    c.run_script-ran.ensures.output (ran_back c.run_script-ran.result.fault fault.Output (sym c.ended.ensures.fault ∙ is))
+    (fate_of _ c.run_script-ran.result.fault ran.Output
+    (ran_back c.run_script-ran.result.fault fault.Output (sym c.ended.ensures.fault ∙ is))
+    c.run_script-ran.ensures.cause).caused.output refl
 
 -- the opening let the count of faults be, or raised it
 pub returns-in-Ok-clause-disk : goal.returns-in-Ok-clause-disk
 returns-in-Ok-clause-disk g c is =
     let faults = g.D.Disk.faults in
     Rose_earlier (faults c.args.disk.now) (faults c.open_store.new.disk) (faults c.run_script-ran.new.disk) c.open_store.ensures.cause.later
-    (c.run_script-ran.ensures.disk (ran_back c.run_script-ran.result.fault fault.Disk (sym c.ended.ensures.fault ∙ is)))
+    ((fate_of _ c.run_script-ran.result.fault ran.Disk (ran_back c.run_script-ran.result.fault fault.Disk (sym c.ended.ensures.fault ∙ is))
+    c.run_script-ran.ensures.cause).caused.disk refl)
 
 pub returns-in-Err-clause-ended : goal.returns-in-Err-clause-ended
 returns-in-Err-clause-ended g c =

@@ -11,7 +11,7 @@ use Rattle.fish_run.proofs.lasting.commit.Goals as goal
 
 pub checkpoint-requires-clause-rows : goal.checkpoint-requires-clause-rows
 checkpoint-requires-clause-rows g c =
-    holds_rows (view c.args.store.now.pass) c.args.store.now.registrar c.requires.go.1.can.knows
+    holds_rows (view c.args.store.now.pass) c.args.store.now.registrar c.requires.go.1.between.can.knows
 
 pub returns-in_err-checkpoint-clause-commits : goal.returns-in_err-checkpoint-clause-commits
 returns-in_err-checkpoint-clause-commits g c =
@@ -24,7 +24,7 @@ returns-in_err-checkpoint-clause-commits g c =
       registrar = refl;
       close = record {
         of = e.pass;
-        alone = (end_reads v u c.requires.go.0 e.reads e.pass.stands c.requires.go.1.end).alone;
+        alone = (end_reads v u c.requires.go.0 e.reads e.pass.stands c.requires.go.1.between.end).alone;
         table = c.requires.go.1.table;
       };
       later = later_reads v u e.reads;
@@ -48,7 +48,7 @@ returns-clause-commits g c =
       registrar = refl;
       close = record {
         of = e.pass;
-        alone = (end_reads v u c.requires.go.0 e.reads e.pass.stands c.requires.go.1.end).alone;
+        alone = (end_reads v u c.requires.go.0 e.reads e.pass.stands c.requires.go.1.between.end).alone;
         table = c.requires.go.1.table;
       };
       later = later_reads v u e.reads;
@@ -67,7 +67,7 @@ returns-clause-all g c =
     record {
       end = subst (EndsAlone u) (sym kept.count)
           (end_settled (view c.args.store.now.pass) u c.in_ok-checkpoint.field-0 c.requires.go.0 c.checkpoint.ensures.reads
-          c.checkpoint.ensures.pass.stands c.requires.go.1.end c.in_ok-checkpoint.ensures.settled);
+          c.checkpoint.ensures.pass.stands c.requires.go.1.between.end c.in_ok-checkpoint.ensures.settled);
       line = kept.line;
       catalog = kept.definitions;
     }

@@ -19,7 +19,8 @@ pub roll-requires : goal.roll-requires
 roll-requires g c =
     let e = c.commit.ensures.commits in
     record {
-      may = may_roll g.D.Disk.images c.commit.new.disk c.args.store c.commit.new.store c.args.from c.requires.go.can e.log e.registrar
+      may = may_roll g.D.Disk.images c.commit.new.disk c.args.store c.commit.new.store c.args.from c.requires.go.between.can e.log
+          e.registrar
           e.close e.reads c.in-Ok.ensures.again c.in-Ok.ensures.all.end;
     }
 
@@ -35,7 +36,7 @@ returns-in-Ok-roll-clause-rolled g c =
     let at = point_at c.commit.new.disk m in
     let q = point_at c.commit.new.disk t in
     let same = one_end (view m.pass) m.file.flusher.count c.args.from e.close.of.stands c.in-Ok.ensures.all.end
-    (e.end c.args.from c.requires.go.end) in
+    (e.end c.args.from c.requires.go.between.end) in
     record {
       runs = runs_both disk p at q (λ w. Unit {0}) (λ w. Unit {0}) (λ w. Unit {0})
           (λ w a b. tt)
@@ -46,7 +47,7 @@ returns-in-Ok-roll-clause-rolled g c =
           rolled_registry disk c.commit.new.disk m t h c.args.from same
           (ap (λ r. r.waiting) e.registrar ∙ c.requires.go.settled)
           ∙ ap (λ (z : Registry). begun_anew true c.args.from z)
-          (registry_reads s m e.registrar c.requires.go.can.of.stands e.close.of.stands c.requires.go.end.alone e.reads);
+          (registry_reads s m e.registrar c.requires.go.between.can.of.stands e.close.of.stands c.requires.go.between.end.alone e.reads);
       number = h.number ∙ same;
       rows = subst (λ (z : Result (Unit {0}) RunFault).
           LeavesRows disk c.args.disk.now c.commit.new.disk (by_checkpoint z s.registrar.catalog) (s.registrar.catalog ∷ []))
@@ -73,7 +74,7 @@ returns-in-Err-roll-clause-stopped g c =
           (subst (λ (z : Result (Unit {0}) RunFault).
           LeavesRows disk c.args.disk.now c.commit.new.disk (by_checkpoint z s.registrar.catalog) (s.registrar.catalog ∷ []))
           c.in-Ok.is e.rows);
-      end = e.end c.args.from c.requires.go.end;
+      end = e.end c.args.from c.requires.go.between.end;
       learns = e.later.learns;
       shut = ap (λ (z : View). z.shut) e.reads.frame;
       shape = ap (λ (l : Log). l.shape) e.log;
@@ -97,7 +98,7 @@ returns-in-Err-clause-stopped g c =
       rows = subst (λ (z : Result (Unit {0}) RunFault).
           LeavesRows disk c.args.disk.now c.commit.new.disk (by_checkpoint z s.registrar.catalog) (s.registrar.catalog ∷ []))
           c.in-Err.is e.rows;
-      end = e.end c.args.from c.requires.go.end;
+      end = e.end c.args.from c.requires.go.between.end;
       learns = e.later.learns;
       shut = ap (λ (z : View). z.shut) e.reads.frame;
       shape = ap (λ (l : Log). l.shape) e.log;

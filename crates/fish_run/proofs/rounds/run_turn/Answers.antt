@@ -104,10 +104,10 @@ returns-in-Ok-step_all-clause-on g c =
     let h : HasStepped fresh a.start.fresh a.start.bound a.said.now c.step_all.new.said b.new.lanes c.step_all.new.lanes
     = c.in-Ok-step_all.ensures in
     let rises = b.ensures.store.ends.above in
-    let about = (e.go whole).can.of.about in
+    let about = (e.go whole).between.can.of.about in
     let least : b.new.store.log.key.number ≤ b.result.to = subst (λ (k : Key). k.number ≤ b.result.to) about rises in
     let before : b.new.store.log.key.number ≡ (view a.start.store.pass).about.number =
-    ap (λ (l : Log). l.key.number) e.store.log ∙ ap (λ (k : Key). k.number) (sym c.requires.go.can.of.about) in
+    ap (λ (l : Log). l.key.number) e.store.log ∙ ap (λ (k : Key). k.number) (sym c.requires.go.between.can.of.about) in
     let asked : (line lines end : ℕ) → IsFullIn b.new.lanes line lines end
     → (fresh ≡ true) ⊎ ((b.result.to ≡ (view a.start.store.pass).about.number) × IsNearLimits b.result.to end)
     = λ line lines end full.

@@ -14,10 +14,11 @@ use Rattle.fish_run.proofs.Works.{still_both, still_self}
 use Rattle.fish_run.specs.Blocks.{Round, first_registry}
 use Rattle.fish_run.specs.Faults.{IsRunUndamaged, write_fault}
 use Rattle.fish_run.specs.Reports.{first_item}
-use Rattle.fish_run.specs.within.Running.{StopsRun, counts_of}
+use Rattle.fish_run.specs.Faults.{counts_of}
+use Rattle.fish_run.specs.within.Running.{StopsRun}
 use Rattle.fish_run.specs.within.Runs.{CanGoOn}
 use Rattle.fish_run.specs.within.Steps.{WritesBlocks}
-use Rattle.fish_run.specs.within.Counting.{FaultCounts, IsCausedBy}
+use Rattle.fish_run.specs.Faults.{FaultCounts, IsCausedBy}
 use Rattle.fish_run.specs.declared.fault.RunFault.{RunFault}
 use Rattle.fish_run.specs.declared.lasting.Stopped.{Stopped}
 use Rattle.fish_script.specs.declared.script.Block.{Block}
@@ -29,19 +30,19 @@ loop-block-init g c =
     let disk = g.D.Disk in
     let s = c.args.store in
     let p = point_at c.args.disk.now s in
-    let new = c.requires.new in
+    let new = c.requires.new.new in
     let told = g.H.Host.files c.args.host.now in
     let begin = first_item c.args.made c.args.count in
     let first = first_registry s.registrar.catalog in
     let old = g.W.Sink.written c.args.out.now in
     let now = g.W.Sink.written c.write_opened.new.out in
     record {
-      go = subst (CanGoOn disk.images c.args.disk.now s) (sym c.requires.count) new.go;
+      go = subst (CanGoOn disk.images c.args.disk.now s) (sym c.requires.new.count_is) new.go;
       writes = subst (λ (z : Registry). WritesBlocks disk p p c.args.count first begin told []
           c.args.count z old now c.args.refused.now) (sym (new_registry disk.images c.args.disk.now s new))
           (writes_first disk c.args.count first begin p told old now c.args.refused.now
           (rounds_self disk p c.args.count first) c.in-Ok.ensures.written
-          c.requires.accepted);
+          c.requires.new.accepted);
       told = still_self told;
       later = (omega arith, (c.write_opened.ensures.cause.later, omega arith));
     }
@@ -99,7 +100,7 @@ pub returns-in-Err-clause-some : goal.returns-in-Err-clause-some
 returns-in-Err-clause-some g c =
     let disk = g.D.Disk in
     let s = c.args.store in
-    let new = c.requires.new in
+    let new = c.requires.new.new in
     let p = point_at c.args.disk.now s in
     let first = first_registry s.registrar.catalog in
     let from = c.args.count in
@@ -114,8 +115,8 @@ returns-in-Err-clause-some g c =
     (subst IsRunUndamaged (sym why) (write_well refusal))
     (first_of disk p p from from first first []
     (rounds_self disk p from first)
-    (subst (EndsAlone (view s.pass)) (sym c.requires.count) new.go.end))) (refusal, why)
-    c.in-Err.ensures.part c.requires.accepted
+    (subst (EndsAlone (view s.pass)) (sym c.requires.new.count_is) new.go.between.end))) (refusal, why)
+    c.in-Err.ensures.part c.requires.new.accepted
 
 pub returns-in-Err-clause-cause : goal.returns-in-Err-clause-cause
 returns-in-Err-clause-cause g c =
@@ -185,8 +186,8 @@ returns-clause-all g c =
       go = λ is. inv.go;
       runs = runs_all disk c.args.count first (first_item c.args.made c.args.count) p q
           (g.H.Host.files c.loop-block.host) c.args.script.now c.loop-block.block-index b.count t (g.W.Sink.written c.args.out.now)
-          (g.W.Sink.written c.loop-block.out) c.loop-block.refused (omega arith) inv.go.end refl inv.writes
+          (g.W.Sink.written c.loop-block.out) c.loop-block.refused (omega arith) inv.go.between.end refl inv.writes
           (λ (rounds : List Round) h. first_of disk p q c.args.count b.count first t rounds h
-          inv.go.end);
+          inv.go.between.end);
       committed = λ is. absurd cc;
     }

@@ -5,10 +5,10 @@ use Rattle.fish_outside.specs.Content.{SameFiles}
 use Rattle.fish_rule.specs.Passes.{view}
 use Rattle.fish_run.specs.Blocks.{first_registry}
 use Rattle.fish_run.specs.Reports.{first_item}
-use Rattle.fish_run.specs.within.Running.{counts_of}
+use Rattle.fish_run.specs.Faults.{counts_of}
 use Rattle.fish_run.specs.within.Runs.{CanGoOn}
 use Rattle.fish_run.specs.within.Steps.{WritesBlocks}
-use Rattle.fish_run.specs.within.Counting.{AreLater}
+use Rattle.fish_run.specs.within.Faults.{AreLater}
 use Rattle.fish_store.specs.Points.{point_at}
 use Rattle.fish_run.proofs.running.run_blocks.Given as goal
 

@@ -15,8 +15,9 @@ use Rattle.fish_run.specs.Reports.{said_items, said_refused}
 use Rattle.fish_run.specs.Rounds.{AreRounds}
 use Rattle.fish_run.specs.within.Faults.{CausesStop}
 use Rattle.fish_run.specs.within.Parts.{AreTexts}
-use Rattle.fish_run.specs.within.Running.{StopsOne, counts_of}
-use Rattle.fish_run.specs.within.Counting.{FaultCounts, IsCausedBy}
+use Rattle.fish_run.specs.Faults.{counts_of}
+use Rattle.fish_run.specs.within.Running.{StopsOne}
+use Rattle.fish_run.specs.Faults.{FaultCounts, IsCausedBy}
 use Rattle.fish_run.specs.declared.fault.RunFault.{RunFault}
 use Rattle.fish_run.specs.declared.lasting.Stopped.{Stopped}
 use Rattle.fish_run.specs.declared.saying.Said.{Said}

@@ -4,7 +4,10 @@ use Rattle.fish_rule.specs.ClosedLog.{IsClosed}
 use Rattle.fish_rule.specs.Passes.{view}
 use Rattle.fish_rule.specs.declared.close.Remains.{Remains}
 use Rattle.fish_run.proofs.Closing.{OpenedAs, ends_late, ends_stopped, ends_whole, lost_all, lost_some, opened_as, well_some}
-use Rattle.fish_run.proofs.Shown.{shown_is, shown_some, well_closed, well_ended}
+use Rattle.fish_run.proofs.Caused.{caused_end}
+use Rattle.fish_run.proofs.Shown.{shown_is, shown_some}
+use Rattle.fish_run.specs.Faults.{FaultCounts, HasRunCause, IsRunUndamaged, counts_of}
+use Rattle.fish_rule.specs.declared.table.Log.{Log}
 use Rattle.fish_run.specs.Ran.{IsRunLost, IsRunStopped, IsRunWhole}
 use Rattle.fish_run.specs.declared.fault.RunFault.TheVariants as fault
 use Rattle.fish_run.specs.within.Running.{Finishes}
@@ -15,8 +18,7 @@ use Rattle.fish_run.proofs.running.run_script.Goals as goal
 -- the store is the one that was opened
 begun : (g : Over) (c : After-run_store g) → OpenedAs g.D.Disk c.args.disk.now c.args.opened c.of_opened-store.result
 begun g c =
-    let e = c.of_opened-store.ensures in
-    opened_as g.D.Disk c.args.disk.now c.args.opened c.of_opened-store.result c.requires.opened e.log e.pass e.first e.rows e.flusher e.cold
+    opened_as g.D.Disk c.args.disk.now c.args.opened c.of_opened-store.result c.requires.opened c.of_opened-store.ensures
 
 -- what the disk tells is an image
 as_read : (g : Over) (d : g.row.D.Denot) (i : List ℕ) → g.D.Disk.content d ≡ Some i → g.D.Disk.images d i
@@ -24,9 +26,14 @@ as_read g = (g.met.D.Disk g.world.𝓛 g.world.𝓜 g.world.𝓡 ((λ s x. x), (
 
 pub run_store-requires-clause-new : goal.run_store-requires-clause-new
 run_store-requires-clause-new g c κs within =
+    let s = c.of_opened-store.result in
     let e = c.of_opened-store.ensures in
-    (opened_as g.D.Disk c.args.disk.now c.args.opened c.of_opened-store.result c.requires.opened e.log e.pass e.first e.rows e.flusher
-    e.cold).store
+    let h = c.requires.opened.2 in
+    record {
+      new = (opened_as g.D.Disk c.args.disk.now c.args.opened s c.requires.opened e).store;
+      count_is = h.count ∙ sym h.number ∙ ap (λ (z : Log). z.key.number) (sym e.log);
+      accepted = refl;
+    }
 
 -- ---- all blocks ran
 
@@ -81,9 +88,13 @@ returns-in-Ok-clause-lost g c none =
           (g.W.Sink.written c.run_store.new.out) l.store c.run_store.new.refused l.count c.in-Ok.ensures.all.runs)),
     )
 
-pub returns-in-Ok-clause-damaged : goal.returns-in-Ok-clause-damaged
-returns-in-Ok-clause-damaged g c told =
-    well_ended c.in-Ok.field-0.count c.close.result.fault c.close.ensures.damaged
+pub returns-in-Ok-clause-cause : goal.returns-in-Ok-clause-cause
+returns-in-Ok-clause-cause g c =
+    let before : FaultCounts = counts_of g.H.Host.faults g.W.Sink.faults g.D.Disk.faults c.args.host.now c.args.out.now c.args.disk.now in
+    let mid : FaultCounts = counts_of g.H.Host.faults g.W.Sink.faults g.D.Disk.faults c.run_store.new.host c.run_store.new.out
+    c.run_store.new.disk in
+    caused_end (g.D.Disk.content c.run_store.new.disk) before mid (g.W.Sink.faults c.close.new.out) (Ok c.in-Ok.field-0.count)
+    c.close.result.fault c.run_store.ensures.later c.close.ensures.later tt c.close.ensures.inner c.close.ensures.output
 
 -- ---- a fault stopped them
 
@@ -130,17 +141,31 @@ returns-in-Some-clause-lost g c none =
           (g.W.Sink.written c.run_store.new.out) c.run_store.new.refused c.in-Err.field-0 c.in-Err.ensures.some)),
     )
 
-pub returns-in-Some-clause-damaged : goal.returns-in-Some-clause-damaged
-returns-in-Some-clause-damaged g c content =
+pub returns-in-Some-clause-cause : goal.returns-in-Some-clause-cause
+returns-in-Some-clause-cause g c =
+    let before : FaultCounts = counts_of g.H.Host.faults g.W.Sink.faults g.D.Disk.faults c.args.host.now c.args.out.now c.args.disk.now in
+    let mid : FaultCounts = counts_of g.H.Host.faults g.W.Sink.faults g.D.Disk.faults c.run_store.new.host c.run_store.new.out
+    c.run_store.new.disk in
     let op = c.requires.opened in
     let stop = c.in-Err.field-0 in
-    well_closed stop.why c.close-in-Some.result.fault
-    (well_some g.D.Disk
-    (as_read g) c.args.disk.now c.args.opened c.of_opened-store.result (begun g c.before.before.before.before) c.run_store.new.disk
-    (g.H.Host.files c.run_store.new.host) c.args.script.now (g.W.Sink.written c.args.out.now) (g.W.Sink.written c.run_store.new.out)
-    (g.W.Sink.written c.run_store.new.out) op.0 op.1 op.2 stop c.in-Err.ensures.some content) c.close-in-Some.ensures.damaged
+    let k = c.close-in-Some in
+    let was : HasRunCause (g.D.Disk.content c.run_store.new.disk) before mid stop.why = record {
+      caused = c.in-Err.ensures.cause;
+      whole = well_some g.D.Disk
+          (as_read g) c.args.disk.now c.args.opened c.of_opened-store.result (begun g c.before.before.before.before) c.run_store.new.disk
+          (g.H.Host.files c.run_store.new.host) c.args.script.now (g.W.Sink.written c.args.out.now) (g.W.Sink.written c.run_store.new.out)
+          (g.W.Sink.written c.run_store.new.out) op.0 op.1 op.2 stop c.in-Err.ensures.some;
+    } in
+    caused_end (g.D.Disk.content c.run_store.new.disk) before mid (g.W.Sink.faults k.new.out) (Err stop.why) k.result.fault
+    c.run_store.ensures.later k.ensures.later was k.ensures.inner k.ensures.output
 
 -- ---- and there is no store
+
+pub returns-in-None-clause-cause : goal.returns-in-None-clause-cause
+returns-in-None-clause-cause g c = record {
+  caused = c.in-Err.ensures.cause;
+  whole = λ told. subst IsRunUndamaged (sym (c.in-Err.ensures.some.stops.lost c.in-None.is)) tt;
+}
 
 pub returns-in-None-clause-lost : goal.returns-in-None-clause-lost
 returns-in-None-clause-lost g c none =

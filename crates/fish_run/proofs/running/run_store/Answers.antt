@@ -9,8 +9,8 @@ use Rattle.fish_run.proofs.Faults.{commit_no_output, commit_other, commit_well}
 use Rattle.fish_run.proofs.One.{runs_on, stops_with}
 use Rattle.fish_run.specs.Blocks.{first_registry, rounds_of}
 use Rattle.fish_run.specs.Reports.{first_item}
-use Rattle.fish_run.specs.within.Running.{counts_of}
-use Rattle.fish_run.specs.within.Counting.{FaultCounts}
+use Rattle.fish_run.specs.Faults.{counts_of}
+use Rattle.fish_run.specs.Faults.{FaultCounts}
 use Rattle.fish_run.specs.declared.fault.RunFault.{RunFault}
 use Rattle.fish_run.specs.declared.lasting.Stopped.{Stopped}
 use Rattle.fish_store.specs.CommitRows.{LeavesRows, by_checkpoint}
@@ -42,7 +42,7 @@ returns-in-Err-clause-some g c =
     let all = all_later disk c.args.count first begin p m q told c.args.script.now old new
     c.run_blocks.new.refused l.count h.runs
     (runs_on disk m q c.commit.ensures.commits.goes c.commit.ensures.commits.later)
-    c.commit.ensures.commits.goes.learns (c.commit.ensures.commits.end l.count (h.go (λ is. absurd cc)).end)
+    c.commit.ensures.commits.goes.learns (c.commit.ensures.commits.end l.count (h.go (λ is. absurd cc)).between.end)
     (ap (λ (z : Log). z.shape) c.commit.ensures.commits.log) (ap (λ (z : Registrar). z.catalog) c.commit.ensures.commits.registrar)
     (subst (λ (z : Result (Unit {0}) RunFault). LeavesRows disk m.disk q.disk (by_checkpoint z m.rows) (m.rows ∷ [])) c.in-Err.is
     c.commit.ensures.commits.rows) in
@@ -81,7 +81,7 @@ returns-in-Ok-clause-all g c =
           (first_item c.args.made c.args.count) p m q (g.H.Host.files c.run_blocks.new.host) c.args.script.now
           (g.W.Sink.written c.args.out.now) (g.W.Sink.written c.run_blocks.new.out) c.run_blocks.new.refused l.count h.runs
           (runs_on disk m q c.commit.ensures.commits.goes c.commit.ensures.commits.later)
-          c.commit.ensures.commits.goes.learns (c.commit.ensures.commits.end l.count (h.go (λ is. absurd cc)).end)
+          c.commit.ensures.commits.goes.learns (c.commit.ensures.commits.end l.count (h.go (λ is. absurd cc)).between.end)
           (ap (λ (z : Log). z.shape) c.commit.ensures.commits.log) (ap (λ (z : Registrar). z.catalog) c.commit.ensures.commits.registrar)
           (rows_or disk m.disk q.disk m.rows (subst (λ (z : Result (Unit {0}) RunFault).
           LeavesRows disk m.disk q.disk (by_checkpoint z m.rows) (m.rows ∷ [])) c.in-Ok.is c.commit.ensures.commits.rows));

@@ -33,12 +33,11 @@ returns-in_ok-opened-in-Ok g c =
     let disk = g.D.Disk in
     let old = c.args.self in
     let o = c.in_ok-opened-in-Ok.opened in
-    let new = c.of_opened.ensures in
     record {
       rolled = has_rolled disk c.args.disk.now old c.requires.may c.in-Ok.version
           c.in-Ok.ensures o
           (subst (λ (s : Shape). BeginsAt old.file.flusher s old.registrar.catalog c.in-Ok.version false o) c.shape-shape.ensures
           (subst (λ (rows : List CatRow). BeginsAt old.file.flusher c.shape-shape.result rows c.in-Ok.version false o)
           c.into_catalog-rows.ensures c.in_ok-opened-in-Ok.ensures))
-          (g.met.D.Disk.as_read c.args.disk.now) c.of_opened.result new.log new.pass new.first new.rows new.flusher new.cold;
+          (g.met.D.Disk.as_read c.args.disk.now) c.of_opened.result c.of_opened.ensures;
     }
