@@ -11,7 +11,6 @@ use Rattle.fish_outside.specs.Content.{Files}
 use Rattle.fish_scan.specs.declared.ask.Ask.{Ask}
 use Rattle.fish_scan.specs.declared.ask.How.{How}
 use Rattle.fish_scan.specs.declared.ask.How.TheVariants as how
-use Rattle.fish_script.specs.Laws.{Pairs}
 use Rattle.fish_script.specs.declared.script.By.{By}
 use Rattle.fish_script.specs.declared.script.By.TheVariants as by
 use Rattle.fish_script.specs.declared.script.Statement.{Statement}
